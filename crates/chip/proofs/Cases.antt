@@ -1,0 +1,60 @@
+-- Document 01's cases e and i of the definitions; WIP; and the records of power-up, which are inside the ranges.
+use mathlib.Core.Path.{_≡_, refl, ap, _∙_}
+use mathlib.Core.Bool.{Bool, true, false, _&&_}
+use Prim.Native.Nat.{ℕ, _+_, _*_, _%_, _<_, _≤_}
+use native.Mathlib.Omega.{arith}
+use lib.Dec.{leb, ltb, lit≤}
+use borrow.Author.Tests.{lt-ltb, le-ltb, le-leb}
+use Rattle.laws.specs.Pick.{pick, pick-case, and-both}
+use Rattle.chip.specs.Part.{Part, m95512}
+use Rattle.chip.specs.Status.{bit, on, statusByte}
+use Rattle.chip.specs.Records.{running, status, idle}
+use Rattle.chip.specs.Ranges.{flagsFit, cycleFits, inRanges}
+use Rattle.chip.specs.Time.{elapsed}
+use Rattle.chip.specs.Power.{delivered, poweredUp}
+use Rattle.chip.specs.declared.Core.{Core}
+use Rattle.chip.specs.declared.PoweredUp.{PoweredUp}
+use Rattle.chip.proofs.Within.{Within, quiet-within}
+
+-- e: SRWD, BP1, BP0 all 1, idle: 8Ch; with WEL 8Eh; in a cycle 8Fh
+pub record CaseE (c : Core) : Type 0 where
+  pub idle : c .wel ≡ 0 → c .left ≡ 0 → status c ≡ 0x8c
+  pub with-wel : c .wel ≡ 1 → c .left ≡ 0 → status c ≡ 0x8e
+  pub in-cycle : c .wel ≡ 1 → 0 < c .left → status c ≡ 0x8f
+
+pub case-e : (c : Core) → c .srwd ≡ 1 → c .bp1 ≡ 1 → c .bp0 ≡ 1 → CaseE c
+case-e c s b a =
+    record {
+      idle = λ w l. rw (s, b, a, w, l) refl;
+      with-wel = λ w l. rw (s, b, a, w, l) refl;
+      in-cycle = λ w h. rw (s, b, a, w, lt-ltb 0 (c .left) h) refl;
+    }
+
+-- i: old reading 4294967290, new 10: 16 elapsed
+pub case-i : elapsed 4294967290 10 ≡ 16
+case-i = refl
+
+-- WIP, the low bit of the status byte, is 1 exactly when time is left
+bit-small : (b : Bool) → bit b ≤ 1
+bit-small true = lit≤ tt
+bit-small false = lit≤ tt
+
+pub wip : (c : Core) → status c % 2 ≡ bit (running c)
+wip c = omega (arith, bit-small (running c))
+
+pub wip-one : (c : Core) → 0 < c .left → status c % 2 ≡ 1
+wip-one c h = wip c ∙ ap bit (lt-ltb 0 (c .left) h)
+
+pub wip-none : (c : Core) → c .left ≡ 0 → status c % 2 ≡ 0
+wip-none c h = wip c ∙ ap bit (le-ltb 0 (c .left) (omega arith))
+
+-- power-up hands back a record inside the ranges, refused or not
+idle-flags : (P : Part) (s b a : Bool) (n t : ℕ) → flagsFit (idle P s b a n t) ≡ true
+idle-flags P s b a n t =
+    rw (le-leb (bit s) 1 (bit-small s), le-leb (bit b) 1 (bit-small b), le-leb (bit a) 1 (bit-small a)) refl
+
+pub powered-within : (P : Part) (n : ℕ) (s b a : Bool) (t : ℕ) → 1 ≤ P .longest → Within P (poweredUp P n s b a t .core)
+powered-within P n s b a t h =
+    pick-case (λ (x : PoweredUp). Within P (x .core)) (cycleFits P n)
+    (λ e. quiet-within P _ (idle-flags P s b a n t) e refl refl)
+    (λ e. quiet-within P _ (idle-flags P false false false (P .longest) 0) (and-both _ _ (le-leb 1 (P .longest) h) (le-leb (P .longest) (P .longest) (omega arith))) refl refl)

@@ -1,0 +1,53 @@
+-- The numbers of document 01, of the answers as they are defined.
+use mathlib.Core.Path.{_≡_, ap, sym, _∙_}
+use mathlib.Core.List.{List}
+use mathlib.Core.Bool.{Bool}
+use Prim.Native.Nat.{ℕ}
+use lib.ListN.{length}
+use lib.Dec.{eqb, ltb}
+use Rattle.laws.specs.Pick.{pick, pick-ap, pick-cong, pick-same}
+use Rattle.chip.specs.Part.{Part}
+use Rattle.chip.specs.Refusals.{number}
+use Rattle.chip.specs.Ranges.{cycleFits, inRanges}
+use Rattle.chip.specs.Protect.{protects, protection, protectionNumber, protectionValue, questionNumber, questionValue}
+use Rattle.chip.specs.Power.{poweredUp, powerUpNumber}
+use Rattle.chip.specs.Time.{readingOutcome, readingNumber}
+use Rattle.chip.specs.declared.Core.{Core}
+use Rattle.chip.specs.declared.Outcome.{Outcome}
+use Rattle.chip.specs.declared.PoweredUp.{PoweredUp}
+use Rattle.chip.specs.declared.Protection.{Protection}
+use Rattle.chip.specs.declared.Protection.the-variants.{Open, Protected, Unanswered}
+use Rattle.chip.specs.declared.Refusal.the-variants.{RecordRange, AddressRange}
+use Rattle.chip.proofs.Bits.{pick-bit}
+
+module _ (P : Part) (n : ℕ) (s b a : Bool) (t : ℕ) where
+  -- an answer that is the right one has the right number
+  pub powered : {r : PoweredUp} → r ≡ poweredUp P n s b a t → (r ≡ poweredUp P n s b a t) × (number (r .outcome) ≡ powerUpNumber P n)
+  powered e = (e, ap (λ (x : PoweredUp). number (x .outcome)) e ∙ pick-ap (λ (x : PoweredUp). number (x .outcome)) (cycleFits P n) _ _)
+
+module _ (P : Part) (c : Core) (m : List ℕ) where
+  pub reading-number : {o : Outcome} → readingOutcome P c m ≡ o → number o ≡ readingNumber P c m
+  reading-number e =
+      ap number (sym e)
+      ∙ pick-ap number (eqb (length m) (P .size)) _ _
+      ∙ pick-cong (eqb (length m) (P .size)) 1 (λ q. pick-ap number (inRanges P c) _ _)
+
+module _ (P : Part) (c : Core) (a : ℕ) where
+  -- a function of the answer, taken through its two refusals
+  through : (f : Protection → ℕ) {n : ℕ} → (pick (protects P c a) (f Protected) (f Open) ≡ n)
+      → f (protection P c a) ≡ pick (inRanges P c) (pick (ltb a (P .size)) n (f (Unanswered AddressRange))) (f (Unanswered RecordRange))
+  through f e =
+      pick-ap f (inRanges P c) _ _
+      ∙ pick-cong (inRanges P c) (f (Unanswered RecordRange)) (λ q. pick-ap f (ltb a (P .size)) _ _
+      ∙ pick-cong (ltb a (P .size)) (f (Unanswered AddressRange)) (λ r. pick-ap f (protects P c a) _ _ ∙ e))
+
+  pub question-number : protectionNumber (protection P c a) ≡ questionNumber P c a
+  question-number = through protectionNumber (pick-same _ _)
+
+  pub question-value : protectionValue (protection P c a) ≡ questionValue P c a
+  question-value = through protectionValue (pick-bit (protects P c a))
+
+  -- an answer that is the right one has the right number and value
+  pub answered : {r : Protection} → r ≡ protection P c a
+      → (r ≡ protection P c a) × ((protectionNumber r ≡ questionNumber P c a) × (protectionValue r ≡ questionValue P c a))
+  answered e = (e, (ap protectionNumber e ∙ question-number, ap protectionValue e ∙ question-value))

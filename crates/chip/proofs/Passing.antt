@@ -1,0 +1,122 @@
+-- A clock reading: it keeps the ranges; what it does to WEL, to what waits and to each cell of the memory.
+use mathlib.Core.Path.{_≡_, refl, ap, sym, _∙_}
+use mathlib.Core.List.{List}
+use mathlib.Core.Bool.{Bool, true, false, _&&_, true≢false}
+use Prim.Native.Nat.{ℕ, suc, _+_, _-_, _*_, _/_, _%_, _^_, _<_, _≤_}
+use native.Mathlib.Nat.{mod-lt, mul-le-mul-right, div-mul-le-self, suc-mul}
+use native.Mathlib.Omega.{arith}
+use lib.ListN.{length, getD}
+use lib.Dec.{leb, ltb, eqb}
+use borrow.Author.Tests.{le-leb, lt-leb, le-ltb, lt-ltb, leb-true, leb-false, ltb-true, ltb-false}
+use Rattle.laws.specs.Pick.{pick, yes-so, no-so, at-yes, at-no, pick-case, pick-ap, pick-cong, pick-and, and-left, and-right, and-both, and-no-left}
+use Rattle.laws.specs.Table.{table-length}
+use Rattle.chip.specs.Part.{Part, pages}
+use Rattle.chip.specs.Status.{bitOf}
+use Rattle.chip.specs.Latches.{latchFits, inPage, marked, byteAt, laidAt, stored, storedAt}
+use Rattle.chip.specs.Records.{running, nothing, withStatus, withTime, withoutCycle, waitsStatus, waitsPage}
+use Rattle.chip.specs.Ranges.{flagsFit, inRanges, pageFits, valueFits, waitFits}
+use Rattle.chip.specs.Time.{elapsed, ends, ended, endedMemory, timed, timedMemory}
+use Rattle.chip.specs.Cells.{offset, awaited}
+use Rattle.chip.specs.declared.Core.{Core}
+use Rattle.chip.proofs.Stores.{stored-at, stored-length}
+use Rattle.chip.proofs.Within.{Within, within, in-ranges, quiet-within, runs-within}
+
+-- ---- the ranges are kept
+
+bit-fits : (k v : ℕ) → leb (bitOf k v) 1 ≡ true
+bit-fits k v =
+    let small : bitOf k v < 2 = mod-lt (v / 2 ^ k) (omega arith) in
+    le-leb (bitOf k v) 1 (omega arith)
+
+-- the status bits of a status value fit, and so does WEL at 0
+flags-status : (v : ℕ) (c : Core) → flagsFit c ≡ true → flagsFit (withStatus v c) ≡ true
+flags-status v c e =
+    rw (bit-fits 7 v, bit-fits 3 v, bit-fits 2 v) (and-right (leb (c .srwd) 1 && leb (c .bp1) 1 && leb (c .bp0) 1) (leb (c .wel) 1) e)
+
+flags-cleared : (P : Part) (c : Core) → flagsFit c ≡ true → flagsFit (withoutCycle P c) ≡ true
+flags-cleared P c e =
+    let s = leb (c .srwd) 1 && leb (c .bp1) 1 && leb (c .bp0) 1 in
+    and-both s true (and-left s (leb (c .wel) 1) e) refl
+
+module _ (P : Part) (t : ℕ) (c : Core) where
+  pub timed-within : Within P c → Within P (timed P t c)
+  unfolding timed
+  timed-within w =
+      pick-case (Within P) (ends t c)
+      (λ e. pick-case (λ x. Within P (withTime t 0 (withoutCycle P x))) (waitsStatus (c .waits))
+      (λ s. quiet-within P _ (flags-cleared P (withStatus (c .waits .status) c) (flags-status (c .waits .status) c (w .flags))) (w .cycle) refl refl)
+      (λ s. quiet-within P _ (flags-cleared P c (w .flags)) (w .cycle) refl refl))
+      (λ e. runs-within P c t (c .left - elapsed (c .last) t) (omega arith) (λ h. left-over h e) w)
+    where
+      left-over : 0 < c .left → ends t c ≡ false → 0 < c .left - elapsed (c .last) t
+      left-over h e = go (leb (c .left) (elapsed (c .last) t)) refl
+        where
+          go : (b : Bool) → leb (c .left) (elapsed (c .last) t) ≡ b → 0 < c .left - elapsed (c .last) t
+          go true q = absurd (true≢false (sym (and-both (running c) (leb (c .left) (elapsed (c .last) t)) (lt-ltb 0 (c .left) h) q) ∙ e))
+          go false q =
+              let more : elapsed (c .last) t < c .left = leb-false (c .left) (elapsed (c .last) t) q in
+              omega arith
+
+  -- WEL and what waits are gone in the step in which the cycle ends, and no time is left
+  pub over-wel : ends t c ≡ true → timed P t c .wel ≡ 0
+  unfolding timed
+  over-wel e = ap (λ (x : Core). x .wel) (at-yes _ _ e)
+
+  pub over-waits : ends t c ≡ true → timed P t c .waits ≡ nothing P
+  unfolding timed
+  over-waits e = ap (λ (x : Core). x .waits) (at-yes _ _ e)
+
+  pub over-left : ends t c ≡ true → timed P t c .left ≡ 0
+  unfolding timed
+  over-left e = ap (λ (x : Core). x .left) (at-yes _ _ e)
+
+  -- while it does not end, only the time left and the last reading move
+  pub on-core : ends t c ≡ false → timed P t c ≡ withTime t (c .left - elapsed (c .last) t) c
+  unfolding timed
+  on-core e = at-no _ _ e
+
+-- ---- the memory
+
+module _ (P : Part) (t : ℕ) (c : Core) (m : List ℕ) where
+  pub timed-length : length (timedMemory P t c m) ≡ length m
+  unfolding timedMemory
+  timed-length =
+      pick-case (λ (s : List ℕ). length s ≡ length m) (ends t c)
+      (λ e. pick-case (λ (s : List ℕ). length s ≡ length m) (waitsPage (c .waits)) (λ w. stored-length P (c .waits .page) (c .waits .latch) m) (λ w. refl))
+      (λ e. refl)
+
+  -- no cell changes unless a page cycle ends
+  pub no-end : ends t c ≡ false → timedMemory P t c m ≡ m
+  unfolding timedMemory
+  no-end e = at-no _ _ e
+
+  pub no-page : waitsPage (c .waits) ≡ false → timedMemory P t c m ≡ m
+  unfolding timedMemory
+  no-page w = pick-case (λ (s : List ℕ). s ≡ m) (ends t c) (λ e. at-no _ _ w) (λ e. refl)
+
+-- demand 2's cell rule, for time: a reading that ends a cycle stores exactly the cells that wait, and changes no other
+module _ (P : Part) (t : ℕ) (c : Core) (m : List ℕ) (size : length m ≡ P .size) (w : Within P c) where
+  page-inside : waitsPage (c .waits) ≡ true → c .waits .page * P .page + P .page ≤ length m
+  page-inside e =
+      let vp = and-left (valueFits (c .waits) && pageFits P (c .waits)) (latchFits P (waitsPage (c .waits)) (c .waits .latch)) (w .waits) in
+      let below : c .waits .page < pages P = ltb-true _ _ (sym (at-yes _ _ e) ∙ and-right (valueFits (c .waits)) (pageFits P (c .waits)) vp) in
+      let most : suc (c .waits .page) * P .page ≤ pages P * P .page = mul-le-mul-right (P .page) below in
+      let whole : pages P * P .page ≤ P .size = div-mul-le-self (P .size) (P .page) in
+      let next : suc (c .waits .page) * P .page ≡ c .waits .page * P .page + P .page = suc-mul (c .waits .page) (P .page) in
+      omega arith
+
+  pub cell-rule : (i : ℕ) → i < P .size → getD (timedMemory P t c m) i 0 ≡ pick (ends t c && awaited P c i) (byteAt (c .waits .latch) (offset P c i)) (getD m i 0)
+  unfolding timedMemory
+  cell-rule i h =
+      let stays = getD m i 0 in
+      let takes = byteAt (c .waits .latch) (offset P c i) in
+      let at : List ℕ → ℕ = λ s. getD s i 0 in
+      let over = ends t c in
+      let page = waitsPage (c .waits) in
+      let inside = inPage P (c .waits .page) i in
+      let mark = marked (c .waits .latch) (offset P c i) in
+      pick-ap at over (endedMemory P c m) m
+      ∙ pick-cong over stays (λ e. pick-ap at page (stored P (c .waits .page) (c .waits .latch) m) m
+      ∙ pick-cong page stays (λ q. stored-at P (c .waits .page) (c .waits .latch) m (page-inside q) i (omega arith)))
+      ∙ sym (pick-and over (page && inside && mark) takes stays
+      ∙ pick-cong over stays (λ e. pick-and (page && inside) mark takes stays ∙ pick-and page inside (pick mark takes stays) stays))

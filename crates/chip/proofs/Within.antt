@@ -1,0 +1,88 @@
+-- Inside the ranges: what the test says, part by part; and that a device with no cycle, and one whose cycle runs on, are inside them.
+use mathlib.Core.Path.{_≡_, refl, ap, sym, _∙_}
+use mathlib.Core.Bool.{Bool, true, false, _&&_, _||_}
+use Prim.Native.Nat.{ℕ, _+_, _-_, _*_, _/_, _%_, _^_, _<_, _≤_}
+use native.Mathlib.Nat.{mod-lt}
+use native.Mathlib.Omega.{arith}
+use lib.ListN.{getD, getD-replicate}
+use lib.Dec.{leb, ltb, eqb, lit≤}
+use borrow.Author.Tests.{le-leb, leb-true, le-ltb, lt-ltb, eq-eqb, ltb-false, ltb-true}
+use Rattle.laws.specs.Pick.{pick, yes-so, no-so, at-yes, at-no, pick-case, and-left, and-right, and-both}
+use Rattle.laws.specs.Each.{each, each-of}
+use Rattle.chip.specs.Part.{Part}
+use Rattle.chip.specs.Latches.{zeros, noLatch, cellFits, latchFits}
+use Rattle.chip.specs.Records.{running, nothing, withTime}
+use Rattle.chip.specs.Ranges.{flagsFit, cycleFits, timeFits, tied, valueFits, pageFits, waitFits, inRanges}
+use Rattle.chip.specs.declared.Core.{Core}
+
+pub record Within (P : Part) (c : Core) : Type 0 where
+  pub flags : flagsFit c ≡ true
+  pub cycle : cycleFits P (c .cycle) ≡ true
+  pub left : c .left ≤ c .cycle
+  pub tie : tied c ≡ true
+  pub waits : waitFits P (c .waits) ≡ true
+
+module _ (P : Part) (c : Core) where
+  pub within : inRanges P c ≡ true → Within P c
+  unfolding inRanges
+  within e =
+      let fts = and-left (flagsFit c && timeFits P c && tied c) (waitFits P (c .waits)) e in
+      let ft = and-left (flagsFit c && timeFits P c) (tied c) fts in
+      let t = and-right (flagsFit c) (timeFits P c) ft in
+      record {
+        flags = and-left (flagsFit c) (timeFits P c) ft;
+        cycle = and-left (cycleFits P (c .cycle)) (leb (c .left) (c .cycle)) t;
+        left = leb-true _ _ (and-right (cycleFits P (c .cycle)) (leb (c .left) (c .cycle)) t);
+        tie = and-right (flagsFit c && timeFits P c) (tied c) fts;
+        waits = and-right (flagsFit c && timeFits P c && tied c) (waitFits P (c .waits)) e;
+      }
+
+  pub in-ranges : Within P c → inRanges P c ≡ true
+  unfolding inRanges
+  in-ranges w =
+      and-both (flagsFit c && timeFits P c && tied c) (waitFits P (c .waits))
+      (and-both (flagsFit c && timeFits P c) (tied c)
+      (and-both (flagsFit c) (timeFits P c) (w .flags) (and-both (cycleFits P (c .cycle)) (leb (c .left) (c .cycle)) (w .cycle) (le-leb _ _ (w .left)))) (w .tie)) (w .waits)
+
+-- ---- nothing waits
+
+zero-cell : (P : Part) (i : ℕ) → i < P .page → cellFits false (noLatch P) i ≡ true
+unfolding zeros
+zero-cell P i h = rw (getD-replicate {A = ℕ} (P .page) i 0 0 h) refl
+
+pub nothing-fits : (P : Part) → waitFits P (nothing P) ≡ true
+unfolding pick
+nothing-fits P = each-of (cellFits false (noLatch P)) (P .page) (zero-cell P)
+
+-- the tie of a device with no time left
+pub quiet-tie : (c : Core) → c .left ≡ 0 → c .waits .kind ≡ 0 → tied c ≡ true
+quiet-tie c l k = at-no _ _ (le-ltb 0 (c .left) (omega arith)) ∙ eq-eqb _ _ k
+
+-- a device with no cycle and nothing that waits
+pub quiet-within : (P : Part) (c : Core) → flagsFit c ≡ true → cycleFits P (c .cycle) ≡ true → c .left ≡ 0 → c .waits ≡ nothing P → Within P c
+quiet-within P c f y l w =
+    record {
+      flags = f;
+      cycle = y;
+      left = omega arith;
+      tie = quiet-tie c l (ap (λ x. x .kind) w);
+      waits = ap (waitFits P) w ∙ nothing-fits P;
+    }
+
+-- a cycle that runs on, or none: as much is left or less, and some where some was
+pub runs-within : (P : Part) (c : Core) (t n : ℕ) → n ≤ c .left → (0 < c .left → 0 < n) → Within P c → Within P (withTime t n c)
+runs-within P c t n h k w =
+    record {
+      flags = w .flags;
+      cycle = w .cycle;
+      left = omega (arith, w .left);
+      tie = rw same-run (w .tie);
+      waits = w .waits;
+    }
+  where
+    go : (b : Bool) → ltb 0 (c .left) ≡ b → ltb 0 n ≡ b
+    go true e = lt-ltb 0 n (k (ltb-true 0 (c .left) e))
+    go false e = le-ltb 0 n (omega (arith, ltb-false 0 (c .left) e))
+
+    same-run : ltb 0 n ≡ ltb 0 (c .left)
+    same-run = go (ltb 0 (c .left)) refl

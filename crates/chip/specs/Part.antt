@@ -1,0 +1,17 @@
+-- The part's sizes. Every rule is read over them; no number of a part stands anywhere else.
+use Prim.Native.Nat.{ℕ, _/_}
+
+pub record Part : Type 0 where
+  -- cells of the memory
+  pub size : ℕ
+  -- cells of a page
+  pub page : ℕ
+  -- microseconds of the longest write cycle
+  pub longest : ℕ
+
+-- 65,536 bytes, 512 pages of 128; 5 ms is the sheets' longest cycle
+abbrev pub m95512 : Part
+m95512 = record { size = 65536; page = 128; longest = 5000 }
+
+abbrev pub pages : Part → ℕ
+pages P = P .size / P .page

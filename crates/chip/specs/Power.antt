@@ -1,0 +1,27 @@
+-- Power-up, and the device as delivered.
+use Prim.Native.Nat.{ℕ}
+use mathlib.Core.Bool.{Bool, true, false}
+use Rattle.laws.specs.Pick.{pick}
+use Rattle.chip.specs.Part.{Part}
+use Rattle.chip.specs.Records.{idle}
+use Rattle.chip.specs.Ranges.{cycleFits}
+use Rattle.chip.specs.declared.Core.{Core}
+use Rattle.chip.specs.declared.PoweredUp.{PoweredUp}
+use Rattle.chip.specs.declared.Refusal.{Refusal}
+use Rattle.chip.specs.declared.Refusal.the-variants.{CycleLength}
+use Rattle.chip.specs.declared.Outcome.{Outcome}
+use Rattle.chip.specs.declared.Outcome.the-variants.{Done, Refused}
+
+-- the record that the trace text starts from: status bits 0, the longest cycle, reading 0
+abbrev pub delivered : Part → Core
+delivered P = idle P false false false (P .longest) 0
+
+-- its number in document 01: 6 where the cycle length is not 1 to the longest
+abbrev pub powerUpNumber : Part → ℕ → ℕ
+powerUpNumber P cycle = pick (cycleFits P cycle) 0 6
+
+-- a refusal leaves the delivered record, whatever else was given
+abbrev pub poweredUp : Part → ℕ → Bool → Bool → Bool → ℕ → PoweredUp
+poweredUp P cycle srwd bp1 bp0 t =
+    pick (cycleFits P cycle) (record { outcome = Done; core = idle P srwd bp1 bp0 cycle t })
+    (record { outcome = Refused CycleLength; core = delivered P })

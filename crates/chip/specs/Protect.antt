@@ -1,0 +1,47 @@
+-- Which addresses are protected (004, table 2). BP1 BP0 = 00: none; 01: the upper quarter; 10: the upper half; 11: everything.
+use Prim.Native.Nat.{ℕ, _+_, _*_, _/_}
+use mathlib.Core.Bool.{Bool, true, false}
+use lib.Dec.{leb, ltb}
+use Rattle.laws.specs.Pick.{pick}
+use Rattle.chip.specs.Part.{Part}
+use Rattle.chip.specs.Status.{bit, on}
+use Rattle.chip.specs.Refusals.{refusalNumber}
+use Rattle.chip.specs.Ranges.{inRanges}
+use Rattle.chip.specs.declared.Core.{Core}
+use Rattle.chip.specs.declared.Refusal.{Refusal}
+use Rattle.chip.specs.declared.Refusal.the-variants.{RecordRange, AddressRange}
+use Rattle.chip.specs.declared.Protection.{Protection}
+use Rattle.chip.specs.declared.Protection.the-variants.{Open, Protected, Unanswered}
+
+-- the lowest protected address; the memory's size for none
+abbrev pub lowestProtected : Part → Bool → Bool → ℕ
+lowestProtected P bp1 bp0 = pick bp1 (pick bp0 0 (P .size / 2)) (pick bp0 (P .size / 4 * 3) (P .size))
+
+-- the lowest protected address is at most this one
+abbrev pub protects : Part → Core → ℕ → Bool
+protects P c a = leb (lowestProtected P (on (c .bp1)) (on (c .bp0))) a
+
+-- ---- the public question, for every record and every number
+
+-- 2 for a record outside its ranges, then 7 for an address that the memory lacks
+abbrev pub protection : Part → Core → ℕ → Protection
+protection P c a =
+    pick (inRanges P c) (pick (ltb a (P .size)) (pick (protects P c a) Protected Open) (Unanswered AddressRange)) (Unanswered RecordRange)
+
+-- the number of an answer in document 01, and its value: 1 for a protected address
+abbrev pub protectionNumber : Protection → ℕ
+protectionNumber Open = 0
+protectionNumber Protected = 0
+protectionNumber (Unanswered r) = refusalNumber r
+
+abbrev pub protectionValue : Protection → ℕ
+protectionValue Open = 0
+protectionValue Protected = 1
+protectionValue (Unanswered r) = 0
+
+-- which they are
+abbrev pub questionNumber : Part → Core → ℕ → ℕ
+questionNumber P c a = pick (inRanges P c) (pick (ltb a (P .size)) 0 7) 2
+
+abbrev pub questionValue : Part → Core → ℕ → ℕ
+questionValue P c a = pick (inRanges P c) (pick (ltb a (P .size)) (bit (protects P c a)) 0) 0

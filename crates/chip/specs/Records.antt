@@ -1,0 +1,91 @@
+-- The core record that both models hold: what its fields say, and every way in which one is made of another. No record is written out anywhere else.
+use Prim.Native.Nat.{ℕ, _-_}
+use mathlib.Core.Bool.{Bool}
+use lib.Dec.{ltb, eqb}
+use Rattle.chip.specs.Part.{Part}
+use Rattle.chip.specs.Status.{bit, on, statusByte, bitOf}
+use Rattle.chip.specs.Latches.{noLatch}
+use Rattle.chip.specs.declared.Waiting.{Waiting}
+use Rattle.chip.specs.declared.Core.{Core}
+
+-- ---- what waits for the end of the cycle: 0 nothing, 1 a status value, 2 a page
+
+abbrev pub waitsNothing : Waiting → Bool
+waitsNothing w = eqb (w .kind) 0
+
+abbrev pub waitsStatus : Waiting → Bool
+waitsStatus w = eqb (w .kind) 1
+
+abbrev pub waitsPage : Waiting → Bool
+waitsPage w = eqb (w .kind) 2
+
+abbrev pub nothing : Part → Waiting
+nothing P = record { kind = 0; status = 0; page = 0; latch = noLatch P }
+
+-- ---- what a core says
+
+-- WIP: a cycle runs exactly when time is left
+abbrev pub running : Core → Bool
+running c = ltb 0 (c .left)
+
+abbrev pub status : Core → ℕ
+status c = statusByte (on (c .srwd)) (on (c .bp1)) (on (c .bp0)) (on (c .wel)) (running c)
+
+-- ---- a core made of another
+
+-- SRWD, BP1 and BP0 from a status value
+abbrev pub withStatus : ℕ → Core → Core
+withStatus v c =
+    record {
+      srwd = bitOf 7 v;
+      bp1 = bitOf 3 v;
+      bp0 = bitOf 2 v;
+      wel = c .wel;
+      cycle = c .cycle;
+      left = c .left;
+      last = c .last;
+      waits = c .waits;
+    }
+
+-- the clock read t, and so much of the cycle is left
+abbrev pub withTime : ℕ → ℕ → Core → Core
+withTime t n c =
+    record {
+      srwd = c .srwd;
+      bp1 = c .bp1;
+      bp0 = c .bp0;
+      wel = c .wel;
+      cycle = c .cycle;
+      left = n;
+      last = t;
+      waits = c .waits;
+    }
+
+-- the cycle is over: WEL 0, no time left, nothing waits
+abbrev pub withoutCycle : Part → Core → Core
+withoutCycle P c =
+    record {
+      srwd = c .srwd;
+      bp1 = c .bp1;
+      bp0 = c .bp0;
+      wel = 0;
+      cycle = c .cycle;
+      left = 0;
+      last = c .last;
+      waits = nothing P;
+    }
+
+-- ---- a core made anew: WEL 0, no cycle, and the given status bits, cycle length and clock reading
+
+abbrev pub idle : Part → Bool → Bool → Bool → ℕ → ℕ → Core
+idle P srwd bp1 bp0 cycle t =
+    record {
+      srwd = bit srwd;
+      bp1 = bit bp1;
+      bp0 = bit bp0;
+      wel = 0;
+      cycle = cycle;
+      left = 0;
+      last = t;
+      waits = nothing P;
+    }

@@ -1,0 +1,58 @@
+// Document 01's number of each answer.
+ghost use mathlib.Core.Path.{_≡_};
+ghost use Rattle.chip.specs.Refusals.{refusalNumber, number};
+ghost use Rattle.chip.specs.Protect.{protectionNumber, protectionValue};
+use crate::Outcome;
+use crate::Protection;
+use crate::Refusal;
+
+impl Refusal {
+    pub fn number(self) -> u32
+        ensures { λ r. ⌜ r ≡ refusalNumber self ⌝ }
+    {
+        match self {
+            Refusal::MemoryLength => 1,
+            Refusal::RecordRange => 2,
+            Refusal::FrameLength => 3,
+            Refusal::BitCount => 4,
+            Refusal::OutputLength => 5,
+            Refusal::CycleLength => 6,
+            Refusal::AddressRange => 7,
+            Refusal::PollRange => 8,
+        }
+    }
+}
+
+impl Outcome {
+    pub fn number(self) -> u32
+        ensures { λ r. ⌜ r ≡ number self ⌝ }
+    {
+        match self {
+            Outcome::Done => 0,
+            Outcome::Refused(r) => r.number(),
+        }
+    }
+}
+
+impl Protection {
+    pub fn number(self) -> u32
+        ensures { λ r. ⌜ r ≡ protectionNumber self ⌝ }
+    {
+        match self {
+            Protection::Open => 0,
+            Protection::Protected => 0,
+            Protection::Unanswered(r) => r.number(),
+        }
+    }
+
+    // 1 for a protected address.
+    pub fn value(self) -> u32
+        ensures { λ r. ⌜ r ≡ protectionValue self ⌝ }
+    {
+        match self {
+            Protection::Open => 0,
+            Protection::Protected => 1,
+            Protection::Unanswered(_) => 0,
+        }
+    }
+}

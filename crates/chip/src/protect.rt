@@ -1,0 +1,51 @@
+// Which addresses are protected (004, table 2).
+ghost use mathlib.Core.Path.{_≡_};
+ghost use mathlib.Core.Bool.{Bool};
+ghost use Rattle.chip.specs.Part.{m95512};
+ghost use Rattle.chip.specs.Protect.{lowestProtected, protects, protection, protectionNumber, protectionValue, questionNumber, questionValue};
+use crate::Core;
+use crate::Protection;
+use crate::Refusal;
+
+// The lowest protected address, the memory's size for none.
+pub fn lowest_protected(bp1: bool, bp0: bool) -> u32
+    ensures { λ r. ⌜ r ≡ lowestProtected m95512 bp1 bp0 ⌝ }
+{
+    if bp1 {
+        if bp0 {
+            return 0;
+        }
+        return 0x8000;
+    }
+    if bp0 {
+        return 0xc000;
+    }
+    0x10000
+}
+
+impl Core {
+    // The lowest protected address is at most this one.
+    pub fn protects(self, address: u32) -> bool
+        ensures { λ r. ⌜ r ≡ protects m95512 self address ⌝ }
+    {
+        lowest_protected(self.bp1 == 1, self.bp0 == 1) <= address
+    }
+
+    // Whether one address is protected: 2 for a record outside its ranges, 7 for an address that the memory lacks.
+    pub fn protection(self, address: u32) -> Protection
+        ensures { λ r. ⌜ r ≡ protection m95512 self address ⌝ }
+        ensures { λ r. ⌜ protectionNumber r ≡ questionNumber m95512 self address ⌝ }
+        ensures { λ r. ⌜ protectionValue r ≡ questionValue m95512 self address ⌝ }
+    {
+        if self.in_ranges() {
+            if address < 0x10000 {
+                if self.protects(address) {
+                    return Protection::Protected;
+                }
+                return Protection::Open;
+            }
+            return Protection::Unanswered(Refusal::AddressRange);
+        }
+        Protection::Unanswered(Refusal::RecordRange)
+    }
+}

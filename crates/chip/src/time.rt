@@ -1,0 +1,145 @@
+// Passing time: a clock reading, and the end of a cycle.
+ghost use mathlib.Core.Path.{_≡_};
+ghost use mathlib.Core.Bool.{_&&_};
+ghost use Prim.Native.Nat.{_-_};
+ghost use lib.Dec.{leb};
+ghost use Rattle.chip.specs.Part.{m95512};
+ghost use Rattle.chip.specs.Records.{running, nothing, withStatus, withTime, withoutCycle};
+ghost use Rattle.chip.specs.Refusals.{number};
+ghost use Rattle.chip.specs.Time.{elapsed, ends, ended, endedMemory, timed, timedMemory, readingNumber, clockReading, clockMemory};
+use crate::Core;
+use crate::Latch;
+use crate::Outcome;
+use crate::Refusal;
+use crate::Timed;
+use crate::Waiting;
+use crate::status::bp0_of;
+use crate::status::bp1_of;
+use crate::status::srwd_of;
+
+// Readings come from a free-running 32-bit microsecond counter that wraps.
+pub fn elapsed(old: u32, new: u32) -> u32
+    ensures { λ r. ⌜ r ≡ elapsed old new ⌝ }
+{
+    std::num::wrapping_sub_u32(new, old)
+}
+
+impl Waiting {
+    pub fn nothing() -> Waiting
+        ensures { λ r. ⌜ r ≡ nothing m95512 ⌝ }
+    {
+        Waiting {
+            kind: 0,
+            status: 0,
+            page: 0,
+            latch: Latch::none(),
+        }
+    }
+}
+
+impl Core {
+    fn with_status(mut self, value: u8) -> Core
+        ensures { λ r. ⌜ r ≡ withStatus value self ⌝ }
+    {
+        let srwd = srwd_of(value);
+        let bp1 = bp1_of(value);
+        let bp0 = bp0_of(value);
+        self.srwd = srwd;
+        self.bp1 = bp1;
+        self.bp0 = bp0;
+        self
+    }
+
+    fn with_time(mut self, reading: u32, left: u32) -> Core
+        ensures { λ r. ⌜ r ≡ withTime reading left self ⌝ }
+    {
+        self.last = reading;
+        self.left = left;
+        self
+    }
+
+    fn without_cycle(mut self) -> Core
+        ensures { λ r. ⌜ r ≡ withoutCycle m95512 self ⌝ }
+    {
+        let waits = Waiting::nothing();
+        self.wel = 0;
+        self.left = 0;
+        self.waits = waits;
+        self
+    }
+
+    // Time left reaches 0 in the time that has passed.
+    fn ends(self, passed: u32) -> bool
+        ensures { λ r. ⌜ r ≡ (running self && leb (self .left) passed) ⌝ }
+    {
+        (0 < self.left) & (self.left <= passed)
+    }
+
+    // The record once its cycle is over: a waiting status value shows now.
+    fn ended(self) -> Core
+        ensures { λ r. ⌜ r ≡ ended m95512 self ⌝ }
+    {
+        let kind = self.waits.kind;
+        let value = self.waits.status;
+        if kind == 1 {
+            return self.with_status(value).without_cycle();
+        }
+        self.without_cycle()
+    }
+
+    // A waiting page goes into the memory.
+    fn store_waiting(self, memory: &mut [u8])
+        ensures { λ _. ⌜ now (memory .exit) ≡ endedMemory m95512 self (now (memory .entry)) ⌝ }
+    {
+        let kind = self.waits.kind;
+        let page = self.waits.page;
+        let latch = self.waits.latch;
+        if kind == 2 {
+            latch.store(page, memory);
+        }
+    }
+
+    // A clock reading, with no refusal: the step that both models take.
+    pub fn timed(self, reading: u32, memory: &mut [u8]) -> Core
+        ensures { λ r. ⌜ r ≡ timed m95512 reading self ⌝ }
+        ensures { λ _. ⌜ now (memory .exit) ≡ timedMemory m95512 reading self (now (memory .entry)) ⌝ }
+    {
+        let passed = elapsed(self.last, reading);
+        if self.ends(passed) {
+            self.store_waiting(memory);
+            return self.ended().with_time(reading, 0);
+        }
+        self.with_time(reading, left_after(self.left, passed))
+    }
+}
+
+fn left_after(left: u32, passed: u32) -> u32
+    ensures { λ r. ⌜ r ≡ left - passed ⌝ }
+{
+    if left < passed { 0 } else { left - passed }
+}
+
+// The public clock reading, for every input: 1 for a memory of another length, then 2 for a record outside its ranges, both with everything as it was.
+pub fn clock_reading(core: Core, reading: u32, memory: &mut [u8]) -> Timed
+    ensures { λ r. ⌜ r ≡ clockReading m95512 reading core (now (memory .entry)) ⌝ }
+    ensures { λ r. ⌜ number (r .outcome) ≡ readingNumber m95512 core (now (memory .entry)) ⌝ }
+    ensures { λ _. ⌜ now (memory .exit) ≡ clockMemory m95512 reading core (now (memory .entry)) ⌝ }
+{
+    if memory.len() != 65536 {
+        return Timed {
+            outcome: Outcome::Refused(Refusal::MemoryLength),
+            core: core,
+        };
+    }
+    if core.in_ranges() {
+        let next = core.timed(reading, memory);
+        return Timed {
+            outcome: Outcome::Done,
+            core: next,
+        };
+    }
+    Timed {
+        outcome: Outcome::Refused(Refusal::RecordRange),
+        core: core,
+    }
+}
