@@ -1,9 +1,9 @@
 -- A page write: latched bytes, and a mark on each addressed one. Latching, storing and laying one write over another all come to `laidAt`.
 -- "Is cell i marked" is the one question asked of the marks.
-use Prim.Native.Nat.{ℕ, _+_, _*_, _-_}
+use Prim.Native.Nat.{ℕ, _+_, _*_, _-_, _%_}
 use mathlib.Core.Bool.{Bool, _&&_, _||_}
 use mathlib.Core.List.{List}
-use lib.ListN.{length, getD, replicate}
+use lib.ListN.{length, getD, set, replicate}
 use lib.Dec.{eqb, leb, ltb}
 use Rattle.laws.specs.Pick.{pick}
 use Rattle.laws.specs.Each.{each}
@@ -29,6 +29,14 @@ zeros P = replicate (P .page) 0
 -- no byte latched: what does not wait reads 0
 abbrev pub noLatch : Part → Latch
 noLatch P = record { bytes = zeros P; marks = zeros P }
+
+-- one more byte latched, for cell i of its page; the latest byte for a cell wins
+abbrev pub latched : ℕ → ℕ → Latch → Latch
+latched i v l = record { bytes = set (l .bytes) i v; marks = set (l .marks) i 1 }
+
+-- the cell of its page that comes after address i: from the last one back to the first
+abbrev pub nextCell : Part → ℕ → ℕ
+nextCell P i = (i % P .page + 1) % P .page
 
 -- the page with the write laid over it
 unfoldable pub laid : Part → Latch → List ℕ → List ℕ

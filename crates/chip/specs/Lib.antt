@@ -7,6 +7,8 @@ pub mod Protect
 pub mod Latches
 pub mod Records
 pub mod Ranges
+pub mod Verdicts
+pub mod Effects
 pub mod Time
 pub mod Power
 pub mod Cells

@@ -6,12 +6,16 @@ pub record Part : Type 0 where
   pub size : ℕ
   -- cells of a page
   pub page : ℕ
+  -- address bytes after the code
+  pub addressBytes : ℕ
+  -- where the count of whole bytes taken stays
+  pub most : ℕ
   -- microseconds of the longest write cycle
   pub longest : ℕ
 
 -- 65,536 bytes, 512 pages of 128; 5 ms is the sheets' longest cycle
 abbrev pub m95512 : Part
-m95512 = record { size = 65536; page = 128; longest = 5000 }
+m95512 = record { size = 65536; page = 128; addressBytes = 2; most = 4; longest = 5000 }
 
 abbrev pub pages : Part → ℕ
 pages P = P .size / P .page

@@ -3,8 +3,9 @@ use Prim.Native.Nat.{ℕ, _-_}
 use mathlib.Core.Bool.{Bool}
 use lib.Dec.{ltb, eqb}
 use Rattle.chip.specs.Part.{Part}
-use Rattle.chip.specs.Status.{bit, on, statusByte, bitOf}
+use Rattle.chip.specs.Status.{bit, on, statusByte, bitOf, writable}
 use Rattle.chip.specs.Latches.{noLatch}
+use Rattle.chip.specs.declared.Latch.{Latch}
 use Rattle.chip.specs.declared.Waiting.{Waiting}
 use Rattle.chip.specs.declared.Core.{Core}
 
@@ -21,6 +22,13 @@ waitsPage w = eqb (w .kind) 2
 
 abbrev pub nothing : Part → Waiting
 nothing P = record { kind = 0; status = 0; page = 0; latch = noLatch P }
+
+-- only the writable bits of a status value wait
+abbrev pub statusWaits : Part → ℕ → Waiting
+statusWaits P v = record { kind = 1; status = writable v; page = 0; latch = noLatch P }
+
+abbrev pub pageWaits : ℕ → Latch → Waiting
+pageWaits p l = record { kind = 2; status = 0; page = p; latch = l }
 
 -- ---- what a core says
 
@@ -59,6 +67,33 @@ withTime t n c =
       left = n;
       last = t;
       waits = c .waits;
+    }
+
+abbrev pub withWel : ℕ → Core → Core
+withWel v c =
+    record {
+      srwd = c .srwd;
+      bp1 = c .bp1;
+      bp0 = c .bp0;
+      wel = v;
+      cycle = c .cycle;
+      left = c .left;
+      last = c .last;
+      waits = c .waits;
+    }
+
+-- a cycle begins, at whose end w is stored
+abbrev pub withCycle : Waiting → Core → Core
+withCycle w c =
+    record {
+      srwd = c .srwd;
+      bp1 = c .bp1;
+      bp0 = c .bp0;
+      wel = c .wel;
+      cycle = c .cycle;
+      left = c .cycle;
+      last = c .last;
+      waits = w;
     }
 
 -- the cycle is over: WEL 0, no time left, nothing waits

@@ -5,12 +5,14 @@
 // models: total, and exactly its definition.
 mod answers;
 mod codes;
+mod effects;
 mod pages;
 mod power;
 mod protect;
 mod ranges;
 mod status;
 mod time;
+mod verdicts;
 
 // Public calls, beside the methods Core::in_ranges and Core::protection.
 pub use power::power_up;
@@ -24,11 +26,13 @@ pub use codes::WREN;
 pub use codes::WRITE;
 pub use codes::WRSR;
 pub use codes::decode;
+pub use pages::next_cell;
 pub use protect::lowest_protected;
 pub use ranges::cycle_fits;
 pub use status::status_byte;
 pub use status::writable;
 pub use time::elapsed;
+pub use verdicts::judge;
 
 // A page write: up to 128 latched bytes and a mark on each addressed one, 1 or 0. Unmarked bytes read 0.
 #[repr(C)]
@@ -86,6 +90,17 @@ pub enum Instruction {
     Read,
     Write,
     Silence,
+}
+
+// What a deselect decides: the frame is executed, or the first test that failed.
+pub enum Verdict {
+    Executed,
+    CycleRan,
+    WelOff,
+    WrongCount,
+    Guarded,
+    OnHold,
+    UnknownCode,
 }
 
 // Whether an address is protected.

@@ -5,7 +5,7 @@ ghost use lib.Dec.{eqb};
 ghost use lib.ListN.{length};
 ghost use Rattle.laws.specs.Pick.{pick};
 ghost use Rattle.chip.specs.Part.{m95512};
-ghost use Rattle.chip.specs.Latches.{laid, latchFits, noLatch, stored};
+ghost use Rattle.chip.specs.Latches.{laid, latchFits, nextCell, noLatch, stored};
 use crate::Latch;
 
 impl Latch {
@@ -40,6 +40,13 @@ impl Latch {
             store_page(&mut memory[start..end], &bytes, &marks);
         }
     }
+}
+
+// The cell of its page that comes after an address: from the last one back to the first.
+pub fn next_cell(address: usize) -> usize
+    ensures { λ r. ⌜ r ≡ nextCell m95512 address ⌝ }
+{
+    (address % 128 + 1) % 128
 }
 
 // No mark and the byte 0, or a mark where there may be marks.

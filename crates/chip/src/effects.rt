@@ -1,0 +1,66 @@
+// What an executed instruction does to the record.
+ghost use mathlib.Core.Path.{_≡_};
+ghost use Rattle.chip.specs.Part.{m95512};
+ghost use Rattle.chip.specs.Records.{statusWaits, pageWaits, withWel, withCycle};
+use crate::Core;
+use crate::Latch;
+use crate::Waiting;
+use crate::status::writable;
+
+impl Waiting {
+    // Only the writable bits of a status value wait.
+    fn for_status(value: u8) -> Waiting
+        ensures { λ r. ⌜ r ≡ statusWaits m95512 value ⌝ }
+    {
+        Waiting {
+            kind: 1,
+            status: writable(value),
+            page: 0,
+            latch: Latch::none(),
+        }
+    }
+
+    fn for_page(page: u32, latch: Latch) -> Waiting
+        ensures { λ r. ⌜ r ≡ pageWaits page latch ⌝ }
+    {
+        Waiting {
+            kind: 2,
+            status: 0,
+            page: page,
+            latch: latch,
+        }
+    }
+}
+
+impl Core {
+    // WREN and WRDI.
+    pub fn with_wel(mut self, wel: u8) -> Core
+        ensures { λ r. ⌜ r ≡ withWel wel self ⌝ }
+    {
+        self.wel = wel;
+        self
+    }
+
+    fn with_cycle(mut self, waits: Waiting) -> Core
+        ensures { λ r. ⌜ r ≡ withCycle waits self ⌝ }
+    {
+        let cycle = self.cycle;
+        self.left = cycle;
+        self.waits = waits;
+        self
+    }
+
+    // WRSR: the cycle begins at whose end the status value shows.
+    pub fn begin_status(self, value: u8) -> Core
+        ensures { λ r. ⌜ r ≡ withCycle (statusWaits m95512 value) self ⌝ }
+    {
+        self.with_cycle(Waiting::for_status(value))
+    }
+
+    // WRITE: the cycle begins at whose end the latched page is stored.
+    pub fn begin_page(self, page: u32, latch: Latch) -> Core
+        ensures { λ r. ⌜ r ≡ withCycle (pageWaits page latch) self ⌝ }
+    {
+        self.with_cycle(Waiting::for_page(page, latch))
+    }
+}
