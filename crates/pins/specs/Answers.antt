@@ -1,0 +1,115 @@
+-- The public calls, for every input: the refusals in their order, the device that follows and the memory.
+use Prim.Native.Nat.{ℕ}
+use mathlib.Core.Bool.{Bool, true, false}
+use mathlib.Core.List.{List, [], _∷_}
+use lib.ListN.{length}
+use lib.Dec.{eqb}
+use Rattle.laws.specs.Pick.{pick}
+use Rattle.chip.specs.Part.{Part}
+use Rattle.chip.specs.Records.{status}
+use Rattle.chip.specs.Power.{poweredUp}
+use Rattle.chip.specs.Refusals.{refusalNumber, isDone}
+use Rattle.chip.specs.declared.Core.{Core}
+use Rattle.chip.specs.declared.Refusal.{Refusal}
+use Rattle.chip.specs.declared.Refusal.the-variants.{MemoryLength, RecordRange, OutputLength}
+use Rattle.chip.specs.declared.Outcome.{Outcome}
+use Rattle.chip.specs.declared.Outcome.the-variants.{Done, Refused}
+use Rattle.pins.specs.declared.Device.{Device}
+use Rattle.pins.specs.declared.Event.{Event}
+use Rattle.pins.specs.declared.Level.{Level}
+use Rattle.pins.specs.declared.Stepped.{Stepped}
+use Rattle.pins.specs.declared.QAnswer.{QAnswer}
+use Rattle.pins.specs.declared.QAnswer.the-variants.{Shows, Unanswered}
+use Rattle.pins.specs.declared.StatusAnswer.{StatusAnswer}
+use Rattle.pins.specs.declared.StatusAnswer.the-variants as status-answer
+use Rattle.pins.specs.Devices.{resting}
+use Rattle.pins.specs.Ranges.{deviceFits}
+use Rattle.pins.specs.Falling.{q, levelNumber}
+use Rattle.pins.specs.Events.{stepped, steppedMemory, eventOf}
+
+-- ---- an event
+
+-- 2; and, where memory is lent, 1 before it
+abbrev pub recordOutcome : Part → Device → Outcome
+recordOutcome P x = pick (deviceFits P x) Done (Refused RecordRange)
+
+abbrev pub memoryOutcome : Part → Device → List ℕ → Outcome
+memoryOutcome P x m = pick (eqb (length m) (P .size)) (recordOutcome P x) (Refused MemoryLength)
+
+-- their numbers in document 01
+abbrev pub recordNumber : Part → Device → ℕ
+recordNumber P x = pick (deviceFits P x) 0 2
+
+abbrev pub memoryNumber : Part → Device → List ℕ → ℕ
+memoryNumber P x m = pick (eqb (length m) (P .size)) (recordNumber P x) 1
+
+abbrev pub steppedTo : Outcome → Device → Stepped
+steppedTo o x = record { outcome = o; device = x }
+
+-- the device that follows, or the device as given
+abbrev pub answer : Outcome → Device → Device → Stepped
+answer o y x = steppedTo o (pick (isDone o) y x)
+
+-- the memory after a clock reading, or as given
+abbrev pub answerMemory : Outcome → List ℕ → List ℕ → List ℕ
+answerMemory o after m = pick (isDone o) after m
+
+-- ---- what a device shows
+
+abbrev pub qAnswer : Part → Device → QAnswer
+qAnswer P x = pick (deviceFits P x) (Shows (q x)) (Unanswered RecordRange)
+
+abbrev pub qNumber : QAnswer → ℕ
+qNumber (Shows l) = 0
+qNumber (Unanswered r) = refusalNumber r
+
+-- 0, 1 or 2 for Z; 0 in a refusal
+abbrev pub qValue : QAnswer → ℕ
+qValue (Shows l) = levelNumber l
+qValue (Unanswered r) = 0
+
+abbrev pub statusAnswer : Part → Device → StatusAnswer
+statusAnswer P x = pick (deviceFits P x) (status-answer.Byte (status (x .core))) (status-answer.Unanswered RecordRange)
+
+abbrev pub statusNumber : StatusAnswer → ℕ
+statusNumber (status-answer.Byte v) = 0
+statusNumber (status-answer.Unanswered r) = refusalNumber r
+
+abbrev pub statusValue : StatusAnswer → ℕ
+statusValue (status-answer.Byte v) = v
+statusValue (status-answer.Unanswered r) = 0
+
+-- ---- power-up: the pins at rest around chip's record
+
+abbrev pub powered : Part → ℕ → Bool → Bool → Bool → ℕ → Stepped
+powered P n s b a t = steppedTo (poweredUp P n s b a t .outcome) (resting P (poweredUp P n s b a t .core))
+
+-- ---- a list of events at once: the single events one after another, with Q after each
+
+-- a device and the memory lent to it
+pub record Bench : Type 0 where
+  pub device : Device
+  pub memory : List ℕ
+
+abbrev pub afterEvent : Part → ℕ → Bench → Bench
+afterEvent P e b =
+    record {
+      device = stepped P (b .memory) (eventOf e) (b .device);
+      memory = steppedMemory P (eventOf e) (b .device) (b .memory);
+    }
+
+unfoldable pub played : Part → List ℕ → Bench → Bench
+played P [] b = b
+played P (e ∷ es) b = played P es (afterEvent P e b)
+
+unfoldable pub playedQ : Part → List ℕ → Bench → List ℕ
+playedQ P [] b = []
+playedQ P (e ∷ es) b = levelNumber (q (afterEvent P e b .device)) ∷ playedQ P es (afterEvent P e b)
+
+-- 1, 2, and 5 for an output that has not the list's length
+abbrev pub playOutcome : Part → Device → List ℕ → ℕ → ℕ → Outcome
+playOutcome P x m len room =
+    pick (eqb (length m) (P .size)) (pick (deviceFits P x) (pick (eqb room len) Done (Refused OutputLength)) (Refused RecordRange)) (Refused MemoryLength)
+
+abbrev pub playNumber : Part → Device → List ℕ → ℕ → ℕ → ℕ
+playNumber P x m len room = pick (eqb (length m) (P .size)) (pick (deviceFits P x) (pick (eqb room len) 0 5) 2) 1

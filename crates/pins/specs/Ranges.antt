@@ -1,0 +1,95 @@
+-- The ranges and ties that document 01 lists for the device, and no more. A record outside them gets refusal 2.
+use Prim.Native.Nat.{ℕ, _+_, _-_, _*_, _^_}
+use mathlib.Core.Bool.{Bool, true, false, not, _&&_, _||_}
+use lib.Dec.{eqb, leb, ltb}
+use Rattle.laws.specs.Pick.{pick}
+use Rattle.chip.specs.Part.{Part}
+use Rattle.chip.specs.Status.{on}
+use Rattle.chip.specs.Records.{running}
+use Rattle.chip.specs.Instructions.{decode}
+use Rattle.chip.specs.Latches.{latchFits}
+use Rattle.chip.specs.Ranges.{inRanges}
+use Rattle.chip.specs.declared.Instruction.{Instruction}
+use Rattle.chip.specs.declared.Instruction.the-variants.{Wren, Wrdi, Rdsr, Wrsr, Read, Write, Silence}
+use Rattle.pins.specs.declared.Pins.{Pins}
+use Rattle.pins.specs.declared.Frame.{Frame}
+use Rattle.pins.specs.declared.Device.{Device}
+use Rattle.pins.specs.Devices.{selected}
+use Rattle.pins.specs.Falling.{outputs}
+
+-- levels are 0 or 1
+abbrev pub pinsFit : Pins → Bool
+pinsFit p = leb (p .s) 1 && leb (p .c) 1 && leb (p .d) 1 && leb (p .w) 1 && leb (p .hold) 1
+
+-- not selected means not held; selected with C low, held is "HOLD is low"; with C high it is 0 or 1
+abbrev pub heldFits : Pins → ℕ → Bool
+heldFits p held = pick (on (p .s)) (eqb held 0) (pick (on (p .c)) (leb held 1) (eqb (held + p .hold) 1))
+
+-- bits taken of the current byte, and the values of those bits and no others
+abbrev pub partFits : ℕ → ℕ → Bool
+partFits n v = leb n 7 && ltb v (2 ^ n)
+
+-- whole bytes taken, staying at the part's most, and bits taken
+abbrev pub countsFit : Part → Frame → Bool
+countsFit P f = leb (f .taken) (P .most) && partFits (f .bits) (f .part)
+
+-- the instruction byte, and whether a cycle ran at the eighth edge: from one whole byte on
+abbrev pub codeFits : Frame → Bool
+codeFits f = pick (eqb (f .taken) 0) (eqb (f .code) 0 && eqb (f .ran) 0) (leb (f .ran) 1)
+
+-- the address of READ and WRITE is below the memory's size once all its bytes are taken, and below 256 to the number taken before
+abbrev pub addressBelow : Part → ℕ → ℕ
+addressBelow P n = pick (ltb (P .addressBytes) n) (P .size) (256 ^ (n - 1))
+
+-- of the others it is 0
+abbrev pub addressMost : Part → Instruction → ℕ → ℕ
+addressMost P Wren n = 1
+addressMost P Wrdi n = 1
+addressMost P Rdsr n = 1
+addressMost P Wrsr n = 1
+addressMost P Read n = addressBelow P n
+addressMost P Write n = addressBelow P n
+addressMost P Silence n = 1
+
+-- the data byte of WRSR: from two whole bytes on
+abbrev pub valued : Instruction → ℕ → Bool
+valued Wren n = false
+valued Wrdi n = false
+valued Rdsr n = false
+valued Wrsr n = leb 2 n
+valued Read n = false
+valued Write n = false
+valued Silence n = false
+
+-- the latch of WRITE: from its first data byte on
+abbrev pub latches : Part → Instruction → ℕ → Bool
+latches P Wren n = false
+latches P Wrdi n = false
+latches P Rdsr n = false
+latches P Wrsr n = false
+latches P Read n = false
+latches P Write n = leb (P .addressBytes + 2) n
+latches P Silence n = false
+
+-- the output byte and its bits shown: 0 outside data output, and the byte reads 0 where no bit shows
+abbrev pub outFits : Part → Instruction → Frame → Bool
+outFits P i f = pick (eqb (f .shown) 0) (eqb (f .out) 0) (leb (f .shown) 8 && outputs P i (f .taken) (on (f .ran)))
+
+abbrev pub fieldsFit : Part → Instruction → Frame → Bool
+fieldsFit P i f =
+    ltb (f .address) (addressMost P i (f .taken)) && (valued i (f .taken) || eqb (f .value) 0) && outFits P i f && latchFits P (latches P i (f .taken)) (f .latch)
+
+abbrev pub frameFits : Part → Frame → Bool
+frameFits P f = countsFit P f && codeFits f && fieldsFit P (decode (f .code)) f
+
+-- not selected means an empty frame part
+abbrev pub emptyFits : Device → Bool
+emptyFits x = selected x || eqb (x .frame .taken) 0 && eqb (x .frame .bits) 0
+
+-- if a frame is past its eighth edge and a cycle runs now, one ran at that edge
+abbrev pub ranFits : Device → Bool
+ranFits x = eqb (x .frame .taken) 0 || not (running (x .core)) || on (x .frame .ran)
+
+unfoldable pub deviceFits : Part → Device → Bool
+deviceFits P x =
+    pinsFit (x .pins) && heldFits (x .pins) (x .held) && frameFits P (x .frame) && emptyFits x && ranFits x && inRanges P (x .core)

@@ -1,0 +1,218 @@
+// The events, with no refusal: each hands back the device that follows.
+ghost use mathlib.Core.Path.{_≡_};
+ghost use mathlib.Core.Bool.{not, _&&_};
+ghost use Rattle.chip.specs.Part.{m95512};
+ghost use Rattle.chip.specs.Status.{on};
+ghost use Rattle.chip.specs.Time.{timedMemory};
+ghost use Rattle.pins.specs.Events.{selecting, judgedNow, executedNow, decided, deselecting, onS, renewed, raising, lowering, onC, onD, onW, onHold, onTime, stepped, steppedMemory, eventOf};
+use crate::Device;
+use crate::Event;
+use crate::Frame;
+use crate::records::bit;
+use chip::Core;
+use chip::Instruction;
+use chip::Verdict;
+use chip::judge;
+
+impl Device {
+    // S falling selects and starts an empty frame; with C low and HOLD low it starts held.
+    fn selecting(mut self) -> Device
+        ensures { λ r. ⌜ r ≡ selecting m95512 self ⌝ }
+    {
+        let held = bit(!(self.pins.c == 1) & !(self.pins.hold == 1));
+        let empty = Frame::none();
+        self.pins.s = 0;
+        self.held = held;
+        self.frame = empty;
+        self
+    }
+
+    fn verdict_now(self) -> Verdict
+        ensures { λ r. ⌜ r ≡ judgedNow m95512 self ⌝ }
+    {
+        let core = self.core;
+        let bits = 8 * self.frame.taken as usize + self.frame.bits as usize;
+        let locked = (core.srwd == 1) & !(self.pins.w == 1);
+        let protected = core.protects(self.frame.address);
+        judge(
+            chip::decode(self.frame.code),
+            bits,
+            self.frame.ran == 1,
+            core.wel == 1,
+            locked,
+            protected,
+            self.held == 1,
+        )
+    }
+
+    fn executed_now(self) -> Core
+        ensures { λ r. ⌜ r ≡ executedNow m95512 self ⌝ }
+    {
+        let core = self.core;
+        let latch = self.frame.latch;
+        match chip::decode(self.frame.code) {
+            Instruction::Wren => core.with_wel(1),
+            Instruction::Wrdi => core.with_wel(0),
+            Instruction::Rdsr => core,
+            Instruction::Wrsr => core.begin_status(self.frame.value),
+            Instruction::Read => core,
+            Instruction::Write => core.begin_page(self.frame.address / 128, latch),
+            Instruction::Silence => core,
+        }
+    }
+
+    // What deselect decides.
+    fn decided(self) -> Core
+        ensures { λ r. ⌜ r ≡ decided m95512 self ⌝ }
+    {
+        let core = self.core;
+        if self.verdict_now().is_executed() {
+            return self.executed_now();
+        }
+        core
+    }
+
+    // S rising ends the frame and decides execution.
+    fn deselecting(mut self) -> Device
+        ensures { λ r. ⌜ r ≡ deselecting m95512 self ⌝ }
+    {
+        let core = self.decided();
+        let empty = Frame::none();
+        self.pins.s = 1;
+        self.held = 0;
+        self.frame = empty;
+        self.core = core;
+        self
+    }
+
+    pub(crate) fn on_s(self, level: bool) -> Device
+        ensures { λ r. ⌜ r ≡ onS m95512 level self ⌝ }
+    {
+        if self.pins.s == bit(level) {
+            return self;
+        }
+        if level {
+            return self.deselecting();
+        }
+        self.selecting()
+    }
+
+    // Held follows "HOLD is low" while C is low.
+    fn renewed(self) -> Device
+        ensures { λ r. ⌜ r ≡ renewed self ⌝ }
+    {
+        self.with_held(!(self.pins.s == 1) & !(self.pins.hold == 1))
+    }
+
+    fn raising(mut self) -> Device
+        ensures { λ r. ⌜ r ≡ raising m95512 self ⌝ }
+    {
+        let counted = self.counting();
+        let running = self.core.running();
+        let frame = self.frame;
+        let d = self.pins.d;
+        self.pins.c = 1;
+        if counted {
+            self.frame = frame.risen(running, d);
+            return self;
+        }
+        self
+    }
+
+    // A falling edge acts first by the old held value, then held is renewed.
+    fn lowering(mut self, memory: &[u8]) -> Device
+        ensures { λ r. ⌜ r ≡ lowering m95512 (now (memory .entry)) self ⌝ }
+    {
+        let counted = self.counting();
+        let core = self.core;
+        let frame = self.frame;
+        self.pins.c = 0;
+        if counted {
+            self.frame = frame.fallen(memory, core);
+            return self.renewed();
+        }
+        self.renewed()
+    }
+
+    pub(crate) fn on_c(self, level: bool, memory: &[u8]) -> Device
+        ensures { λ r. ⌜ r ≡ onC m95512 level (now (memory .entry)) self ⌝ }
+    {
+        if self.pins.c == bit(level) {
+            return self;
+        }
+        if level {
+            return self.raising();
+        }
+        self.lowering(memory)
+    }
+
+    pub(crate) fn on_d(mut self, level: bool) -> Device
+        ensures { λ r. ⌜ r ≡ onD level self ⌝ }
+    {
+        let d = bit(level);
+        self.pins.d = d;
+        self
+    }
+
+    pub(crate) fn on_w(mut self, level: bool) -> Device
+        ensures { λ r. ⌜ r ≡ onW level self ⌝ }
+    {
+        let w = bit(level);
+        self.pins.w = w;
+        self
+    }
+
+    // Held keeps its value while C is high.
+    pub(crate) fn on_hold(mut self, level: bool) -> Device
+        ensures { λ r. ⌜ r ≡ onHold level self ⌝ }
+    {
+        let hold = bit(level);
+        self.pins.hold = hold;
+        if self.pins.c == 1 {
+            return self;
+        }
+        self.renewed()
+    }
+
+    // Time passes always: selected, held or not.
+    pub(crate) fn on_time(mut self, reading: u32, memory: &mut [u8]) -> Device
+        ensures { λ r. ⌜ r ≡ onTime m95512 reading self ⌝ }
+        ensures { λ _. ⌜ now (memory .exit) ≡ timedMemory m95512 reading (self .core) (now (memory .entry)) ⌝ }
+    {
+        let core = self.core;
+        let next = core.timed(reading, memory);
+        self.core = next;
+        self
+    }
+
+    // One event of any kind.
+    pub(crate) fn stepped(self, event: Event, memory: &mut [u8]) -> Device
+        ensures { λ r. ⌜ r ≡ stepped m95512 (now (memory .entry)) event self ⌝ }
+        ensures { λ _. ⌜ now (memory .exit) ≡ steppedMemory m95512 event self (now (memory .entry)) ⌝ }
+    {
+        match event {
+            Event::S(level) => self.on_s(level),
+            Event::C(level) => self.on_c(level, memory),
+            Event::D(level) => self.on_d(level),
+            Event::W(level) => self.on_w(level),
+            Event::Hold(level) => self.on_hold(level),
+            Event::Time(reading) => self.on_time(reading, memory),
+        }
+    }
+}
+
+// Every number stands for one event: the low 32 bits are the reading, or the level in the lowest; the three above them are the kind.
+pub(crate) fn event_of(number: u64) -> Event
+    ensures { λ r. ⌜ r ≡ eventOf number ⌝ }
+{
+    let kind = number / 4294967296 % 8;
+    let level = number % 2 == 1;
+    match kind {
+        0 => Event::S(level),
+        1 => Event::C(level),
+        2 => Event::D(level),
+        3 => Event::W(level),
+        4 => Event::Hold(level),
+        _ => Event::Time((number % 4294967296) as u32),
+    }
+}

@@ -1,0 +1,145 @@
+// The public calls, for every input: refusal 1 where memory is lent, then 2, both with everything as it was; else the event.
+ghost use mathlib.Core.Path.{_≡_};
+ghost use Rattle.chip.specs.Part.{m95512};
+ghost use Rattle.chip.specs.Power.{powerUpNumber};
+ghost use Rattle.chip.specs.Refusals.{number};
+ghost use Rattle.chip.specs.Time.{timedMemory};
+ghost use Rattle.chip.specs.declared.Outcome.the-variants.{Done, Refused};
+ghost use Rattle.pins.specs.Events.{onS, onC, onD, onW, onHold, onTime};
+ghost use Rattle.pins.specs.Answers.{steppedTo, recordOutcome, memoryOutcome, recordNumber, memoryNumber, answer, answerMemory, qAnswer, qNumber, statusAnswer, statusNumber, powered};
+use crate::Device;
+use crate::QAnswer;
+use crate::StatusAnswer;
+use crate::Stepped;
+use chip::Outcome;
+use chip::Refusal;
+
+// Power-up: 6 and the delivered record for a cycle length that is not 1 to 5,000.
+pub fn power_up(cycle: u32, srwd: bool, bp1: bool, bp0: bool, reading: u32) -> Stepped
+    ensures { λ r. ⌜ r ≡ powered m95512 cycle srwd bp1 bp0 reading ⌝ }
+    ensures { λ r. ⌜ number (r .outcome) ≡ powerUpNumber m95512 cycle ⌝ }
+{
+    let p = chip::power_up(cycle, srwd, bp1, bp0, reading);
+    let outcome = p.outcome;
+    let core = p.core;
+    Stepped {
+        outcome: outcome,
+        device: Device::resting(core),
+    }
+}
+
+impl Device {
+    fn done(self) -> Stepped
+        ensures { λ r. ⌜ r ≡ steppedTo Done self ⌝ }
+    {
+        Stepped {
+            outcome: Outcome::Done,
+            device: self,
+        }
+    }
+
+    fn refused(self, refusal: Refusal) -> Stepped
+        ensures { λ r. ⌜ r ≡ steppedTo (Refused refusal) self ⌝ }
+    {
+        Stepped {
+            outcome: Outcome::Refused(refusal),
+            device: self,
+        }
+    }
+
+    // S to a level.
+    pub fn set_s(self, level: bool) -> Stepped
+        ensures { λ r. ⌜ r ≡ answer (recordOutcome m95512 self) (onS m95512 level self) self ⌝ }
+        ensures { λ r. ⌜ number (r .outcome) ≡ recordNumber m95512 self ⌝ }
+    {
+        if self.in_ranges() {
+            return self.on_s(level).done();
+        }
+        self.refused(Refusal::RecordRange)
+    }
+
+    // D to a level.
+    pub fn set_d(self, level: bool) -> Stepped
+        ensures { λ r. ⌜ r ≡ answer (recordOutcome m95512 self) (onD level self) self ⌝ }
+        ensures { λ r. ⌜ number (r .outcome) ≡ recordNumber m95512 self ⌝ }
+    {
+        if self.in_ranges() {
+            return self.on_d(level).done();
+        }
+        self.refused(Refusal::RecordRange)
+    }
+
+    // W to a level.
+    pub fn set_w(self, level: bool) -> Stepped
+        ensures { λ r. ⌜ r ≡ answer (recordOutcome m95512 self) (onW level self) self ⌝ }
+        ensures { λ r. ⌜ number (r .outcome) ≡ recordNumber m95512 self ⌝ }
+    {
+        if self.in_ranges() {
+            return self.on_w(level).done();
+        }
+        self.refused(Refusal::RecordRange)
+    }
+
+    // HOLD to a level.
+    pub fn set_hold(self, level: bool) -> Stepped
+        ensures { λ r. ⌜ r ≡ answer (recordOutcome m95512 self) (onHold level self) self ⌝ }
+        ensures { λ r. ⌜ number (r .outcome) ≡ recordNumber m95512 self ⌝ }
+    {
+        if self.in_ranges() {
+            return self.on_hold(level).done();
+        }
+        self.refused(Refusal::RecordRange)
+    }
+
+    // C to a level, with the memory that a READ shows.
+    pub fn set_c(self, level: bool, memory: &[u8]) -> Stepped
+        ensures { λ r. ⌜ r ≡ answer (memoryOutcome m95512 self (now (memory .entry))) (onC m95512 level (now (memory .entry)) self) self ⌝ }
+        ensures { λ r. ⌜ number (r .outcome) ≡ memoryNumber m95512 self (now (memory .entry)) ⌝ }
+    {
+        if memory.len() == 65536 {
+            if self.in_ranges() {
+                return self.on_c(level, memory).done();
+            }
+            return self.refused(Refusal::RecordRange);
+        }
+        self.refused(Refusal::MemoryLength)
+    }
+
+    // A clock reading, with the memory that the end of a cycle changes.
+    pub fn read_clock(self, reading: u32, memory: &mut [u8]) -> Stepped
+        ensures { λ r. ⌜ r ≡ answer (memoryOutcome m95512 self (now (memory .entry))) (onTime m95512 reading self) self ⌝ }
+        ensures { λ r. ⌜ number (r .outcome) ≡ memoryNumber m95512 self (now (memory .entry)) ⌝ }
+        ensures { λ _. ⌜ now (memory .exit) ≡ answerMemory (memoryOutcome m95512 self (now (memory .entry))) (timedMemory m95512 reading (self .core) (now (memory .entry))) (now (memory .entry)) ⌝ }
+    {
+        if memory.len() == 65536 {
+            if self.in_ranges() {
+                return self.on_time(reading, memory).done();
+            }
+            return self.refused(Refusal::RecordRange);
+        }
+        self.refused(Refusal::MemoryLength)
+    }
+
+    // Q: 0, 1 or Z.
+    pub fn q(self) -> QAnswer
+        ensures { λ r. ⌜ r ≡ qAnswer m95512 self ⌝ }
+        ensures { λ r. ⌜ qNumber r ≡ recordNumber m95512 self ⌝ }
+    {
+        if self.in_ranges() {
+            return QAnswer::Shows(self.shows());
+        }
+        QAnswer::Unanswered(Refusal::RecordRange)
+    }
+
+    // The status byte.
+    pub fn status(self) -> StatusAnswer
+        ensures { λ r. ⌜ r ≡ statusAnswer m95512 self ⌝ }
+        ensures { λ r. ⌜ statusNumber r ≡ recordNumber m95512 self ⌝ }
+    {
+        let core = self.core;
+        if self.in_ranges() {
+            return StatusAnswer::Byte(core.status());
+        }
+        StatusAnswer::Unanswered(Refusal::RecordRange)
+    }
+}
