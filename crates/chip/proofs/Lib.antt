@@ -6,3 +6,5 @@ pub mod Passing
 pub mod Cases
 pub mod Ones
 pub mod Numbers
+pub mod Judged
+pub mod Executed

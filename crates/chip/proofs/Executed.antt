@@ -1,0 +1,148 @@
+-- What an executed instruction leaves is inside the ranges, in both models.
+use mathlib.Core.Path.{_≡_, refl, sym, _∙_}
+use mathlib.Core.Bool.{Bool, true, false, not, _&&_, _||_, true≢false}
+use Prim.Native.Nat.{ℕ, _+_, _*_, _/_, _%_, _<_, _≤_}
+use native.Mathlib.Nat.{mod-lt}
+use native.Mathlib.Decide.{ℕ-discrete}
+use native.Mathlib.Omega.{arith}
+use lib.ListN.{length, getD, getD-replicate}
+use lib.Seq.{getD-set-same, getD-set-other}
+use lib.Dec.{leb, eqb}
+use borrow.Author.Tests.{le-leb, leb-true, lt-ltb, eq-eqb, not-false}
+use Rattle.laws.specs.Pick.{pick, at-yes, at-no, and-left, and-right, and-both}
+use Rattle.laws.specs.Each.{each-at, each-of}
+use Rattle.chip.specs.Part.{Part, m95512, pages}
+use Rattle.chip.specs.Status.{on, bitOf, writable}
+use Rattle.chip.specs.Latches.{zeros, noLatch, latched, cellFits, latchFits}
+use Rattle.chip.specs.Records.{running, nothing, statusWaits, pageWaits, waitsStatus, waitsPage, withWel, withCycle}
+use Rattle.chip.specs.Ranges.{valueFits, pageFits, waitFits}
+use Rattle.chip.specs.Verdicts.{verdict, isExecuted, needsNoCycle, needsWel}
+use Rattle.chip.specs.Effects.{effect}
+use Rattle.chip.specs.declared.Latch.{Latch}
+use Rattle.chip.specs.declared.Waiting.{Waiting}
+use Rattle.chip.specs.declared.Core.{Core}
+use Rattle.chip.specs.declared.Instruction.{Instruction}
+use Rattle.chip.specs.declared.Instruction.the-variants.{Wren, Wrdi, Rdsr, Wrsr, Read, Write, Silence}
+use Rattle.chip.proofs.Within.{Within, nothing-fits}
+use Rattle.chip.proofs.Judged.{passed}
+
+-- what is asked of a part: its memory is a whole number of pages, and there is one
+pub record Paged (P : Part) : Type 0 where
+  pub page : 0 < P .page
+  pub size : 0 < P .size
+  pub whole : pages P * P .page ≡ P .size
+
+pub m95512-paged : Paged m95512
+m95512-paged = record { page = omega arith; size = omega arith; whole = refl }
+
+-- ---- a latch
+
+pub none-latched : (P : Part) → latchFits P true (noLatch P) ≡ true
+unfolding zeros
+none-latched P = each-of (cellFits true (noLatch P)) (P .page) (λ i h. rw (getD-replicate {A = ℕ} (P .page) i 0 0 h) refl)
+
+or-more : (x y may : Bool) → (x || y && may) ≡ true → (x || y && true) ≡ true
+or-more true y may e = refl
+or-more false true may e = refl
+or-more false false may e = e
+
+-- where nothing may be marked nothing is, so it fits where something may be
+pub more-fits : (P : Part) (may : Bool) (l : Latch) → latchFits P may l ≡ true → latchFits P true l ≡ true
+more-fits P may l e =
+    each-of (cellFits true l) (P .page)
+    (λ i h. or-more (eqb (getD (l .marks) i 0) 0 && eqb (getD (l .bytes) i 0) 0) (eqb (getD (l .marks) i 0) 1) may (each-at (cellFits may l) (P .page) i e h))
+
+pub one-latched : (P : Part) (k v : ℕ) (l : Latch) → k < length (l .marks) → latchFits P true l ≡ true → latchFits P true (latched k v l) ≡ true
+one-latched P k v l h fits = each-of (cellFits true (latched k v l)) (P .page) at
+  where
+    at : (j : ℕ) → j < P .page → cellFits true (latched k v l) j ≡ true
+    at j b = elim (ℕ-discrete j k) [
+      | yes e ↦ rw (e, getD-set-same (l .marks) k 1 0 h) refl
+      | no e ↦ rw (getD-set-other (l .marks) k j 1 0 e, getD-set-other (l .bytes) k j v 0 e) (each-at (cellFits true l) (P .page) j fits b)
+    ]
+
+-- ---- what waits
+
+bit-7 : (a b d : ℕ) → a < 2 → b < 2 → d < 2 → bitOf 7 (128 * a + 8 * b + 4 * d) ≡ a
+bit-7 a b d h k m = omega arith
+
+bit-3 : (a b d : ℕ) → a < 2 → b < 2 → d < 2 → bitOf 3 (128 * a + 8 * b + 4 * d) ≡ b
+bit-3 a b d h k m = omega arith
+
+bit-2 : (a b d : ℕ) → a < 2 → b < 2 → d < 2 → bitOf 2 (128 * a + 8 * b + 4 * d) ≡ d
+bit-2 a b d h k m = omega arith
+
+bit-small : (k v : ℕ) → bitOf k v < 2
+bit-small k v = mod-lt _ (omega arith)
+
+-- the writable bits of a value are all writable
+pub writable-twice : (v : ℕ) → writable (writable v) ≡ writable v
+writable-twice v =
+    rw (bit-7 (bitOf 7 v) (bitOf 3 v) (bitOf 2 v) (bit-small 7 v) (bit-small 3 v) (bit-small 2 v), bit-3 (bitOf 7 v) (bitOf 3 v) (bitOf 2 v) (bit-small 7 v) (bit-small 3 v) (bit-small 2 v), bit-2 (bitOf 7 v) (bitOf 3 v) (bitOf 2 v) (bit-small 7 v) (bit-small 3 v) (bit-small 2 v))
+
+status-fits : (P : Part) (v : ℕ) → waitFits P (statusWaits P v) ≡ true
+unfolding pick
+status-fits P v =
+    and-both (valueFits (statusWaits P v) && pageFits P (statusWaits P v)) (latchFits P false (noLatch P))
+    (and-both (valueFits (statusWaits P v)) true (eq-eqb _ _ (writable-twice v)) refl)
+    (and-right (valueFits (nothing P) && pageFits P (nothing P)) (latchFits P false (noLatch P)) (nothing-fits P))
+
+page-fits : (P : Part) (p : ℕ) (l : Latch) → p < pages P → latchFits P true l ≡ true → waitFits P (pageWaits p l) ≡ true
+unfolding pick
+page-fits P p l h fits =
+    and-both (valueFits (pageWaits p l) && pageFits P (pageWaits p l)) (latchFits P true l)
+    (and-both (valueFits (pageWaits p l)) (pageFits P (pageWaits p l)) refl (lt-ltb p (pages P) h)) fits
+
+-- ---- what an executed instruction leaves
+
+module _ (P : Part) (c : Core) where
+  -- WEL set or cleared while no cycle runs
+  wel-within : (v : ℕ) → v ≤ 1 → running c ≡ false → Within P c → Within P (withWel v c)
+  wel-within v h quiet w =
+      record {
+        flags =
+            and-both (leb (c .srwd) 1 && leb (c .bp1) 1 && leb (c .bp0) 1) (leb v 1)
+            (and-left (leb (c .srwd) 1 && leb (c .bp1) 1 && leb (c .bp0) 1) (leb (c .wel) 1) (w .flags)) (le-leb v 1 h);
+        cycle = w .cycle;
+        left = w .left;
+        tie = at-no _ _ quiet ∙ sym (at-no _ _ quiet) ∙ w .tie;
+        waits = w .waits;
+      }
+
+  -- a cycle begun while WEL is on
+  cycle-within : (x : Waiting) → on (c .wel) ≡ true → (waitsStatus x || waitsPage x) ≡ true → waitFits P x ≡ true → Within P c → Within P (withCycle x c)
+  cycle-within x wel one fits w =
+      let some : 0 < c .cycle = leb-true 1 (c .cycle) (and-left (leb 1 (c .cycle)) (leb (c .cycle) (P .longest)) (w .cycle)) in
+      record {
+        flags = w .flags;
+        cycle = w .cycle;
+        left = omega arith;
+        tie = at-yes _ _ (lt-ltb 0 (c .cycle) some) ∙ and-both (on (c .wel)) (waitsStatus x || waitsPage x) wel one;
+        waits = fits;
+      }
+
+-- the record, by the instruction: no cycle runs where there must be none, WEL is on where it must be
+module _ (P : Part) (v p : ℕ) (l : Latch) (c : Core) (below : p < pages P) (fits : latchFits P true l ≡ true) where
+  pub effect-within : (i : Instruction) → (needsNoCycle i && running c) ≡ false → (needsWel i && not (on (c .wel))) ≡ false → Within P c
+      → Within P (effect P i v p l c)
+  effect-within Wren free wel w = wel-within P c 1 (omega arith) free w
+  effect-within Wrdi free wel w = wel-within P c 0 (omega arith) free w
+  effect-within Rdsr free wel w = w
+  effect-within Wrsr free wel w = cycle-within P c (statusWaits P v) (not-false _ wel) refl (status-fits P v) w
+  effect-within Read free wel w = w
+  effect-within Write free wel w = cycle-within P c (pageWaits p l) (not-false _ wel) refl (page-fits P p l below fits) w
+  effect-within Silence free wel w = w
+
+-- a cycle that runs did so at the eighth edge
+still-free : (t ran run : Bool) → (run ≡ true → ran ≡ true) → (t && ran) ≡ false → (t && run) ≡ false
+still-free true ran true h e = absurd (true≢false (sym (h refl) ∙ e))
+still-free true ran false h e = refl
+still-free false ran run h e = refl
+
+-- a frame that is judged executed leaves a record inside the ranges: its page is one of the memory's, its latch fits
+pub executed-within : (P : Part) (i : Instruction) (n : ℕ) (ran locked protected held : Bool) (v p : ℕ) (l : Latch) (c : Core)
+    → isExecuted (verdict P i n ran (on (c .wel)) locked protected held) ≡ true → (running c ≡ true → ran ≡ true)
+    → p < pages P → latchFits P true l ≡ true → Within P c → Within P (effect P i v p l c)
+executed-within P i n ran locked protected held v p l c e h below fits w =
+    let t = passed P i n ran (on (c .wel)) locked protected held e in
+    effect-within P v p l c below fits i (still-free (needsNoCycle i) ran (running c) h (t .free)) (t .enabled) w

@@ -1,0 +1,73 @@
+-- A frame that is not executed leaves the record as it was, WEL and what waits with it. (That a frame never touches the memory is in its type:
+-- the memory is lent for reading.)
+use mathlib.Core.Path.{_≡_, refl, ap, sym, _∙_}
+use mathlib.Core.Bool.{Bool, true, false, not, _&&_, true≢false}
+use mathlib.Core.List.{List}
+use Prim.Native.Nat.{ℕ}
+use lib.ListN.{length}
+use Rattle.laws.specs.Pick.{at-no, and-both, pick-same}
+use Rattle.chip.specs.Part.{Part}
+use Rattle.chip.specs.Status.{on}
+use Rattle.chip.specs.Protect.{protects}
+use Rattle.chip.specs.Records.{running}
+use Rattle.chip.specs.Refusals.{isDone}
+use Rattle.chip.specs.Verdicts.{isExecuted, needsNoCycle, needsWel, countFits, guarded, isUnknown}
+use Rattle.chip.specs.declared.Core.{Core}
+use Rattle.chip.specs.declared.Instruction.the-variants.{Write}
+use Rattle.frames.specs.Bytes.{instruction, address}
+use Rattle.frames.specs.After.{judged, after}
+use Rattle.frames.specs.Answers.{frameOutcome, framed, framedOutput}
+use Rattle.chip.proofs.Judged.{Passed, passed}
+
+-- a test that cannot have passed failed
+failed : (t : Bool) → (t ≡ true → ⊥) → t ≡ false
+failed true h = absurd (h refl)
+failed false h = refl
+
+module _ (P : Part) (ran w : Bool) (c : Core) (s : List ℕ) (n : ℕ) where
+  -- the tests that it passed, were it executed
+  abbrev Tests : Type 0
+  Tests = Passed P (instruction s) n ran (on (c .wel)) (on (c .srwd) && not w) (protects P c (address P s)) false
+
+  pub ignored : isExecuted (judged P ran w c s n) ≡ false → after P ran w c s n ≡ c
+  ignored e = at-no _ _ e
+
+  pub ignored-wel : isExecuted (judged P ran w c s n) ≡ false → after P ran w c s n .wel ≡ c .wel
+  ignored-wel e = ap (λ (x : Core). x .wel) (ignored e)
+
+  unpassed : (Tests → ⊥) → after P ran w c s n ≡ c
+  unpassed h = ignored (failed (isExecuted (judged P ran w c s n)) (λ e. h (passed P (instruction s) n ran (on (c .wel)) (on (c .srwd) && not w) (protects P c (address P s)) false e)))
+
+  -- by the test that fails: a cycle ran, WEL is off, the count is wrong, W or the protection stops it, the code is none
+  pub while-cycle : needsNoCycle (instruction s) ≡ true → ran ≡ true → after P ran w c s n ≡ c
+  while-cycle p q = unpassed (λ t. true≢false (sym (and-both _ _ p q) ∙ t .free))
+
+  pub while-wel-off : needsWel (instruction s) ≡ true → on (c .wel) ≡ false → after P ran w c s n ≡ c
+  while-wel-off p q = unpassed (λ t. true≢false (sym (and-both _ _ p (ap not q)) ∙ t .enabled))
+
+  pub miscounted : countFits P (instruction s) n ≡ false → after P ran w c s n ≡ c
+  miscounted p = unpassed (λ t. true≢false (sym (t .counted) ∙ p))
+
+  pub stopped : guarded (instruction s) (on (c .srwd) && not w) (protects P c (address P s)) ≡ true → after P ran w c s n ≡ c
+  stopped p = unpassed (λ t. true≢false (sym p ∙ t .unguarded))
+
+  pub silent : isUnknown (instruction s) ≡ true → after P ran w c s n ≡ c
+  silent p = unpassed (λ t. true≢false (sym p ∙ t .known))
+
+  -- a WRITE while a cycle ran leaves what waits alone
+  pub write-while-cycle : instruction s ≡ Write → ran ≡ true → after P ran w c s n .waits ≡ c .waits
+  write-while-cycle i q = ap (λ (x : Core). x .waits) (while-cycle (ap needsNoCycle i) q)
+
+-- the public call: a refused frame leaves the record and the output as they were, and one that is not executed the record
+module _ (P : Part) (c : Core) (m : List ℕ) (w : Bool) (s : List ℕ) (n : ℕ) (out : List ℕ) where
+  pub refused-core : isDone (frameOutcome P c (length m) (length s) n (length out)) ≡ false → framed P c m w s n (length out) .core ≡ c
+  unfolding framed
+  refused-core e = at-no _ _ e
+
+  pub refused-output : isDone (frameOutcome P c (length m) (length s) n (length out)) ≡ false → framedOutput P c m s n out ≡ out
+  unfolding framedOutput
+  refused-output e = at-no _ _ e
+
+  pub ignored-core : isExecuted (judged P (running c) w c s n) ≡ false → framed P c m w s n (length out) .core ≡ c
+  unfolding framed
+  ignored-core e = rw (ignored P (running c) w c s n e) (pick-same _ c)

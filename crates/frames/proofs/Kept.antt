@@ -1,0 +1,57 @@
+-- Every record that a frame hands back is inside the ranges.
+use mathlib.Core.Path.{_≡_, _∙_}
+use mathlib.Core.Bool.{Bool, true, false, not, _&&_}
+use mathlib.Core.List.{List, [], _∷_}
+use Prim.Native.Nat.{ℕ, zero, suc, _+_, _*_, _/_, _%_, _<_}
+use native.Mathlib.Nat.{mod-lt, div-lt-iff-lt-mul}
+use lib.ListN.{length, getD, length-set, length-replicate}
+use Rattle.laws.specs.Pick.{pick-case}
+use Rattle.chip.specs.Part.{Part, pages}
+use Rattle.chip.specs.Status.{on}
+use Rattle.chip.specs.Latches.{zeros, noLatch, latched, latchFits}
+use Rattle.chip.specs.Records.{running}
+use Rattle.chip.specs.Protect.{protects}
+use Rattle.chip.specs.Verdicts.{isExecuted}
+use Rattle.chip.specs.Refusals.{isDone}
+use Rattle.chip.specs.declared.Latch.{Latch}
+use Rattle.chip.specs.declared.Core.{Core}
+use Rattle.chip.proofs.Within.{Within}
+use Rattle.chip.proofs.Executed.{Paged, none-latched, one-latched, executed-within}
+use Rattle.frames.specs.Bytes.{instruction, address, addressTo, payload, latchedFrom, written}
+use Rattle.frames.specs.After.{judged, after}
+use Rattle.frames.specs.Answers.{frameOutcome, framed}
+
+-- ---- a frame's page and its latch
+
+pub address-below : (P : Part) (s : List ℕ) → 0 < P .size → (k : ℕ) → addressTo P s k < P .size
+address-below P s h zero = h
+address-below P s h (suc k) = mod-lt (addressTo P s k * 256 + getD s (suc k) 0) h
+
+pub page-below : (P : Part) (s : List ℕ) → Paged P → address P s / P .page < pages P
+page-below P s h = div-lt-iff-lt-mul (h .page) .1 (rw (h .whole) (address-below P s (h .size) (P .addressBytes)))
+
+all-latched : (P : Part) (i : ℕ) (vs : List ℕ) (l : Latch) → 0 < P .page → length (l .marks) ≡ P .page → latchFits P true l ≡ true
+    → latchFits P true (latchedFrom P i vs l) ≡ true
+unfolding latchedFrom
+all-latched P i [] l h e fits = fits
+all-latched P i (v ∷ vs) l h e fits =
+    let below : i % P .page < length (l .marks) = rw e (mod-lt i h) in
+    all-latched P (suc i) vs (latched (i % P .page) v l) h (length-set (l .marks) (i % P .page) 1 ∙ e) (one-latched P (i % P .page) v l below fits)
+
+pub written-fits : (P : Part) (s : List ℕ) → 0 < P .page → latchFits P true (written P s) ≡ true
+unfolding zeros
+written-fits P s h = all-latched P _ (payload P s) (noLatch P) h (length-replicate (P .page) 0) (none-latched P)
+
+module _ (P : Part) (sized : Paged P) (w : Bool) (c : Core) (s : List ℕ) (n : ℕ) where
+  pub after-within : (ran : Bool) → (running c ≡ true → ran ≡ true) → Within P c → Within P (after P ran w c s n)
+  after-within ran h k =
+      pick-case (Within P) (isExecuted (judged P ran w c s n))
+      (λ e. executed-within P (instruction s) n ran (on (c .srwd) && not w) (protects P c (address P s)) false
+      (getD s 1 0) (address P s / P .page) (written P s) c e h (page-below P s sized) (written-fits P s (sized .page)) k)
+      (λ e. k)
+
+  -- the public call: what it hands back of a record inside the ranges
+  pub framed-within : (m : List ℕ) (room : ℕ) → Within P c → Within P (framed P c m w s n room .core)
+  unfolding framed
+  framed-within m room k =
+      pick-case (Within P) (isDone (frameOutcome P c (length m) (length s) n room)) (λ e. after-within (running c) (λ r. r) k) (λ e. k)

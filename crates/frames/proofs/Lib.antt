@@ -1,0 +1,10 @@
+pub mod Latching
+pub mod Padding
+pub mod Showing
+pub mod Outcomes
+pub mod Ones
+pub mod Kept
+pub mod Ignored
+pub mod Cases
+pub mod Undriven
+pub mod CellRule

@@ -1,0 +1,27 @@
+-- What a frame of n bits leaves in the record. "No cycle" at the eighth edge (ran) and the level of W are arguments.
+use Prim.Native.Nat.{ℕ, _/_}
+use mathlib.Core.Bool.{Bool, false, not, _&&_}
+use mathlib.Core.List.{List}
+use lib.ListN.{getD}
+use Rattle.laws.specs.Pick.{pick}
+use Rattle.chip.specs.Part.{Part}
+use Rattle.chip.specs.Status.{on}
+use Rattle.chip.specs.Protect.{protects}
+use Rattle.chip.specs.Verdicts.{verdict, isExecuted}
+use Rattle.chip.specs.Effects.{effect}
+use Rattle.chip.specs.declared.Core.{Core}
+use Rattle.chip.specs.declared.Verdict.{Verdict}
+use Rattle.frames.specs.Bytes.{instruction, address, written}
+
+-- HOLD is high throughout, so the frame is never held
+abbrev pub judged : Part → Bool → Bool → Core → List ℕ → ℕ → Verdict
+judged P ran w c s n =
+    verdict P (instruction s) n ran (on (c .wel)) (on (c .srwd) && not w) (protects P c (address P s)) false
+
+-- what the instruction does where it is executed
+abbrev pub executed : Part → Core → List ℕ → Core
+executed P c s = effect P (instruction s) (getD s 1 0) (address P s / P .page) (written P s) c
+
+-- a frame that is not executed leaves the record as it was
+abbrev pub after : Part → Bool → Bool → Core → List ℕ → ℕ → Core
+after P ran w c s n = pick (isExecuted (judged P ran w c s n)) (executed P c s) c

@@ -1,0 +1,77 @@
+-- The public frame call, for every input: the refusals in their order, the answer, the record and the output.
+use Prim.Native.Nat.{ℕ, _+_, _*_, _-_}
+use mathlib.Core.Bool.{Bool, true, false, _&&_}
+use mathlib.Core.List.{List}
+use lib.ListN.{length}
+use lib.Dec.{eqb, leb}
+use Rattle.laws.specs.Pick.{pick}
+use Rattle.chip.specs.Part.{Part}
+use Rattle.chip.specs.Records.{running, status}
+use Rattle.chip.specs.Ranges.{inRanges}
+use Rattle.chip.specs.Refusals.{refusalNumber, isDone}
+use Rattle.chip.specs.declared.Core.{Core}
+use Rattle.chip.specs.declared.Refusal.{Refusal}
+use Rattle.chip.specs.declared.Refusal.the-variants.{MemoryLength, RecordRange, FrameLength, BitCount, OutputLength}
+use Rattle.chip.specs.declared.Outcome.{Outcome}
+use Rattle.chip.specs.declared.Outcome.the-variants.{Done, Refused}
+use Rattle.frames.specs.declared.Answer.{Answer}
+use Rattle.frames.specs.declared.Answer.the-variants.{Shown, Unshown}
+use Rattle.frames.specs.declared.Framed.{Framed}
+use Rattle.frames.specs.Bytes.{instruction}
+use Rattle.frames.specs.After.{after}
+use Rattle.frames.specs.Shown.{output, undriven}
+
+-- a bit count that fits: 0 for an empty slice, else from 8·length − 7 to 8·length
+abbrev pub bitsFit : ℕ → ℕ → Bool
+bitsFit len n = pick (eqb len 0) (eqb n 0) (leb (8 * len - 7) n && leb n (8 * len))
+
+-- the longest frame: the memory's size and four bytes more
+abbrev pub longestFrame : Part → ℕ
+longestFrame P = P .size + 4
+
+-- 1, 2, 3, 4, 5 in that order; size is the memory's length, len the slice's, room the output's
+abbrev pub frameOutcome : Part → Core → ℕ → ℕ → ℕ → ℕ → Outcome
+frameOutcome P c size len n room =
+    pick (eqb size (P .size))
+    (pick (inRanges P c)
+    (pick (leb len (longestFrame P))
+    (pick (bitsFit len n) (pick (eqb room len) Done (Refused OutputLength)) (Refused BitCount))
+    (Refused FrameLength))
+    (Refused RecordRange))
+    (Refused MemoryLength)
+
+-- the answer of a frame: how many leading bits were undriven, or the refusal
+abbrev pub answered : Outcome → ℕ → Answer
+answered Done u = Shown u
+answered (Refused r) u = Unshown r
+
+-- its number in document 01, and its value: every count is 0 in a refusal
+abbrev pub answerNumber : Answer → ℕ
+answerNumber (Shown u) = 0
+answerNumber (Unshown r) = refusalNumber r
+
+abbrev pub answerUndriven : Answer → ℕ
+answerUndriven (Shown u) = u
+answerUndriven (Unshown r) = 0
+
+-- no time passes inside a frame: "no cycle" and the status are those of the record
+unfoldable pub framed : Part → Core → List ℕ → Bool → List ℕ → ℕ → ℕ → Framed
+framed P c m w s n room =
+    let o = frameOutcome P c (length m) (length s) n room in
+    record {
+      answer = answered o (undriven P (instruction s) (running c) n);
+      core = pick (isDone o) (after P (running c) w c s n) c;
+    }
+
+unfoldable pub framedOutput : Part → Core → List ℕ → List ℕ → ℕ → List ℕ → List ℕ
+framedOutput P c m s n out =
+    pick (isDone (frameOutcome P c (length m) (length s) n (length out))) (output P (running c) (λ j. status c) m s n) out
+
+-- the number of the answer, and its undriven count
+abbrev pub frameNumber : Part → Core → ℕ → ℕ → ℕ → ℕ → ℕ
+frameNumber P c size len n room =
+    pick (eqb size (P .size)) (pick (inRanges P c) (pick (leb len (longestFrame P)) (pick (bitsFit len n) (pick (eqb room len) 0 5) 4) 3) 2) 1
+
+abbrev pub frameUndriven : Part → Core → ℕ → List ℕ → ℕ → ℕ → ℕ
+frameUndriven P c size s n room =
+    pick (isDone (frameOutcome P c size (length s) n room)) (undriven P (instruction s) (running c) n) 0

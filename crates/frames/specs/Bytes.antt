@@ -1,0 +1,32 @@
+-- The bytes of a frame: the code, the address, the data. A byte that the frame lacks reads 0.
+use Prim.Native.Nat.{ℕ, zero, suc, _+_, _*_, _%_}
+use mathlib.Core.List.{List, [], _∷_}
+use lib.ListN.{getD, drop}
+use Rattle.chip.specs.Part.{Part}
+use Rattle.chip.specs.Instructions.{decode}
+use Rattle.chip.specs.Latches.{latched, noLatch}
+use Rattle.chip.specs.declared.Latch.{Latch}
+use Rattle.chip.specs.declared.Instruction.{Instruction}
+
+abbrev pub instruction : List ℕ → Instruction
+instruction s = decode (getD s 0 0)
+
+-- the first k address bytes, high byte first
+abbrev pub addressTo : Part → List ℕ → ℕ → ℕ
+addressTo P s zero = 0
+addressTo P s (suc k) = (addressTo P s k * 256 + getD s (suc k) 0) % P .size
+
+abbrev pub address : Part → List ℕ → ℕ
+address P s = addressTo P s (P .addressBytes)
+
+-- what follows the address
+abbrev pub payload : Part → List ℕ → List ℕ
+payload P s = drop (P .addressBytes) (drop 1 s)
+
+-- data byte i goes to the page's cell (start offset + i) mod page; the latest byte for a cell wins
+unfoldable pub latchedFrom : Part → ℕ → List ℕ → Latch → Latch
+latchedFrom P i [] l = l
+latchedFrom P i (v ∷ vs) l = latchedFrom P (suc i) vs (latched (i % P .page) v l)
+
+abbrev pub written : Part → List ℕ → Latch
+written P s = latchedFrom P (address P s % P .page) (payload P s) (noLatch P)

@@ -1,0 +1,57 @@
+-- Any list of frames and clock readings, played over a record and a memory; and which cells its executed WRITEs address.
+use Prim.Native.Nat.{ℕ, _*_, _-_, _/_}
+use mathlib.Core.Bool.{Bool, true, false, _&&_, _||_}
+use mathlib.Core.List.{List, [], _∷_}
+use Rattle.chip.specs.Part.{Part}
+use Rattle.chip.specs.Latches.{inPage, marked}
+use Rattle.chip.specs.Records.{running}
+use Rattle.chip.specs.Verdicts.{isExecuted}
+use Rattle.chip.specs.Time.{timed, timedMemory}
+use Rattle.chip.specs.declared.Core.{Core}
+use Rattle.chip.specs.declared.Instruction.{Instruction}
+use Rattle.chip.specs.declared.Instruction.the-variants.{Wren, Wrdi, Rdsr, Wrsr, Read, Write, Silence}
+use Rattle.frames.specs.Bytes.{instruction, address, written}
+use Rattle.frames.specs.After.{judged, after}
+
+pub data Act : Type 0 where
+  -- the level of W, the bytes, the bit count
+  frame : Bool → List ℕ → ℕ → Act
+  -- the clock reads so much
+  reading : ℕ → Act
+
+-- a device with its memory
+pub record Device : Type 0 where
+  pub core : Core
+  pub memory : List ℕ
+
+abbrev pub acted : Part → Act → Device → Device
+acted P (frame w s n) d = record { core = after P (running (d .core)) w (d .core) s n; memory = d .memory }
+acted P (reading t) d = record { core = timed P t (d .core); memory = timedMemory P t (d .core) (d .memory) }
+
+abbrev pub played : Part → List Act → Device → Device
+played P [] d = d
+played P (a ∷ acts) d = played P acts (acted P a d)
+
+-- ---- the cells that executed WRITE frames address
+
+abbrev pub isWrite : Instruction → Bool
+isWrite Wren = false
+isWrite Wrdi = false
+isWrite Rdsr = false
+isWrite Wrsr = false
+isWrite Read = false
+isWrite Write = true
+isWrite Silence = false
+
+-- an executed WRITE whose page has cell i, with a data byte for it
+abbrev pub addresses : Part → Act → Core → ℕ → Bool
+addresses P (frame w s n) c i =
+    isExecuted (judged P (running c) w c s n)
+    && isWrite (instruction s)
+    && inPage P (address P s / P .page) i
+    && marked (written P s) (i - address P s / P .page * P .page)
+addresses P (reading t) c i = false
+
+abbrev pub addressed : Part → List Act → Device → ℕ → Bool
+addressed P [] d i = false
+addressed P (a ∷ acts) d i = addresses P a (d .core) i || addressed P acts (acted P a d) i

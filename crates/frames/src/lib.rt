@@ -1,0 +1,63 @@
+// The quick model of the M95512: it takes whole frames.
+//
+// Public calls, each for every input: frame, here, and chip's power_up and clock_reading, whose record this model holds.
+ghost use mathlib.Core.Path.{_≡_};
+ghost use lib.ListN.{length};
+ghost use Rattle.chip.specs.Part.{m95512};
+ghost use Rattle.chip.specs.Records.{running, status};
+ghost use Rattle.frames.specs.Bytes.{instruction};
+ghost use Rattle.frames.specs.After.{after};
+ghost use Rattle.frames.specs.Shown.{output, undriven};
+ghost use Rattle.frames.specs.Answers.{frameOutcome, framed, framedOutput, answerNumber, answerUndriven, frameNumber, frameUndriven};
+use chip::Core;
+use chip::Outcome;
+use chip::Refusal;
+
+mod answers;
+mod executed;
+mod fields;
+mod refused;
+mod shown;
+
+// How many leading bits of the count were undriven, or the refusal.
+pub enum Answer {
+    Shown(usize),
+    Unshown(Refusal),
+}
+
+pub struct Framed {
+    pub answer: Answer,
+    pub core: Core,
+}
+
+// A frame for every record, memory, level of W, slice, bit count and output. Refusals 1, 2, 3, 4 and 5 in that order leave the record and the
+// output as they were; else the output has Q as it stands just before each counted edge, undriven bits and bits past the count at 1.
+pub fn frame(
+    core: Core,
+    memory: &[u8],
+    w: bool,
+    bytes: &[u8],
+    bits: usize,
+    out: &mut [u8],
+) -> Framed
+    ensures { λ r. ⌜ r ≡ framed m95512 core (now (memory .entry)) w (now (bytes .entry)) bits (length (now (out .entry))) ⌝ }
+    ensures { λ r. ⌜ answerNumber (r .answer) ≡ frameNumber m95512 core (length (now (memory .entry))) (length (now (bytes .entry))) bits (length (now (out .entry))) ⌝ }
+    ensures { λ r. ⌜ answerUndriven (r .answer) ≡ frameUndriven m95512 core (length (now (memory .entry))) (now (bytes .entry)) bits (length (now (out .entry))) ⌝ }
+    ensures { λ _. ⌜ now (out .exit) ≡ framedOutput m95512 core (now (memory .entry)) (now (bytes .entry)) bits (now (out .entry)) ⌝ }
+{
+    match refused::outcome(core, memory.len(), bytes.len(), bits, out.len()) {
+        Outcome::Done => {
+            let ran = core.running();
+            let i = fields::instruction_of(bytes);
+            shown::show(i, ran, core.status(), memory, bytes, bits, out);
+            Framed {
+                answer: Answer::Shown(shown::undriven(i, ran, bits)),
+                core: executed::after(core, w, bytes, bits),
+            }
+        }
+        Outcome::Refused(r) => Framed {
+            answer: Answer::Unshown(r),
+            core: core,
+        },
+    }
+}
