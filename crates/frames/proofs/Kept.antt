@@ -2,7 +2,7 @@
 use mathlib.Core.Path.{_≡_, _∙_}
 use mathlib.Core.Bool.{Bool, true, false, not, _&&_}
 use mathlib.Core.List.{List, [], _∷_}
-use Prim.Native.Nat.{ℕ, zero, suc, _+_, _*_, _/_, _%_, _<_}
+use Prim.Native.Nat.{ℕ, zero, suc, _+_, _*_, _-_, _/_, _%_, _^_, _<_}
 use native.Mathlib.Nat.{mod-lt, div-lt-iff-lt-mul}
 use lib.ListN.{length, getD, length-set, length-replicate}
 use Rattle.laws.specs.Pick.{pick-case}
@@ -25,7 +25,7 @@ use Rattle.frames.specs.Answers.{frameOutcome, framed}
 
 pub address-below : (P : Part) (s : List ℕ) → 0 < P .size → (k : ℕ) → addressTo P s k < P .size
 address-below P s h zero = h
-address-below P s h (suc k) = mod-lt (addressTo P s k * 256 + getD s (suc k) 0) h
+address-below P s h (suc k) = mod-lt (addressTo P s k + getD s (suc k) 0 * 256 ^ (P .addressBytes - suc k)) h
 
 pub page-below : (P : Part) (s : List ℕ) → Paged P → address P s / P .page < pages P
 page-below P s h = div-lt-iff-lt-mul (h .page) .1 (rw (h .whole) (address-below P s (h .size) (P .addressBytes)))

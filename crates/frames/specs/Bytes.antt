@@ -1,5 +1,5 @@
 -- The bytes of a frame: the code, the address, the data. A byte that the frame lacks reads 0.
-use Prim.Native.Nat.{ℕ, zero, suc, _+_, _*_, _%_}
+use Prim.Native.Nat.{ℕ, zero, suc, _+_, _*_, _-_, _%_, _^_}
 use mathlib.Core.List.{List, [], _∷_}
 use lib.ListN.{getD, drop}
 use Rattle.chip.specs.Part.{Part}
@@ -11,10 +11,10 @@ use Rattle.chip.specs.declared.Instruction.{Instruction}
 abbrev pub instruction : List ℕ → Instruction
 instruction s = decode (getD s 0 0)
 
--- the first k address bytes, high byte first
+-- the first k address bytes, high byte first, each in its place
 abbrev pub addressTo : Part → List ℕ → ℕ → ℕ
 addressTo P s zero = 0
-addressTo P s (suc k) = (addressTo P s k * 256 + getD s (suc k) 0) % P .size
+addressTo P s (suc k) = (addressTo P s k + getD s (suc k) 0 * 256 ^ (P .addressBytes - suc k)) % P .size
 
 abbrev pub address : Part → List ℕ → ℕ
 address P s = addressTo P s (P .addressBytes)

@@ -51,8 +51,11 @@ abbrev pub levelOf : ℕ → Level
 levelOf b = pick (eqb b 1) One Zero
 
 -- Z when not selected, when held and outside data output; k bits shown: bit 8 − k shows
+abbrev pub levelShown : ℕ → ℕ → ℕ → ℕ → Level
+levelShown s held shown out = pick (not (on s) && not (on held) && leb 1 shown) (levelOf (bitOf (8 - shown) out)) Z
+
 unfoldable pub q : Device → Level
-q x = pick (counting x && leb 1 (x .frame .shown)) (levelOf (bitOf (8 - x .frame .shown) (x .frame .out))) Z
+q x = levelShown (x .pins .s) (x .held) (x .frame .shown) (x .frame .out)
 
 -- the values of document 01: 0, 1 and Z, which is 2 where a number is wanted
 abbrev pub levelNumber : Level → ℕ

@@ -1,5 +1,5 @@
 -- The ranges and ties that document 01 lists for the device, and no more. A record outside them gets refusal 2.
-use Prim.Native.Nat.{ℕ, _+_, _-_, _*_, _^_}
+use Prim.Native.Nat.{ℕ, _+_, _-_, _%_, _^_}
 use mathlib.Core.Bool.{Bool, true, false, not, _&&_, _||_}
 use lib.Dec.{eqb, leb, ltb}
 use Rattle.laws.specs.Pick.{pick}
@@ -37,19 +37,15 @@ countsFit P f = leb (f .taken) (P .most) && partFits (f .bits) (f .part)
 abbrev pub codeFits : Frame → Bool
 codeFits f = pick (eqb (f .taken) 0) (eqb (f .code) 0 && eqb (f .ran) 0) (leb (f .ran) 1)
 
--- the address of READ and WRITE is below the memory's size once all its bytes are taken, and below 256 to the number taken before
-abbrev pub addressBelow : Part → ℕ → ℕ
-addressBelow P n = pick (ltb (P .addressBytes) n) (P .size) (256 ^ (n - 1))
-
--- of the others it is 0
-abbrev pub addressMost : Part → Instruction → ℕ → ℕ
-addressMost P Wren n = 1
-addressMost P Wrdi n = 1
-addressMost P Rdsr n = 1
-addressMost P Wrsr n = 1
-addressMost P Read n = addressBelow P n
-addressMost P Write n = addressBelow P n
-addressMost P Silence n = 1
+-- the address of READ and WRITE: below the memory's size, with the bytes that are not yet taken at 0; of the others it is 0
+abbrev pub addressFits : Part → Instruction → ℕ → ℕ → Bool
+addressFits P Wren n a = eqb a 0
+addressFits P Wrdi n a = eqb a 0
+addressFits P Rdsr n a = eqb a 0
+addressFits P Wrsr n a = eqb a 0
+addressFits P Read n a = ltb a (P .size) && eqb (a % 256 ^ (P .addressBytes + 1 - n)) 0
+addressFits P Write n a = ltb a (P .size) && eqb (a % 256 ^ (P .addressBytes + 1 - n)) 0
+addressFits P Silence n a = eqb a 0
 
 -- the data byte of WRSR: from two whole bytes on
 abbrev pub valued : Instruction → ℕ → Bool
@@ -77,7 +73,7 @@ outFits P i f = pick (eqb (f .shown) 0) (eqb (f .out) 0) (leb (f .shown) 8 && ou
 
 abbrev pub fieldsFit : Part → Instruction → Frame → Bool
 fieldsFit P i f =
-    ltb (f .address) (addressMost P i (f .taken)) && (valued i (f .taken) || eqb (f .value) 0) && outFits P i f && latchFits P (latches P i (f .taken)) (f .latch)
+    addressFits P i (f .taken) (f .address) && (valued i (f .taken) || eqb (f .value) 0) && outFits P i f && latchFits P (latches P i (f .taken)) (f .latch)
 
 abbrev pub frameFits : Part → Frame → Bool
 frameFits P f = countsFit P f && codeFits f && fieldsFit P (decode (f .code)) f

@@ -1,5 +1,5 @@
 -- A counted rising edge takes the bit on D, high bit first.
-use Prim.Native.Nat.{ℕ, _+_, _*_, _/_, _%_}
+use Prim.Native.Nat.{ℕ, _+_, _*_, _-_, _/_, _%_, _^_}
 use mathlib.Core.Bool.{Bool}
 use lib.Dec.{eqb, leb, ltb}
 use Rattle.laws.specs.Pick.{pick}
@@ -18,9 +18,9 @@ shiftedIn v d = (2 * v + bit (on d)) % 256
 
 -- ---- what a whole byte v is for, by the instruction and by n, the whole bytes before it
 
--- one more address byte, high byte first
-abbrev pub addressByte : Part → ℕ → Frame → Frame
-addressByte P v f = withAddress ((f .address * 256 + v) % P .size) f
+-- one more address byte, high byte first: each goes to its own place in the address
+abbrev pub addressByte : Part → ℕ → ℕ → Frame → Frame
+addressByte P n v f = withAddress ((f .address + v * 256 ^ (P .addressBytes - n)) % P .size) f
 
 -- a data byte goes to its cell, and the address moves to the next cell of the page
 abbrev pub latchByte : Part → ℕ → Frame → Frame
@@ -32,8 +32,8 @@ taking P Wren n v f = f
 taking P Wrdi n v f = f
 taking P Rdsr n v f = f
 taking P Wrsr n v f = pick (eqb n 1) (withValue v f) f
-taking P Read n v f = pick (leb n (P .addressBytes)) (addressByte P v f) f
-taking P Write n v f = pick (leb n (P .addressBytes)) (addressByte P v f) (latchByte P v f)
+taking P Read n v f = pick (leb n (P .addressBytes)) (addressByte P n v f) f
+taking P Write n v f = pick (leb n (P .addressBytes)) (addressByte P n v f) (latchByte P v f)
 taking P Silence n v f = f
 
 -- the first whole byte is the code, and "no cycle" is judged with it; every later one is the instruction's

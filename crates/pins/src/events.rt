@@ -8,7 +8,9 @@ ghost use Rattle.pins.specs.Events.{selecting, judgedNow, executedNow, d
 use crate::Device;
 use crate::Event;
 use crate::Frame;
+use crate::falling::outputs;
 use crate::records::bit;
+use crate::rising::shifted_in;
 use chip::Core;
 use chip::Instruction;
 use chip::Verdict;
@@ -104,16 +106,24 @@ impl Device {
         self.with_held(!(self.pins.s == 1) & !(self.pins.hold == 1))
     }
 
+    // A counted edge takes the bit on D. Seven of eight only move two fields, and the record is not copied for them.
     fn raising(mut self) -> Device
         ensures { λ r. ⌜ r ≡ raising m95512 self ⌝ }
     {
-        let counted = self.counting();
-        let running = self.core.running();
-        let frame = self.frame;
-        let d = self.pins.d;
+        let counted = !(self.pins.s == 1) & !(self.held == 1);
+        let running = 0 < self.core.left;
+        let bits = self.frame.bits;
+        let byte = shifted_in(self.frame.part, self.pins.d);
         self.pins.c = 1;
         if counted {
-            self.frame = frame.risen(running, d);
+            if bits < 7 {
+                let more = bits + 1;
+                self.frame.bits = more;
+                self.frame.part = byte;
+                return self;
+            }
+            let frame = self.frame;
+            self.frame = frame.whole_byte(running, byte);
             return self;
         }
         self
@@ -123,15 +133,25 @@ impl Device {
     fn lowering(mut self, memory: &[u8]) -> Device
         ensures { λ r. ⌜ r ≡ lowering m95512 (now (memory .entry)) self ⌝ }
     {
-        let counted = self.counting();
-        let core = self.core;
-        let frame = self.frame;
+        let counted = !(self.pins.s == 1) & !(self.held == 1);
+        let i = chip::decode(self.frame.code);
+        let shown = self.frame.shown;
+        let drives = outputs(i, self.frame.taken, self.frame.ran == 1);
+        let held = bit(!(self.pins.s == 1) & !(self.pins.hold == 1));
         self.pins.c = 0;
-        if counted {
-            self.frame = frame.fallen(memory, core);
-            return self.renewed();
+        self.held = held;
+        if counted & drives {
+            if (1 <= shown) & (shown < 8) {
+                let more = shown + 1;
+                self.frame.shown = more;
+                return self;
+            }
+            let frame = self.frame;
+            let core = self.core;
+            self.frame = frame.loading(memory, core, i);
+            return self;
         }
-        self.renewed()
+        self
     }
 
     pub(crate) fn on_c(self, level: bool, memory: &[u8]) -> Device

@@ -7,7 +7,7 @@ ghost use lib.ListN.{getD};
 ghost use Rattle.chip.specs.Part.{m95512};
 ghost use Rattle.chip.specs.Status.{bitOf};
 ghost use Rattle.chip.specs.declared.Instruction.the-variants.{Read};
-ghost use Rattle.pins.specs.Falling.{outputs, loading, fallen, q, levelNumber};
+ghost use Rattle.pins.specs.Falling.{outputs, loading, levelShown, q, levelNumber};
 use crate::Device;
 use crate::Frame;
 use crate::Level;
@@ -55,7 +55,7 @@ impl Frame {
     }
 
     // The next data byte, of which bit 7 shows.
-    fn loading(self, memory: &[u8], core: Core, i: Instruction) -> Frame
+    pub(crate) fn loading(self, memory: &[u8], core: Core, i: Instruction) -> Frame
         ensures { λ r. ⌜ r ≡ loading m95512 (now (memory .entry)) core i self ⌝ }
     {
         match i {
@@ -67,20 +67,6 @@ impl Frame {
             Instruction::Write => self,
             Instruction::Silence => self,
         }
-    }
-
-    pub(crate) fn fallen(self, memory: &[u8], core: Core) -> Frame
-        ensures { λ r. ⌜ r ≡ fallen m95512 (now (memory .entry)) core self ⌝ }
-    {
-        let i = chip::decode(self.code);
-        let shown = self.shown;
-        if outputs(i, self.taken, self.ran == 1) {
-            if (1 <= shown) & (shown < 8) {
-                return self.with_out(self.out, shown + 1);
-            }
-            return self.loading(memory, core, i);
-        }
-        self
     }
 }
 
@@ -111,17 +97,23 @@ fn bits_left(shown: u8) -> u8
     if shown < 8 { 8 - shown } else { 0 }
 }
 
+// What Q shows, of the four fields that say it.
+pub(crate) fn level_of(s: u8, held: u8, shown: u8, out: u8) -> Level
+    ensures { λ r. ⌜ r ≡ levelShown s held shown out ⌝ }
+{
+    if !(s == 1) & !(held == 1) & (1 <= shown) {
+        if bit_of(bits_left(shown), out) == 1 {
+            return Level::One;
+        }
+        return Level::Zero;
+    }
+    Level::Z
+}
+
 impl Device {
     pub(crate) fn shows(self) -> Level
         ensures { λ r. ⌜ r ≡ q self ⌝ }
     {
-        let shown = self.frame.shown;
-        if self.counting() & (1 <= shown) {
-            if bit_of(bits_left(shown), self.frame.out) == 1 {
-                return Level::One;
-            }
-            return Level::Zero;
-        }
-        Level::Z
+        level_of(self.pins.s, self.held, self.frame.shown, self.frame.out)
     }
 }

@@ -7,6 +7,7 @@ use chip::Latch;
 use chip::Outcome;
 use chip::Refusal;
 
+mod answers;
 mod events;
 mod falling;
 mod listed;

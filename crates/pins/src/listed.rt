@@ -8,6 +8,7 @@ ghost use Rattle.pins.specs.Answers.{answer, answerMemory, playOutcome, 
 use crate::Device;
 use crate::Stepped;
 use crate::events::event_of;
+use crate::falling::level_of;
 use chip::Outcome;
 use chip::Refusal;
 
@@ -22,7 +23,7 @@ fn play_all(device: Device, memory: &mut [u8], events: &[u64], out: &mut [u8]) -
     let mut i: usize = 0;
     while i < events.len() {
         next = next.stepped(event_of(events[i]), memory);
-        out[i] = next.shows().number();
+        out[i] = level_of(next.pins.s, next.held, next.frame.shown, next.frame.out).number();
         i += 1;
     }
     next

@@ -1,11 +1,11 @@
 // Is a device inside its ranges. Each part of the test has a definition of its own.
 ghost use mathlib.Core.Path.{_≡_};
 ghost use mathlib.Core.Bool.{not, _&&_, _||_};
-ghost use Prim.Native.Nat.{_^_, _<_};
+ghost use Prim.Native.Nat.{_-_, _%_, _^_, _<_};
 ghost use lib.Dec.{eqb, leb, ltb};
 ghost use Rattle.chip.specs.Part.{m95512};
 ghost use Rattle.chip.specs.Instructions.{decode};
-ghost use Rattle.pins.specs.Ranges.{pinsFit, heldFits, partFits, countsFit, codeFits, addressBelow, addressMost, valued, latches, outFits, fieldsFit, frameFits, emptyFits, ranFits, deviceFits};
+ghost use Rattle.pins.specs.Ranges.{pinsFit, heldFits, partFits, countsFit, codeFits, addressFits, valued, latches, outFits, fieldsFit, frameFits, emptyFits, ranFits, deviceFits};
 use crate::Device;
 use crate::Frame;
 use crate::Pins;
@@ -50,30 +50,48 @@ fn part_fits(bits: u8, part: u8) -> bool
     false
 }
 
-fn address_most(i: Instruction, taken: u8) -> u32
-    ensures { λ r. ⌜ r ≡ addressMost m95512 i taken ⌝ }
+// The place of the last address byte taken: what lies below it is 0.
+fn place(taken: u8) -> u32
+    ensures { λ r. ⌜ r ≡ 256 ^ (3 - taken) ⌝ }
+    ensures { λ r. ⌜ 0 < r ⌝ }
 {
-    match i {
-        Instruction::Wren => 1,
-        Instruction::Wrdi => 1,
-        Instruction::Rdsr => 1,
-        Instruction::Wrsr => 1,
-        Instruction::Read => address_bound(taken),
-        Instruction::Write => address_bound(taken),
-        Instruction::Silence => 1,
+    if taken == 0 {
+        return 16777216;
     }
-}
-
-fn address_bound(taken: u8) -> u32
-    ensures { λ r. ⌜ r ≡ addressBelow m95512 taken ⌝ }
-{
-    if taken <= 1 {
-        return 1;
+    if taken == 1 {
+        return 65536;
     }
     if taken == 2 {
         return 256;
     }
-    65536
+    1
+}
+
+fn taken_so_far(taken: u8, address: u32) -> bool
+    ensures { λ r. ⌜ r ≡ (ltb address 65536 && eqb (address % 256 ^ (3 - taken)) 0) ⌝ }
+{
+    (address < 65536) & (left_over(address, place(taken)) == 0)
+}
+
+fn left_over(address: u32, place: u32) -> u32
+    requires { ⌜ 0 < place ⌝ }
+    ensures { λ r. ⌜ r ≡ address % place ⌝ }
+{
+    address % place
+}
+
+fn address_fits(i: Instruction, taken: u8, address: u32) -> bool
+    ensures { λ r. ⌜ r ≡ addressFits m95512 i taken address ⌝ }
+{
+    match i {
+        Instruction::Wren => address == 0,
+        Instruction::Wrdi => address == 0,
+        Instruction::Rdsr => address == 0,
+        Instruction::Wrsr => address == 0,
+        Instruction::Read => taken_so_far(taken, address),
+        Instruction::Write => taken_so_far(taken, address),
+        Instruction::Silence => address == 0,
+    }
 }
 
 fn valued(i: Instruction, taken: u8) -> bool
@@ -133,7 +151,7 @@ impl Frame {
         ensures { λ r. ⌜ r ≡ fieldsFit m95512 i self ⌝ }
     {
         let latch = self.latch;
-        let address = self.address < address_most(i, self.taken);
+        let address = address_fits(i, self.taken, self.address);
         let value = valued(i, self.taken) | (self.value == 0);
         address & value & self.out_fits(i) & latch.fits(latches(i, self.taken))
     }

@@ -4,7 +4,7 @@ ghost use mathlib.Core.Bool.{not, _&&_};
 ghost use Rattle.chip.specs.Part.{m95512};
 ghost use Prim.Native.Nat.{_+_, min};
 ghost use Rattle.chip.specs.Status.{bit, on};
-ghost use Rattle.pins.specs.Devices.{restingPins, noFrame, resting, withBits, withByte, withCode, withValue, withOut, withAddress, withLatch, withHeld, selected, counting};
+ghost use Rattle.pins.specs.Devices.{restingPins, noFrame, resting, withByte, withCode, withValue, withOut, withAddress, withLatch, withHeld};
 use crate::Device;
 use crate::Frame;
 use crate::Pins;
@@ -27,14 +27,6 @@ impl Frame {
             address: 0,
             latch: Latch::none(),
         }
-    }
-
-    pub(crate) fn with_bits(mut self, bits: u8, part: u8) -> Frame
-        ensures { λ r. ⌜ r ≡ withBits bits part self ⌝ }
-    {
-        self.bits = bits;
-        self.part = part;
-        self
     }
 
     // One whole byte more; the count stays at 4.
@@ -101,7 +93,7 @@ pub(crate) fn bit(level: bool) -> u8
 
 impl Device {
     // Not selected, not held, an empty frame; S, W and HOLD high, C and D low.
-    pub(crate) fn resting(core: Core) -> Device
+    pub fn resting(core: Core) -> Device
         ensures { λ r. ⌜ r ≡ resting m95512 core ⌝ }
     {
         Device {
@@ -124,12 +116,5 @@ impl Device {
         let held = bit(held);
         self.held = held;
         self
-    }
-
-    // An edge is counted when the device is selected and not held.
-    pub(crate) fn counting(self) -> bool
-        ensures { λ r. ⌜ r ≡ counting self ⌝ }
-    {
-        !(self.pins.s == 1) & !(self.held == 1)
     }
 }

@@ -1,17 +1,17 @@
 // A counted rising edge takes the bit on D, high bit first.
 ghost use mathlib.Core.Path.{_≡_};
-ghost use Prim.Native.Nat.{_+_, _*_, _/_, _%_};
+ghost use Prim.Native.Nat.{_+_, _*_, _-_, _/_, _%_, _^_};
 ghost use Rattle.chip.specs.Part.{m95512};
 ghost use Rattle.chip.specs.Latches.{latched, nextCell};
 ghost use Prim.Native.Nat.{_<_};
 ghost use Rattle.chip.specs.declared.Instruction.the-variants.{Wrsr, Read, Write};
-ghost use Rattle.pins.specs.Rising.{shiftedIn, addressByte, latchByte, taking, wholeByte, risen};
+ghost use Rattle.pins.specs.Rising.{shiftedIn, addressByte, latchByte, taking, wholeByte};
 use crate::Frame;
 use chip::Instruction;
 use chip::Latch;
 
 // A byte with one more bit at its low end.
-fn shifted_in(part: u8, d: u8) -> u8
+pub(crate) fn shifted_in(part: u8, d: u8) -> u8
     ensures { λ r. ⌜ r ≡ shiftedIn part d ⌝ }
 {
     if d == 1 {
@@ -20,11 +20,19 @@ fn shifted_in(part: u8, d: u8) -> u8
     (part % 128) * 2
 }
 
-// One more address byte, high byte first.
-fn joined(address: u32, byte: u8) -> u32
-    ensures { λ r. ⌜ r ≡ (address * 256 + byte) % 65536 ⌝ }
+// One more address byte goes to its place, by the whole bytes before it: the first one is the high byte.
+fn joined(address: u32, before: u8, byte: u8) -> u32
+    ensures { λ r. ⌜ r ≡ (address + byte * 256 ^ (2 - before)) % 65536 ⌝ }
 {
-    address % 256 * 256 + byte as u32
+    let low = address % 65536;
+    let value = byte as u32;
+    if before == 0 {
+        return low;
+    }
+    if before == 1 {
+        return (low + value * 256) % 65536;
+    }
+    (low + value) % 65536
 }
 
 // The next cell of the page that an address is in.
@@ -45,10 +53,10 @@ fn latched(latch: Latch, cell: usize, byte: u8) -> Latch
 }
 
 impl Frame {
-    fn address_byte(self, byte: u8) -> Frame
-        ensures { λ r. ⌜ r ≡ addressByte m95512 byte self ⌝ }
+    fn address_byte(self, before: u8, byte: u8) -> Frame
+        ensures { λ r. ⌜ r ≡ addressByte m95512 before byte self ⌝ }
     {
-        self.with_address(joined(self.address, byte))
+        self.with_address(joined(self.address, before, byte))
     }
 
     // A data byte goes to its cell, and the address moves to the next cell of the page.
@@ -64,7 +72,7 @@ impl Frame {
         ensures { λ r. ⌜ r ≡ taking m95512 Write before byte self ⌝ }
     {
         if before <= 2 {
-            return self.address_byte(byte);
+            return self.address_byte(before, byte);
         }
         self.latch_byte(byte)
     }
@@ -73,7 +81,7 @@ impl Frame {
         ensures { λ r. ⌜ r ≡ taking m95512 Read before byte self ⌝ }
     {
         if before <= 2 {
-            return self.address_byte(byte);
+            return self.address_byte(before, byte);
         }
         self
     }
@@ -103,7 +111,7 @@ impl Frame {
     }
 
     // The first whole byte is the code; every later one is the instruction's.
-    fn whole_byte(self, running: bool, byte: u8) -> Frame
+    pub(crate) fn whole_byte(self, running: bool, byte: u8) -> Frame
         ensures { λ r. ⌜ r ≡ wholeByte m95512 running byte self ⌝ }
     {
         if self.taken == 0 {
@@ -111,15 +119,5 @@ impl Frame {
         }
         self.with_byte()
             .taking(chip::decode(self.code), self.taken, byte)
-    }
-
-    pub(crate) fn risen(self, running: bool, d: u8) -> Frame
-        ensures { λ r. ⌜ r ≡ risen m95512 running d self ⌝ }
-    {
-        let byte = shifted_in(self.part, d);
-        if self.bits < 7 {
-            return self.with_bits(self.bits + 1, byte);
-        }
-        self.whole_byte(running, byte)
     }
 }

@@ -2,8 +2,8 @@ use borrow.Author.Needs.{needs}
 use Rattle.pins.proofs.Frame.fields_fit.Statement.{statement}
 use Rattle.pins.proofs.Frame.fields_fit.Tie as tie
 
-address-most-requires : tie.Need-address-most-requires
-address-most-requires c κs = search needs
+address-fits-requires : tie.Need-address-fits-requires
+address-fits-requires c κs = search needs
 
 valued-requires : tie.Need-valued-requires
 valued-requires c κs = search needs
@@ -18,13 +18,13 @@ fits-requires : tie.Need-fits-requires
 fits-requires c κs = search needs
 
 returns : tie.Need-returns
-returns c = rw (c .before .before .before .before .before .before .address-most .ensures, c .before .before .before .before .valued .ensures, c .before .before .out-fits .ensures, c .fits2 .ensures, c .before .latches .ensures)
+returns c = rw (c .before .before .before .before .before .address-fits .ensures, c .before .before .before .before .valued .ensures, c .before .before .out-fits .ensures, c .fits2 .ensures, c .before .latches .ensures)
 
 pub fields-fit-spec : {M : Type 1} → statement M
 fields-fit-spec =
     tie.close
     (tie.spec
-    address-most-requires
+    address-fits-requires
     valued-requires
     out-fits-requires
     latches-requires

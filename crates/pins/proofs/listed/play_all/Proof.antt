@@ -43,8 +43,8 @@ event-of-requires c κs = search needs
 stepped-requires : tie.Need-stepped-requires Inv-loop μ-loop
 stepped-requires c κs = search needs
 
-shows-requires : tie.Need-shows-requires Inv-loop μ-loop
-shows-requires c κs = search needs
+level-of-requires : tie.Need-level-of-requires Inv-loop μ-loop
+level-of-requires c κs = search needs
 
 number-requires : tie.Need-number-requires Inv-loop μ-loop
 number-requires c κs = search needs
@@ -62,6 +62,7 @@ loop-less : tie.Need-loop-less Inv-loop μ-loop
 loop-less c = search needs
 
 loop-again : tie.Need-loop-again Inv-loop μ-loop
+unfolding q
 loop-again c =
     let l = c .before .before .before .before .before .before .before .before .before .loop in
     let below = c .before .before .before .before .before .before .before .before .loop-test .taken in
@@ -78,7 +79,7 @@ loop-again c =
     let more : afterEvent m95512 (getD es (l .i) 0) now ≡ played m95512 (take (suc (l .i)) es) b =
     ap (afterEvent m95512 (getD es (l .i) 0)) (l .inv .3) ∙ sym (played-more m95512 es (l .i) b (omega arith)) in
     let level : c .number .result ≡ getD (playedQ m95512 es b) (l .i) 0 =
-    c .number .ensures ∙ ap levelNumber (c .before .shows .ensures) ∙ ap (λ x. levelNumber (q x)) (device ∙ ap (λ (x : Bench). x .device) more) ∙ sym (q-at m95512 es (l .i) b (omega arith)) in (
+    c .number .ensures ∙ ap levelNumber (c .before .level-of .ensures) ∙ ap (λ x. levelNumber (q x)) (device ∙ ap (λ (x : Bench). x .device) more) ∙ sym (q-at m95512 es (l .i) b (omega arith)) in (
       omega arith,
       simp length-set (omega arith),
       omega (arith, c .before .before .before .memory .given),
@@ -118,7 +119,7 @@ play-all-spec =
     shared-slice-read-event-of
     event-of-requires
     stepped-requires
-    shows-requires
+    level-of-requires
     number-requires
     slice-write-out
     add-i

@@ -1,0 +1,1428 @@
+/* differ [SEED] [ROUNDS]: the library of cartvesper.h and the plain model on the same inputs, compared in every byte of records (field by field,
+ * without padding), memory, outputs and answers. The first difference is printed in full (exit 1); else a summary of counts (exit 0). */
+#include "plain.h"
+#include <inttypes.h>
+#include <stdarg.h>
+#include <stdio.h>
+#include <stdlib.h>
+#include <string.h>
+
+enum { WREN = 0x06, WRDI = 0x04, RDSR = 0x05, WRSR = 0x01, READ = 0x03, WRITE = 0x02 };
+enum { MEMORY = 65536, PAGE = 128, LONGEST = 65540, GUARD = 64 };
+enum { SET_S, SET_C, SET_D, SET_W, SET_HOLD, CLOCK };
+enum { EVENTS = 16384 };
+
+/* ---- chance: xorshift64* */
+
+static uint64_t state;
+
+static uint64_t next64(void)
+{
+    state ^= state >> 12;
+    state ^= state << 25;
+    state ^= state >> 27;
+    return state * 0x2545F4914F6CDD1DULL;
+}
+
+static uint32_t random32(void)
+{
+    return (uint32_t)(next64() >> 32);
+}
+
+static uint32_t below(uint32_t n)
+{
+    return (uint32_t)(((uint64_t)random32() * n) >> 32);
+}
+
+static int percent(uint32_t p)
+{
+    return below(100) < p;
+}
+
+static void random_bytes(void *to, size_t length)
+{
+    uint8_t *bytes = to;
+    for (size_t i = 0; i < length; i++)
+        bytes[i] = (uint8_t)random32();
+}
+
+/* ---- lent bytes, one set for each side, with guards around them */
+
+typedef struct {
+    uint8_t before[GUARD], bytes[MEMORY + 1], after[GUARD];
+} lent_memory;
+
+typedef struct {
+    uint8_t before[GUARD], bytes[LONGEST + 3], after[GUARD]; /* a list has at most 16,384 events */
+} lent_output;
+
+static lent_memory lib_memory, plain_memory, start_memory, singles_memory, script_memory;
+static lent_output lib_out, plain_out;
+static uint8_t frame_bytes[LONGEST + 3];
+
+/* ---- counts */
+
+static struct {
+    uint64_t calls, frames, executed, events, readings, lists, listed, cycles, cells, driven, drawn, unreached, damaged, swept, refusals[8];
+} counts;
+
+static uint64_t seed, current_round;
+
+/* ---- equality and printing of records */
+
+static int latch_same(const cartvesper_latch *a, const cartvesper_latch *b)
+{
+    return memcmp(a->bytes, b->bytes, PAGE) == 0 && memcmp(a->marks, b->marks, PAGE) == 0;
+}
+
+static int core_same(const cartvesper_core *a, const cartvesper_core *b)
+{
+    return a->srwd == b->srwd && a->bp1 == b->bp1 && a->bp0 == b->bp0 && a->wel == b->wel && a->cycle == b->cycle && a->left == b->left &&
+           a->last == b->last && a->waits.kind == b->waits.kind && a->waits.status == b->waits.status && a->waits.page == b->waits.page &&
+           latch_same(&a->waits.latch, &b->waits.latch);
+}
+
+static int frame_same(const cartvesper_frame_part *a, const cartvesper_frame_part *b)
+{
+    return a->taken == b->taken && a->bits == b->bits && a->part == b->part && a->code == b->code && a->ran == b->ran && a->value == b->value &&
+           a->out == b->out && a->shown == b->shown && a->address == b->address && latch_same(&a->latch, &b->latch);
+}
+
+static int device_same(const cartvesper_device *a, const cartvesper_device *b)
+{
+    return a->pins.s == b->pins.s && a->pins.c == b->pins.c && a->pins.d == b->pins.d && a->pins.w == b->pins.w &&
+           a->pins.hold == b->pins.hold && a->held == b->held && frame_same(&a->frame, &b->frame) && core_same(&a->core, &b->core);
+}
+
+static void print_bytes(const uint8_t *bytes, size_t length)
+{
+    for (size_t i = 0; i < length && i < 512; i++)
+        printf("%02X%s", bytes[i], i % 32 == 31 ? "\n      " : " ");
+    printf(length > 512 ? "..\n" : "\n");
+}
+
+static void print_latch(const cartvesper_latch *latch)
+{
+    printf("    latch, byte/mark of each cell that is not 0/0:");
+    for (int i = 0; i < PAGE; i++)
+        if (latch->bytes[i] || latch->marks[i])
+            printf(" %d:%02X/%d", i, latch->bytes[i], latch->marks[i]);
+    printf("\n");
+}
+
+static void print_core(const cartvesper_core *core)
+{
+    printf("    srwd %d bp1 %d bp0 %d wel %d cycle %" PRIu32 " left %" PRIu32 " last %" PRIu32 "\n", core->srwd, core->bp1, core->bp0, core->wel,
+           core->cycle, core->left, core->last);
+    printf("    waits: kind %d status %02X page %" PRIu32 "\n", core->waits.kind, core->waits.status, core->waits.page);
+    print_latch(&core->waits.latch);
+}
+
+static void print_device(const cartvesper_device *device)
+{
+    const cartvesper_frame_part *frame = &device->frame;
+    printf("    s %d c %d d %d w %d hold %d held %d\n", device->pins.s, device->pins.c, device->pins.d, device->pins.w, device->pins.hold,
+           device->held);
+    printf("    frame: taken %d bits %d part %02X code %02X ran %d value %02X out %02X shown %d address %04" PRIX32 "\n", frame->taken, frame->bits,
+           frame->part, frame->code, frame->ran, frame->value, frame->out, frame->shown, frame->address);
+    print_latch(&frame->latch);
+    print_core(&device->core);
+}
+
+/* ---- the call in hand, for the report of a difference */
+
+typedef struct {
+    char call[256];
+    int has_core, has_device; /* the record given, one of the two or none */
+    cartvesper_core core;
+    cartvesper_device device;
+    const uint8_t *bytes;
+    size_t length;
+    const uint64_t *events;
+    size_t count;
+} call_in_hand;
+
+static call_in_hand hand;
+
+static void begin_call(const cartvesper_core *core, const cartvesper_device *device, const char *format, ...)
+{
+    va_list values;
+    hand.has_core = core != NULL;
+    hand.has_device = device != NULL;
+    if (core)
+        hand.core = *core;
+    if (device)
+        hand.device = *device;
+    hand.bytes = NULL;
+    hand.events = NULL;
+    va_start(values, format);
+    vsnprintf(hand.call, sizeof hand.call, format, values);
+    va_end(values);
+    counts.calls++;
+}
+
+static void print_hand(const char *what)
+{
+    printf("DIFFERENCE: %s\n  seed %" PRIu64 ", round %" PRIu64 ", call %" PRIu64 "\n  call: %s\n", what, seed, current_round, counts.calls,
+           hand.call);
+    if (hand.has_core)
+        printf("  record given:\n"), print_core(&hand.core);
+    if (hand.has_device)
+        printf("  record given:\n"), print_device(&hand.device);
+    if (hand.bytes)
+        printf("  frame bytes:\n      "), print_bytes(hand.bytes, hand.length);
+    if (hand.events)
+        printf("  events (kind.value):\n");
+    for (size_t i = 0; hand.events && i < hand.count; i++)
+        printf("  %" PRIu64 ".%" PRIu32, hand.events[i] >> 32 & 7, (uint32_t)hand.events[i]);
+    printf("\n");
+}
+
+static void fail(const char *what)
+{
+    print_hand(what);
+    exit(1);
+}
+
+static void fail_numbers(const char *what, uint64_t lib, uint64_t plain)
+{
+    print_hand(what);
+    printf("  library: %" PRIu64 "\n  plain:   %" PRIu64 "\n", lib, plain);
+    exit(1);
+}
+
+static void fail_bytes(const char *what, const uint8_t *lib, const uint8_t *plain, size_t length, size_t guard)
+{
+    print_hand(what);
+    for (size_t i = 0, shown = 0; i < length && shown < 64; i++)
+        if (lib[i] != plain[i])
+            printf("  at %ld: library %02X, plain %02X\n", (long)i - (long)guard, lib[i], plain[i]), shown++;
+    exit(1);
+}
+
+static void compare_numbers(const char *what, uint64_t lib, uint64_t plain)
+{
+    if (lib != plain)
+        fail_numbers(what, lib, plain);
+}
+
+static void compare_bytes(const char *what, const uint8_t *lib, const uint8_t *plain, size_t length, size_t guard)
+{
+    if (memcmp(lib, plain, length) != 0)
+        fail_bytes(what, lib, plain, length, guard);
+}
+
+static void compare_memory(void)
+{
+    compare_bytes("memory (or beside it)", lib_memory.before, plain_memory.before, sizeof lib_memory, GUARD);
+}
+
+static void compare_cores(const char *what, const cartvesper_core *lib, const cartvesper_core *plain)
+{
+    if (core_same(lib, plain))
+        return;
+    print_hand(what);
+    printf("  library:\n"), print_core(lib);
+    printf("  plain:\n"), print_core(plain);
+    exit(1);
+}
+
+static void compare_devices(const char *what, const cartvesper_device *lib, const cartvesper_device *plain)
+{
+    if (device_same(lib, plain))
+        return;
+    print_hand(what);
+    printf("  library:\n"), print_device(lib);
+    printf("  plain:\n"), print_device(plain);
+    exit(1);
+}
+
+static void count_refusal(uint32_t number)
+{
+    if (number < 8)
+        counts.refusals[number]++;
+}
+
+/* refused: the record as given; done: inside the ranges */
+static void check_core(uint32_t number, const cartvesper_core *given, const cartvesper_core *lib)
+{
+    count_refusal(number);
+    if (number != 0 && !core_same(given, lib))
+        fail("a refusal changed the record");
+    if (number == 0 && !plain_core_ok(lib))
+        printf("  library:\n"), print_core(lib), fail("the record handed back is outside the ranges");
+}
+
+static void check_device(uint32_t number, const cartvesper_device *given, const cartvesper_device *lib)
+{
+    count_refusal(number);
+    if (number != 0 && !device_same(given, lib))
+        fail("a refusal changed the record");
+    if (number == 0 && !plain_device_ok(lib))
+        printf("  library:\n"), print_device(lib), fail("the record handed back is outside the ranges");
+}
+
+/* ---- one call on both sides */
+
+static void *or_null(void *bytes, size_t length)
+{
+    return length == 0 && percent(50) ? NULL : bytes;
+}
+
+static void compare_values(cartvesper_value lib, cartvesper_value plain)
+{
+    compare_numbers("the number", lib.number, plain.number);
+    compare_numbers("the value", lib.value, plain.value);
+    count_refusal(lib.number);
+}
+
+static uint32_t try_power_up(cartvesper_core *core, uint32_t cycle, uint8_t srwd, uint8_t bp1, uint8_t bp0, uint32_t reading)
+{
+    begin_call(NULL, NULL, "power_up cycle %" PRIu32 " srwd %d bp1 %d bp0 %d reading %" PRIu32, cycle, srwd, bp1, bp0, reading);
+    cartvesper_core_answer lib = cartvesper_power_up(cycle, srwd, bp1, bp0, reading);
+    cartvesper_core_answer plain = plain_power_up_call(cycle, srwd, bp1, bp0, reading);
+    compare_numbers("the number", lib.number, plain.number);
+    compare_cores("the record", &lib.core, &plain.core);
+    if (!plain_core_ok(&lib.core))
+        fail("the record handed back is outside the ranges");
+    count_refusal(lib.number);
+    *core = lib.core;
+    return lib.number;
+}
+
+static uint32_t try_device_power_up(cartvesper_device *device, uint32_t cycle, uint8_t srwd, uint8_t bp1, uint8_t bp0, uint32_t reading)
+{
+    begin_call(NULL, NULL, "device_power_up cycle %" PRIu32 " srwd %d bp1 %d bp0 %d reading %" PRIu32, cycle, srwd, bp1, bp0, reading);
+    cartvesper_device_answer lib = cartvesper_device_power_up(cycle, srwd, bp1, bp0, reading);
+    cartvesper_device_answer plain = plain_device_power_up_call(cycle, srwd, bp1, bp0, reading);
+    compare_numbers("the number", lib.number, plain.number);
+    compare_devices("the record", &lib.device, &plain.device);
+    if (!plain_device_ok(&lib.device))
+        fail("the record handed back is outside the ranges");
+    count_refusal(lib.number);
+    *device = lib.device;
+    return lib.number;
+}
+
+/* the cycle's end: cells changed, counted from the page that waited */
+static void count_cycle_end(const cartvesper_core *before, const cartvesper_core *after, const uint8_t *old_page)
+{
+    if (before->left == 0 || after->left != 0)
+        return;
+    counts.cycles++;
+    for (size_t i = 0; before->waits.kind == 2 && i < PAGE; i++)
+        counts.cells += old_page[i] != lib_memory.bytes[before->waits.page * PAGE + i];
+}
+
+static void keep_page(uint8_t *page, const cartvesper_core *core)
+{
+    memcpy(page, lib_memory.bytes + core->waits.page % 512 * PAGE, PAGE);
+}
+
+static uint32_t try_reading(cartvesper_core *core, uint32_t reading, size_t size)
+{
+    uint8_t page[PAGE];
+    cartvesper_core given = *core;
+    begin_call(&given, NULL, "clock_reading %" PRIu32 ", memory %zu", reading, size);
+    keep_page(page, &given);
+    cartvesper_core_answer lib = cartvesper_clock_reading(given, reading, or_null(lib_memory.bytes, size), size);
+    cartvesper_core_answer plain = plain_clock_reading_call(given, reading, or_null(plain_memory.bytes, size), size);
+    compare_numbers("the number", lib.number, plain.number);
+    compare_cores("the record", &lib.core, &plain.core);
+    compare_memory();
+    check_core(lib.number, &given, &lib.core);
+    counts.readings++;
+    if (lib.number == 0)
+        count_cycle_end(&given, &lib.core, page);
+    *core = lib.core;
+    return lib.number;
+}
+
+/* the same stale bytes in both output buffers, never what was there before */
+static void stale_outputs(size_t span)
+{
+    int stale = (int)below(256);
+    memset(lib_out.before, stale, span);
+    memset(plain_out.before, stale, span);
+}
+
+static size_t output_span(size_t length, size_t room)
+{
+    return GUARD + (length > room ? length : room) + GUARD;
+}
+
+/* a library that wrote the frame's bytes would be seen here */
+static uint8_t frame_bytes_kept[LONGEST + 3];
+
+static uint32_t try_frame(cartvesper_core *core, size_t size, uint8_t w, size_t length, size_t bits, size_t room)
+{
+    cartvesper_core given = *core;
+    size_t span = output_span(length, room);
+    begin_call(&given, NULL, "frame of %zu bytes, %zu bits, w %d, room %zu, memory %zu", length, bits, w, room, size);
+    hand.bytes = frame_bytes;
+    hand.length = length;
+    stale_outputs(span);
+    memcpy(frame_bytes_kept, frame_bytes, length);
+    cartvesper_frame_answer lib = cartvesper_frame(given, or_null(lib_memory.bytes, size), size, w, or_null(frame_bytes, length), length, bits,
+                                                   or_null(lib_out.bytes, room), room);
+    cartvesper_frame_answer plain = plain_frame_call(given, or_null(plain_memory.bytes, size), size, w, or_null(frame_bytes, length), length,
+                                                     bits, or_null(plain_out.bytes, room), room);
+    compare_numbers("the number", lib.number, plain.number);
+    compare_numbers("the undriven count", lib.undriven, plain.undriven);
+    compare_cores("the record", &lib.core, &plain.core);
+    compare_bytes("the output (or beside it)", lib_out.before, plain_out.before, span, GUARD);
+    compare_bytes("the frame's own bytes", frame_bytes, frame_bytes_kept, length, 0);
+    compare_memory();
+    check_core(lib.number, &given, &lib.core);
+    counts.frames++;
+    counts.driven += lib.number == 0 ? bits - lib.undriven : 0;
+    counts.executed += given.left == 0 && lib.core.left != 0;
+    *core = lib.core;
+    return lib.number;
+}
+
+static void try_core_queries(const cartvesper_core *core, uint32_t address)
+{
+    begin_call(core, NULL, "core_in_ranges");
+    compare_values(cartvesper_core_in_ranges(*core), plain_core_in_ranges_call(*core));
+    begin_call(core, NULL, "core_status");
+    compare_values(cartvesper_core_status(*core), plain_core_status_call(*core));
+    begin_call(core, NULL, "core_protected %" PRIX32, address);
+    compare_values(cartvesper_core_protected(*core, address), plain_core_protected_call(*core, address));
+}
+
+static cartvesper_value try_device_queries(const cartvesper_device *device)
+{
+    cartvesper_value q = cartvesper_device_q(*device);
+    begin_call(NULL, device, "device_q");
+    compare_values(q, plain_device_q_call(*device));
+    if (percent(10)) {
+        begin_call(NULL, device, "device_status");
+        compare_values(cartvesper_device_status(*device), plain_device_status_call(*device));
+        begin_call(NULL, device, "device_in_ranges");
+        compare_values(cartvesper_device_in_ranges(*device), plain_device_in_ranges_call(*device));
+    }
+    return q;
+}
+
+static cartvesper_device_answer lib_event(const cartvesper_device *device, int kind, uint32_t value, size_t size)
+{
+    switch (kind) {
+    case SET_S:
+        return cartvesper_device_set_s(*device, (uint8_t)value);
+    case SET_C:
+        return cartvesper_device_set_c(*device, (uint8_t)value, or_null(lib_memory.bytes, size), size);
+    case SET_D:
+        return cartvesper_device_set_d(*device, (uint8_t)value);
+    case SET_W:
+        return cartvesper_device_set_w(*device, (uint8_t)value);
+    case SET_HOLD:
+        return cartvesper_device_set_hold(*device, (uint8_t)value);
+    default:
+        return cartvesper_device_read_clock(*device, value, or_null(lib_memory.bytes, size), size);
+    }
+}
+
+static cartvesper_device_answer plain_event_call(const cartvesper_device *device, int kind, uint32_t value, size_t size)
+{
+    switch (kind) {
+    case SET_S:
+        return plain_device_set_s_call(*device, (uint8_t)value);
+    case SET_C:
+        return plain_device_set_c_call(*device, (uint8_t)value, or_null(plain_memory.bytes, size), size);
+    case SET_D:
+        return plain_device_set_d_call(*device, (uint8_t)value);
+    case SET_W:
+        return plain_device_set_w_call(*device, (uint8_t)value);
+    case SET_HOLD:
+        return plain_device_set_hold_call(*device, (uint8_t)value);
+    default:
+        return plain_device_read_clock_call(*device, value, or_null(plain_memory.bytes, size), size);
+    }
+}
+
+static uint32_t try_event(cartvesper_device *device, int kind, uint32_t value, size_t size)
+{
+    static const char *const names[] = {"set_s", "set_c", "set_d", "set_w", "set_hold", "read_clock"};
+    uint8_t page[PAGE];
+    cartvesper_device given = *device;
+    begin_call(NULL, &given, "device_%s %" PRIu32 ", memory %zu", names[kind], value, size);
+    if (kind == CLOCK)
+        keep_page(page, &given.core);
+    cartvesper_device_answer lib = lib_event(&given, kind, value, size);
+    cartvesper_device_answer plain = plain_event_call(&given, kind, value, size);
+    compare_numbers("the number", lib.number, plain.number);
+    compare_devices("the record", &lib.device, &plain.device);
+    check_device(lib.number, &given, &lib.device);
+    if (kind == CLOCK || percent(5)) /* C is lent the memory to read only: seldom looked at, and at each list's end */
+        compare_memory();
+    counts.events++;
+    counts.readings += kind == CLOCK;
+    counts.executed += given.core.left == 0 && lib.device.core.left != 0;
+    if (kind == CLOCK && lib.number == 0)
+        count_cycle_end(&given.core, &lib.device.core, page);
+    *device = lib.device;
+    return lib.number;
+}
+
+static uint32_t try_play(cartvesper_device *device, const uint64_t *events, size_t count, size_t room, size_t size)
+{
+    cartvesper_device given = *device;
+    size_t span = output_span(count, room);
+    begin_call(NULL, &given, "device_play of %zu events, room %zu, memory %zu", count, room, size);
+    hand.events = events;
+    hand.count = count;
+    stale_outputs(span);
+    const uint64_t *list = count == 0 && percent(50) ? NULL : events;
+    cartvesper_device_answer lib =
+        cartvesper_device_play(given, or_null(lib_memory.bytes, size), size, list, count, or_null(lib_out.bytes, room), room);
+    cartvesper_device_answer plain =
+        plain_device_play_call(given, or_null(plain_memory.bytes, size), size, list, count, or_null(plain_out.bytes, room), room);
+    compare_numbers("the number", lib.number, plain.number);
+    compare_devices("the record", &lib.device, &plain.device);
+    compare_bytes("the output (or beside it)", lib_out.before, plain_out.before, span, GUARD);
+    compare_memory();
+    check_device(lib.number, &given, &lib.device);
+    counts.lists++;
+    counts.listed += lib.number == 0 ? count : 0;
+    *device = lib.device;
+    return lib.number;
+}
+
+/* ---- what is random: sizes, readings, frames */
+
+static void new_memory(void)
+{
+    if (percent(20))
+        memset(&lib_memory, 0xFF, sizeof lib_memory);
+    else
+        random_bytes(&lib_memory, sizeof lib_memory);
+    plain_memory = lib_memory;
+}
+
+static uint32_t random_cycle(void)
+{
+    switch (below(5)) {
+    case 0:
+        return 1;
+    case 1:
+        return 5000;
+    case 2:
+        return 1 + below(4);
+    default:
+        return 1 + below(5000);
+    }
+}
+
+static uint32_t random_clock(void)
+{
+    switch (below(4)) {
+    case 0:
+        return below(3);
+    case 1:
+        return 0u - 1 - below(6000); /* about to wrap */
+    default:
+        return random32();
+    }
+}
+
+/* the next reading: ends the cycle, just misses it, goes beyond it, stays, steps back by one (nearly a full turn), or anything */
+static uint32_t random_reading(const cartvesper_core *core)
+{
+    switch (below(9)) {
+    case 0:
+    case 1:
+        return core->last + core->left;
+    case 2:
+        return core->last + core->left - 1;
+    case 3:
+        return core->last + core->left + 1 + below(100);
+    case 4:
+        return core->last;
+    case 5:
+        return core->last - 1 - below(3);
+    case 6:
+        return random_clock();
+    default:
+        return core->last + below(core->cycle + 2);
+    }
+}
+
+static size_t random_size(uint32_t damage)
+{
+    static const size_t sizes[] = {MEMORY - 1, MEMORY + 1, 0, 1};
+    return percent(damage) ? sizes[below(4)] : MEMORY;
+}
+
+static size_t off_by_one(size_t n, uint32_t damage)
+{
+    if (!percent(damage))
+        return n;
+    return n == 0 || percent(50) ? n + 1 : n - 1;
+}
+
+static uint8_t random_code(void)
+{
+    static const uint8_t codes[] = {WREN, WREN, WREN, WREN, WRITE, WRITE, WRITE, WRITE, WRSR, WRSR, WRDI, RDSR, RDSR, READ, READ};
+    static const uint8_t others[] = {0x82, 0x83, 0x00, 0x07, 0xFF};
+    if (percent(5))
+        return percent(50) ? others[below(5)] : (uint8_t)random32();
+    return codes[below(sizeof codes)];
+}
+
+static size_t random_length(uint8_t code)
+{
+    if (percent(8))
+        return below(300);
+    switch (code) {
+    case WREN:
+    case WRDI:
+        return percent(90) ? 1 : 2;
+    case WRSR:
+        return percent(90) ? 2 : 1 + below(3);
+    case RDSR:
+        return 1 + below(6);
+    case READ:
+        return percent(70) ? 3 + below(12) : 3 + below(280);
+    case WRITE:
+        return percent(60) ? 3 + below(12) : 3 + PAGE - 8 + below(16) + (percent(10) ? PAGE : 0);
+    default:
+        return 1 + below(6);
+    }
+}
+
+/* addresses near the edges of pages, of the protected areas, of the memory */
+static uint16_t random_address(void)
+{
+    static const uint16_t edges[] = {0x0000, 0xFFFF, 0x8000, 0xC000, 0x4000, 0x0080, 0x7FFF};
+    if (percent(50))
+        return (uint16_t)random32();
+    return (uint16_t)(edges[below(7)] + below(9) - 4);
+}
+
+/* frame_bytes, its length and bit count; a length above 65,540 is refused */
+static size_t random_frame(size_t *bits, int longest)
+{
+    uint8_t code = random_code();
+    size_t length = random_length(code);
+    if (longest)
+        length = LONGEST - 2 + below(4);
+    random_bytes(frame_bytes, length);
+    if (length >= 3) {
+        uint16_t address = random_address();
+        frame_bytes[1] = (uint8_t)(address >> 8);
+        frame_bytes[2] = (uint8_t)address;
+    }
+    frame_bytes[0] = code;
+    if (code == WRSR && percent(60))
+        frame_bytes[1] &= 0x73 | (percent(50) ? 0x08 : 0) | (percent(50) ? 0x04 : 0); /* keep the device usable */
+    *bits = length == 0 ? 0 : percent(85) ? 8 * length : 8 * length - below(8);
+    return length;
+}
+
+/* ---- sessions of frames */
+
+static void frame_step(cartvesper_core *core)
+{
+    size_t bits, length = random_frame(&bits, below(400) == 0);
+    uint8_t w = percent(2) ? (uint8_t)random32() : percent(70);
+    size_t count = percent(2) ? bits + 8 - below(17) : bits;
+    try_frame(core, random_size(2), w, length, percent(1) ? random32() : count, off_by_one(length, 2));
+}
+
+/* frames at the limits of the slice, several refusals at once */
+static void try_limits(int count)
+{
+    static const size_t lengths[] = {0, 1, 2, 65539, 65540, 65541};
+    for (int i = 0; i < count; i++) {
+        cartvesper_core core;
+        try_power_up(&core, random_cycle(), 0, 0, 0, random_clock());
+        core.wel = percent(90) ? (uint8_t)below(2) : 2;
+        size_t length = lengths[below(6)];
+        size_t bits = percent(60) ? 8 * length - below(8) * (length > 0) : 8 * length + 2 - below(12);
+        frame_bytes[0] = random_code();
+        try_frame(&core, random_size(10), (uint8_t)(percent(95) ? below(2) : 2), length, bits, off_by_one(length, 30));
+    }
+}
+
+static void frame_session(int steps)
+{
+    cartvesper_core core;
+    new_memory();
+    while (try_power_up(&core, percent(90) ? random_cycle() : random32() >> below(32), percent(2) ? 2 : percent(20), percent(2) ? 255 : percent(20),
+                        percent(2) ? 2 : percent(30), random_clock()) != 0) {
+    }
+    for (int i = 0; i < steps; i++) {
+        if (percent(65))
+            frame_step(&core);
+        else
+            try_reading(&core, random_reading(&core), random_size(2));
+        if (percent(10))
+            try_core_queries(&core, percent(80) ? random_address() : random32() >> below(32));
+    }
+}
+
+/* ---- power-up at the edges of the cycle length, with flags that are not 0 or 1 */
+
+static uint8_t random_flag(void)
+{
+    return (uint8_t)(percent(85) ? below(2) : percent(50) ? 2 : random32());
+}
+
+static void try_power_ups(int count)
+{
+    static const uint32_t cycles[] = {0, 1, 2, 4999, 5000, 5001, 0xFFFFFFFF};
+    cartvesper_core core;
+    cartvesper_device device;
+    for (int i = 0; i < count; i++) {
+        uint32_t cycle = percent(70) ? cycles[below(7)] : random32() >> below(32);
+        uint8_t srwd = random_flag(), bp1 = random_flag(), bp0 = random_flag();
+        uint32_t reading = random_clock();
+        try_power_up(&core, cycle, srwd, bp1, bp0, reading);
+        try_device_power_up(&device, cycle, srwd, bp1, bp0, reading);
+        compare_cores("the two power-ups: device (first), core (second)", &device.core, &core);
+    }
+}
+
+/* ---- lists of events: generated on a plain device, so that readings can aim at the cycle's end */
+
+static uint64_t script[EVENTS];
+static size_t script_count;
+static cartvesper_device script_device;
+
+static void emit(int kind, uint32_t value)
+{
+    if (script_count == EVENTS)
+        return;
+    uint64_t event = (uint64_t)kind << 32 | value;
+    plain_event(&script_device, script_memory.bytes, event);
+    script[script_count++] = event;
+}
+
+static void toggle(int kind)
+{
+    const cartvesper_pins *pins = &script_device.pins;
+    const uint8_t levels[] = {pins->s, pins->c, pins->d, pins->w, pins->hold};
+    emit(kind, !levels[kind]);
+}
+
+/* anything in between: HOLD and S with C high too, readings inside frames, redundant settings */
+static void disturb(void)
+{
+    switch (below(12)) {
+    case 0:
+    case 1:
+    case 2:
+    case 3:
+        toggle(SET_HOLD);
+        break;
+    case 4:
+    case 5:
+        toggle(SET_D);
+        break;
+    case 6:
+        toggle(SET_W);
+        break;
+    case 7:
+    case 8:
+        emit(CLOCK, random_reading(&script_device.core));
+        break;
+    case 9:
+        emit((int)below(5), percent(50));
+        break;
+    case 10:
+        toggle(SET_C);
+        break;
+    default:
+        if (percent(15))
+            toggle(SET_S);
+        break;
+    }
+}
+
+static void maybe_disturb(uint32_t rough)
+{
+    if (rough && below(1000) < rough)
+        disturb();
+}
+
+/* one bit in mode 0 (C low before it) or 3 (C high before it) */
+static void draw_bit(int bit, int mode, uint32_t rough)
+{
+    if (mode)
+        emit(SET_C, 0);
+    maybe_disturb(rough);
+    emit(SET_D, (uint32_t)bit);
+    emit(SET_C, 1);
+    maybe_disturb(rough);
+    if (!mode)
+        emit(SET_C, 0);
+}
+
+static void draw_frame(size_t bits, int mode, uint32_t rough)
+{
+    emit(SET_S, 1);
+    if (percent(80))
+        emit(SET_HOLD, 1);
+    if (percent(80))
+        emit(SET_W, 1);
+    emit(SET_C, (uint32_t)mode);
+    emit(SET_S, 0);
+    for (size_t i = 0; i < bits; i++)
+        draw_bit(frame_bytes[i / 8] >> (7 - i % 8) & 1, mode, rough);
+    maybe_disturb(rough);
+    emit(SET_S, 1);
+}
+
+static void draw_noise(int count)
+{
+    for (int i = 0; i < count; i++) {
+        if (percent(60))
+            toggle(SET_C);
+        else if (percent(70))
+            emit(SET_D, percent(50));
+        else
+            disturb();
+    }
+}
+
+/* a frame's start drawn well, then noise: noise alone seldom makes an instruction */
+static void draw_start_then_noise(void)
+{
+    size_t bits, length = random_frame(&bits, 0);
+    int mode = percent(50);
+    emit(SET_S, 1);
+    emit(SET_HOLD, 1);
+    emit(SET_C, (uint32_t)mode);
+    emit(SET_S, 0);
+    for (size_t i = 0; i < bits && i < 8 * length && i < 40; i++)
+        draw_bit(frame_bytes[i / 8] >> (7 - i % 8) & 1, mode, 0);
+    draw_noise((int)below(200));
+}
+
+static void draw_something(void)
+{
+    size_t bits;
+    switch (below(6)) {
+    case 0:
+        draw_noise((int)below(100));
+        break;
+    case 1:
+        draw_start_then_noise();
+        break;
+    case 2:
+        random_frame(&bits, 0);
+        draw_frame(bits, percent(50), 1 + below(60));
+        break;
+    case 3:
+        emit(CLOCK, random_reading(&script_device.core));
+        break;
+    default:
+        random_frame(&bits, 0);
+        draw_frame(bits, percent(50), 0);
+        break;
+    }
+}
+
+static void new_script(const cartvesper_device *device)
+{
+    script_count = 0;
+    script_device = *device;
+    script_memory = plain_memory;
+    for (uint32_t parts = below(12); parts > 0; parts--)
+        draw_something();
+}
+
+/* bits that the list call does not look at: above the kind, and above a level's lowest */
+static void dirty_script(void)
+{
+    for (size_t i = 0; i < script_count; i++) {
+        script[i] |= next64() << 35;
+        if ((script[i] >> 32 & 7) < CLOCK)
+            script[i] |= random32() & ~1u;
+        else
+            script[i] = (script[i] & ~(7ULL << 32)) | (uint64_t)(CLOCK + below(3)) << 32; /* 5 to 7 are a reading */
+    }
+}
+
+/* the script event by event, then the same as a list */
+static void run_script(cartvesper_device *device)
+{
+    static uint8_t q[EVENTS];
+    cartvesper_device start = *device, refused = *device;
+    start_memory = lib_memory;
+    for (size_t i = 0; i < script_count; i++) {
+        try_event(device, (int)(script[i] >> 32), (uint32_t)script[i], MEMORY);
+        q[i] = (uint8_t)try_device_queries(device).value;
+        if (percent(1))
+            try_event(device, (int)below(6), percent(50) ? 2 : random32() | 2, 0); /* refused, or S, D, W, HOLD at a level above 1 */
+    }
+    singles_memory = lib_memory;
+    lib_memory = plain_memory = start_memory;
+    if (percent(30))
+        dirty_script();
+    if (percent(10))
+        try_play(&refused, script, script_count, off_by_one(script_count, 70), random_size(50));
+    lib_memory = plain_memory = start_memory;
+    if (try_play(&start, script, script_count, script_count, MEMORY) != 0)
+        fail("the list refused");
+    compare_devices("the list (library) and the single events (plain)", &start, device);
+    compare_bytes("Q of the list (library) and of the single events (plain)", lib_out.bytes, q, script_count, 0);
+    compare_bytes("memory after the list (library) and the single events (plain)", lib_memory.before, singles_memory.before, sizeof lib_memory,
+                  GUARD);
+}
+
+static void pin_session(int scripts)
+{
+    cartvesper_device device;
+    new_memory();
+    while (try_device_power_up(&device, percent(90) ? random_cycle() : random32() >> below(32), percent(2) ? 2 : percent(20),
+                               percent(2) ? 255 : percent(20), percent(2) ? 2 : percent(30), random_clock()) != 0) {
+    }
+    for (int i = 0; i < scripts; i++) {
+        new_script(&device);
+        run_script(&device);
+    }
+}
+
+/* ---- records inside the ranges, also those that no events reach, field by field */
+
+static void random_latch(cartvesper_latch *latch)
+{
+    static const uint32_t densities[] = {0, 100, 2, 50};
+    uint32_t density = densities[below(4)];
+    for (int i = 0; i < PAGE; i++) {
+        latch->marks[i] = (uint8_t)percent(density);
+        latch->bytes[i] = latch->marks[i] ? (uint8_t)random32() : 0;
+    }
+}
+
+static void random_waiting(cartvesper_waiting *waits)
+{
+    waits->kind = (uint8_t)(1 + below(2));
+    if (waits->kind == 1) {
+        waits->status = random32() & 0x8C;
+    } else {
+        waits->page = percent(30) ? below(2) * 511 : below(512);
+        random_latch(&waits->latch);
+    }
+}
+
+static cartvesper_core random_core(void)
+{
+    cartvesper_core core;
+    memset(&core, 0, sizeof core);
+    core.srwd = (uint8_t)percent(50);
+    core.bp1 = (uint8_t)percent(30);
+    core.bp0 = (uint8_t)percent(30);
+    core.wel = (uint8_t)percent(60);
+    core.cycle = random_cycle();
+    core.last = random_clock();
+    if (percent(40)) {
+        core.wel = 1;
+        core.left = percent(30) ? core.cycle : 1 + below(core.cycle);
+        random_waiting(&core.waits);
+    }
+    return core;
+}
+
+static int is_output(const cartvesper_frame_part *frame)
+{
+    return (frame->code == RDSR && frame->taken >= 1) || (frame->code == READ && frame->taken >= 3 && !frame->ran);
+}
+
+static void random_frame_fields(cartvesper_frame_part *frame, int cycle_runs)
+{
+    frame->taken = (uint8_t)below(5);
+    frame->bits = (uint8_t)(percent(60) ? 7 * below(2) : below(8));
+    frame->part = (uint8_t)below(1u << frame->bits);
+    if (frame->taken == 0)
+        return;
+    frame->code = random_code();
+    frame->ran = cycle_runs || percent(30);
+    if (frame->code == WRSR && frame->taken >= 2)
+        frame->value = (uint8_t)random32();
+    if ((frame->code == READ || frame->code == WRITE) && frame->taken >= 2)
+        frame->address = random_address() & (frame->taken == 2 ? 0xFF00 : 0xFFFF);
+    if (frame->code == WRITE && frame->taken == 4)
+        random_latch(&frame->latch);
+    if (is_output(frame)) {
+        frame->shown = (uint8_t)below(9);
+        frame->out = frame->shown ? (uint8_t)random32() : 0;
+    }
+}
+
+static cartvesper_device random_device(void)
+{
+    cartvesper_device device;
+    memset(&device, 0, sizeof device);
+    device.core = random_core();
+    device.pins.s = (uint8_t)percent(15);
+    device.pins.c = (uint8_t)percent(50);
+    device.pins.d = (uint8_t)percent(50);
+    device.pins.w = (uint8_t)percent(50);
+    device.pins.hold = (uint8_t)percent(70);
+    if (device.pins.s)
+        return device;
+    device.held = (uint8_t)(device.pins.c ? percent(30) : !device.pins.hold);
+    random_frame_fields(&device.frame, device.core.left > 0);
+    return device;
+}
+
+/* one random event; then, now and then, a few more */
+static void step_unreached(void)
+{
+    cartvesper_device device = random_device();
+    begin_call(NULL, &device, "a record built inside the ranges");
+    if (!plain_device_ok(&device) || cartvesper_device_in_ranges(device).number != 0)
+        fail("a record built inside the ranges is refused");
+    counts.unreached++;
+    do {
+        int kind = (int)(percent(25) ? SET_S : percent(40) ? SET_C : below(6));
+        const cartvesper_pins *pins = &device.pins;
+        const uint8_t levels[] = {pins->s, pins->c, pins->d, pins->w, pins->hold};
+        if (kind == CLOCK)
+            try_event(&device, kind, random_reading(&device.core), MEMORY);
+        else
+            try_event(&device, kind, percent(90) ? !levels[kind] : levels[kind], MEMORY);
+        try_device_queries(&device);
+    } while (percent(60));
+}
+
+/* the same for the frame model: one frame and one reading */
+static void step_unreached_core(void)
+{
+    cartvesper_core core = random_core();
+    size_t bits, length = random_frame(&bits, 0);
+    begin_call(&core, NULL, "a record built inside the ranges");
+    if (!plain_core_ok(&core) || cartvesper_core_in_ranges(core).number != 0)
+        fail("a record built inside the ranges is refused");
+    counts.unreached++;
+    try_frame(&core, MEMORY, percent(50), length, bits, length);
+    try_reading(&core, random_reading(&core), MEMORY);
+    try_core_queries(&core, random_address());
+}
+
+/* ---- damaged records */
+
+typedef struct {
+    size_t at, size;
+} field;
+
+#define CORE_FIELD(name) {offsetof(cartvesper_core, name), sizeof(((cartvesper_core *)0)->name)}
+#define FIELDS(fields) (sizeof(fields) / sizeof *(fields))
+#define DEVICE_FIELD(name) {offsetof(cartvesper_device, name), sizeof(((cartvesper_device *)0)->name)}
+
+static const field core_fields[] = {CORE_FIELD(srwd),       CORE_FIELD(bp1),          CORE_FIELD(bp0),        CORE_FIELD(wel),
+                                    CORE_FIELD(cycle),      CORE_FIELD(left),         CORE_FIELD(last),       CORE_FIELD(waits.kind),
+                                    CORE_FIELD(waits.status), CORE_FIELD(waits.page)};
+static const field device_fields[] = {DEVICE_FIELD(pins.s),      DEVICE_FIELD(pins.c),     DEVICE_FIELD(pins.d),      DEVICE_FIELD(pins.w),
+                                      DEVICE_FIELD(pins.hold),   DEVICE_FIELD(held),       DEVICE_FIELD(frame.taken), DEVICE_FIELD(frame.bits),
+                                      DEVICE_FIELD(frame.part),  DEVICE_FIELD(frame.code), DEVICE_FIELD(frame.ran),   DEVICE_FIELD(frame.value),
+                                      DEVICE_FIELD(frame.out),   DEVICE_FIELD(frame.shown), DEVICE_FIELD(frame.address)};
+
+enum { EDGES = 24 };
+static const uint32_t edges[EDGES] = {0,   1,   2,   3,   4,    5,    6,    7,     8,     9,          16,  127,
+                                      128, 255, 256, 511, 512, 4999, 5000, 5001, 65535, 65536, 0x7FFFFFFF, 0xFFFFFFFF};
+
+static uint32_t damaged_value(uint32_t old)
+{
+    switch (below(4)) {
+    case 0:
+        return edges[below(EDGES)];
+    case 1:
+        return old + 1;
+    case 2:
+        return old ^ 1u << below(32);
+    default:
+        return random32() >> below(32);
+    }
+}
+
+static void damage_field(void *record, field chosen)
+{
+    uint8_t *at = (uint8_t *)record + chosen.at;
+    uint32_t word = 0;
+    if (chosen.size == 1) {
+        *at = (uint8_t)(percent(30) ? *at ^ 1u << below(8) : damaged_value(*at));
+    } else {
+        memcpy(&word, at, 4);
+        word = damaged_value(word);
+        memcpy(at, &word, 4);
+    }
+}
+
+static void set_field(void *record, field chosen, uint32_t value)
+{
+    uint8_t *at = (uint8_t *)record + chosen.at;
+    if (chosen.size == 1)
+        *at = (uint8_t)value;
+    else
+        memcpy(at, &value, 4);
+}
+
+/* each field of a record inside the ranges at each edge, the other fields as they were: is it inside? */
+static void sweep_core(void)
+{
+    cartvesper_core core = random_core(), copy;
+    for (size_t f = 0; f < FIELDS(core_fields); f++)
+        for (size_t e = 0; e < EDGES; e++) {
+            copy = core;
+            set_field(&copy, core_fields[f], edges[e]);
+            begin_call(&copy, NULL, "core_in_ranges");
+            compare_values(cartvesper_core_in_ranges(copy), plain_core_in_ranges_call(copy));
+        }
+    counts.swept += FIELDS(core_fields) * EDGES;
+}
+
+static void sweep_device(void)
+{
+    cartvesper_device device = random_device(), copy;
+    for (size_t f = 0; f < FIELDS(device_fields); f++)
+        for (size_t e = 0; e < EDGES; e++) {
+            copy = device;
+            set_field(&copy, device_fields[f], edges[e]);
+            begin_call(NULL, &copy, "device_in_ranges");
+            compare_values(cartvesper_device_in_ranges(copy), plain_device_in_ranges_call(copy));
+        }
+    counts.swept += FIELDS(device_fields) * EDGES;
+}
+
+static void damage_latch(cartvesper_latch *latch)
+{
+    uint32_t cell = percent(40) ? 127 * below(2) : below(PAGE);
+    if (percent(50))
+        latch->bytes[cell] = (uint8_t)damaged_value(latch->bytes[cell]);
+    else
+        latch->marks[cell] = (uint8_t)damaged_value(latch->marks[cell]);
+}
+
+static void damage_core(cartvesper_core *core)
+{
+    if (percent(3)) {
+        random_bytes(core, sizeof *core);
+        return;
+    }
+    do {
+        if (percent(25))
+            damage_latch(&core->waits.latch);
+        else
+            damage_field(core, core_fields[below(FIELDS(core_fields))]);
+    } while (percent(20));
+}
+
+static void damage_device(cartvesper_device *device)
+{
+    if (percent(3)) {
+        random_bytes(device, sizeof *device);
+        return;
+    }
+    do {
+        if (percent(15))
+            damage_core(&device->core);
+        else if (percent(20))
+            damage_latch(&device->frame.latch);
+        else
+            damage_field(device, device_fields[below(FIELDS(device_fields))]);
+    } while (percent(20));
+}
+
+/* every call of the frame model on it, with now and then other refusals at once */
+static void try_damaged_core(void)
+{
+    cartvesper_core core = random_core(), copy;
+    size_t bits, length;
+    damage_core(&core);
+    counts.damaged++;
+    try_core_queries(&core, percent(50) ? random_address() : random32() >> below(32));
+    length = random_frame(&bits, below(500) == 0);
+    copy = core;
+    try_frame(&copy, random_size(20), (uint8_t)(percent(10) ? random32() : below(2)), length, off_by_one(bits, 20), off_by_one(length, 20));
+    copy = core;
+    try_reading(&copy, random_reading(&core), random_size(20));
+}
+
+static void try_damaged_device(void)
+{
+    cartvesper_device device = random_device(), copy;
+    damage_device(&device);
+    counts.damaged++;
+    try_device_queries(&device);
+    for (int kind = SET_S; kind <= CLOCK; kind++) {
+        copy = device;
+        try_event(&copy, kind, kind == CLOCK ? random_reading(&device.core) : percent(15) ? random32() : (uint32_t)percent(50), random_size(15));
+    }
+    uint64_t events[4] = {next64(), next64(), next64(), next64()};
+    size_t count = below(4);
+    copy = device;
+    try_play(&copy, events, count, off_by_one(count, 20), random_size(20));
+}
+
+/* ---- the two models against each other, through the library: 01 "Frames" */
+
+static uint64_t leading_z;
+static int driven_yet;
+
+/* Q just before a counted edge: Z as 1 */
+static void cross_bit(const cartvesper_device *device, const uint8_t *expected, size_t bit)
+{
+    uint32_t q = cartvesper_device_q(*device).value;
+    uint32_t drawn = q == 2 ? 1 : q, frame = expected[bit / 8] >> (7 - bit % 8) & 1;
+    driven_yet |= q != 2;
+    leading_z += !driven_yet;
+    if (drawn != frame)
+        fail_numbers("Q before a counted edge (first: pins, second: frame's output bit)", drawn, frame);
+}
+
+/* a pause begins and ends while C is low; C and D move inside, S does not, W is set to the level it has */
+static void cross_pause(cartvesper_device *device)
+{
+    try_event(device, SET_HOLD, 0, MEMORY);
+    for (uint32_t moves = below(12); moves > 0; moves--) {
+        int kind = (int)(SET_C + below(3));
+        try_event(device, kind, kind == SET_W ? device->pins.w : below(2), MEMORY);
+    }
+    try_event(device, SET_C, 0, MEMORY);
+    try_event(device, SET_HOLD, 1, MEMORY);
+}
+
+static void maybe_pause(cartvesper_device *device, uint32_t pauses)
+{
+    while (percent(pauses))
+        cross_pause(device);
+}
+
+/* D may move between edges; redundant settings change nothing */
+static void idle_moves(cartvesper_device *device, uint32_t pauses)
+{
+    const cartvesper_pins *pins = &device->pins;
+    const uint8_t levels[] = {pins->s, pins->c, pins->d, pins->w, pins->hold};
+    while (percent(pauses)) {
+        int kind = (int)below(5);
+        try_event(device, kind, kind == SET_D ? below(2) : levels[kind], MEMORY);
+    }
+}
+
+static void cross_edge(cartvesper_device *device, size_t bit, int mode, uint32_t pauses, const uint8_t *expected)
+{
+    if (mode)
+        try_event(device, SET_C, 0, MEMORY);
+    idle_moves(device, pauses);
+    maybe_pause(device, pauses);
+    try_event(device, SET_D, frame_bytes[bit / 8] >> (7 - bit % 8) & 1, MEMORY);
+    cross_bit(device, expected, bit);
+    try_event(device, SET_C, 1, MEMORY);
+    idle_moves(device, pauses);
+    if (!mode)
+        try_event(device, SET_C, 0, MEMORY);
+}
+
+/* the whole drawing of a frame, from an unselected device */
+static void cross_draw(cartvesper_device *device, size_t bits, int mode, uint32_t pauses, const uint8_t *expected)
+{
+    leading_z = 0;
+    driven_yet = 0;
+    try_event(device, SET_C, (uint32_t)mode, MEMORY);
+    try_event(device, SET_S, 0, MEMORY);
+    for (size_t bit = 0; bit < bits; bit++)
+        cross_edge(device, bit, mode, pauses, expected);
+    if (!mode)
+        maybe_pause(device, pauses);
+    try_event(device, SET_S, 1, MEMORY);
+    counts.drawn++;
+}
+
+/* then both cycles end: the memories must agree too */
+static void cross_memory(cartvesper_device *device, cartvesper_core *core)
+{
+    uint32_t reading = random_reading(core);
+    start_memory = lib_memory;
+    try_event(device, CLOCK, reading, MEMORY);
+    singles_memory = lib_memory;
+    lib_memory = plain_memory = start_memory;
+    try_reading(core, reading, MEMORY);
+    compare_bytes("memory after frame (first) and pins (second)", lib_memory.before, singles_memory.before, sizeof lib_memory, GUARD);
+    compare_cores("core after the reading: pins (first), frame (second)", &device->core, core);
+}
+
+/* the output's bits past the bit count are 1 */
+static void cross_tail(const uint8_t *out, size_t length, size_t bits)
+{
+    for (size_t bit = bits; bit < 8 * length; bit++)
+        if ((out[bit / 8] >> (7 - bit % 8) & 1) == 0)
+            fail("a bit past the bit count is 0 in the frame's output");
+}
+
+static void cross_frame(cartvesper_device *device, int longest)
+{
+    static uint8_t expected[LONGEST + 1];
+    cartvesper_core core = device->core;
+    uint8_t w = (uint8_t)percent(70);
+    size_t bits, length;
+    do {
+        length = random_frame(&bits, longest);
+    } while (length > LONGEST);
+    if (longest && percent(70))
+        frame_bytes[0] = percent(60) ? READ : WRITE;
+    cartvesper_frame_answer answer = cartvesper_frame(core, lib_memory.bytes, MEMORY, w, frame_bytes, length, bits, expected, length);
+    try_frame(&core, MEMORY, w, length, bits, length);
+    compare_numbers("frame number", answer.number, 0);
+    cross_tail(expected, length, bits);
+    try_event(device, SET_W, w, MEMORY);
+    cross_draw(device, bits, percent(50), longest ? 0 : percent(50) ? below(30) : 0, expected);
+    begin_call(&core, NULL, "frame %02X of %zu bits drawn (record: after the frame)", length ? frame_bytes[0] : 0, bits);
+    compare_numbers("leading Z (first: pins, second: frame's undriven)", leading_z, answer.undriven);
+    compare_numbers("status (first: pins, second: frame)", cartvesper_device_status(*device).value, cartvesper_core_status(core).value);
+    compare_numbers("time left (first: pins, second: frame)", device->core.left, core.left);
+    compare_cores("core (library: pins, plain: frame)", &device->core, &core);
+    compare_memory();
+    if (percent(50))
+        cross_memory(device, &core);
+}
+
+static void cross_session(int frames)
+{
+    cartvesper_device device;
+    new_memory();
+    try_device_power_up(&device, random_cycle(), percent(20), percent(20), percent(30), random_clock());
+    if (percent(30))
+        device.core = random_core();
+    for (int i = 0; i < frames; i++)
+        cross_frame(&device, below(1000) == 0);
+}
+
+/* ---- the cases of document 01 that are about the chip, with the values it gives */
+
+static void case_frame(cartvesper_core *core, const char *hex, size_t bits)
+{
+    size_t length = 0;
+    for (char *end = (char *)hex; *end != 0; length++)
+        frame_bytes[length] = (uint8_t)strtoul(end, &end, 16);
+    try_frame(core, MEMORY, 1, length, bits ? bits : 8 * length, length);
+}
+
+static void case_start(cartvesper_core *core, int bits)
+{
+    memset(&lib_memory, 0xFF, sizeof lib_memory);
+    plain_memory = lib_memory;
+    try_power_up(core, 5000, (uint8_t)bits >> 2 & 1, (uint8_t)bits >> 1 & 1, (uint8_t)bits & 1, 4294967290);
+    case_frame(core, "06", 0);
+}
+
+static void case_expect(const char *what, uint32_t got, uint32_t wanted)
+{
+    if (got != wanted)
+        fail_numbers(what, got, wanted);
+}
+
+static void cases_a_b(void)
+{
+    cartvesper_core core;
+    case_start(&core, 0);
+    case_frame(&core, "02 00 7E 11 22 33 44", 55);
+    case_expect("case b: time left (second: wanted)", core.left, 0);
+    case_frame(&core, "02 00 7E 11 22 33 44 55", 57);
+    case_expect("case b: time left (second: wanted)", core.left, 0);
+    case_frame(&core, "02 00 7E 11 22 33 44", 0);
+    try_reading(&core, 10, MEMORY); /* case i: 16 elapsed */
+    case_expect("case i: time left (second: wanted)", core.left, 4984);
+    case_frame(&core, "03 00 7E 00 00", 0);
+    case_expect("case k: Q in a cycle (second: wanted)", lib_out.bytes[3], 0xFF);
+    try_reading(&core, 10 + 4984, MEMORY);
+    case_expect("case a: 007Eh (second: wanted)", lib_memory.bytes[0x7E], 0x11);
+    case_expect("case a: 007Fh (second: wanted)", lib_memory.bytes[0x7F], 0x22);
+    case_expect("case a: 0000h (second: wanted)", lib_memory.bytes[0], 0x33);
+    case_expect("case a: 0001h (second: wanted)", lib_memory.bytes[1], 0x44);
+    case_expect("case a: 0080h (second: wanted)", lib_memory.bytes[0x80], 0xFF);
+    lib_memory.bytes[0xFFFF] = plain_memory.bytes[0xFFFF] = 0x5A;
+    case_frame(&core, "03 FF FF 00 00", 0);
+    case_expect("case f: cell FFFFh (second: wanted)", lib_out.bytes[3], 0x5A);
+    case_expect("case f: cell 0000h (second: wanted)", lib_out.bytes[4], 0x33);
+    case_frame(&core, "06 00", 0);
+    case_expect("case j: WEL (second: wanted)", core.wel, 0);
+}
+
+static void case_c(void)
+{
+    cartvesper_core core;
+    case_start(&core, 0);
+    memset(frame_bytes, 0, 3);
+    frame_bytes[0] = WRITE;
+    for (int i = 0; i < 130; i++)
+        frame_bytes[3 + i] = (uint8_t)i;
+    try_frame(&core, MEMORY, 1, 133, 8 * 133, 133);
+    try_reading(&core, core.last + 5000, MEMORY);
+    case_expect("case c: cell 0 (second: wanted)", lib_memory.bytes[0], 0x80);
+    case_expect("case c: cell 1 (second: wanted)", lib_memory.bytes[1], 0x81);
+    case_expect("case c: cell 2 (second: wanted)", lib_memory.bytes[2], 0x02);
+}
+
+static void cases_d_e(void)
+{
+    cartvesper_core core;
+    case_start(&core, 1);
+    case_frame(&core, "02 C0 00 11", 0);
+    case_expect("case d: C000h, time left (second: wanted)", core.left, 0);
+    case_frame(&core, "02 BF FF 11", 0);
+    case_expect("case d: BFFFh, time left (second: wanted)", core.left, 5000);
+    case_start(&core, 7);
+    case_expect("case e: with WEL (second: wanted)", cartvesper_core_status(core).value, 0x8E);
+    case_frame(&core, "01 8C", 0);
+    case_expect("case e: in a cycle (second: wanted)", cartvesper_core_status(core).value, 0x8F);
+    try_reading(&core, core.last + 5000, MEMORY);
+    case_expect("case e: idle (second: wanted)", cartvesper_core_status(core).value, 0x8C);
+}
+
+/* ---- */
+
+static void run_round(void)
+{
+    frame_session(300);
+    try_limits(20);
+    pin_session(6);
+    for (int i = 0; i < 150; i++) {
+        try_damaged_core();
+        try_damaged_device();
+    }
+    for (int i = 0; i < 300; i++)
+        step_unreached();
+    for (int i = 0; i < 60; i++)
+        step_unreached_core();
+    for (int i = 0; i < 20; i++) {
+        sweep_core();
+        sweep_device();
+    }
+    try_power_ups(40);
+    cross_session(12);
+}
+
+static void print_summary(uint64_t rounds)
+{
+    printf("no difference: seed %" PRIu64 ", %" PRIu64 " rounds, %" PRIu64 " calls compared\n", seed, rounds, counts.calls);
+    printf("frames %" PRIu64 ", executed writes %" PRIu64 ", bits driven %" PRIu64 "\n", counts.frames, counts.executed, counts.driven);
+    printf("events %" PRIu64 ", in lists again %" PRIu64 " (%" PRIu64 " lists), clock readings %" PRIu64 "\n", counts.events, counts.listed,
+           counts.lists, counts.readings);
+    printf("cycles ended %" PRIu64 ", cells changed %" PRIu64 "\n", counts.cycles, counts.cells);
+    printf("frames drawn at the pins against the frame call %" PRIu64 "\n", counts.drawn);
+    printf("records inside the ranges built by hand %" PRIu64 ", damaged records %" PRIu64 ", fields set to an edge %" PRIu64 "\n", counts.unreached,
+           counts.damaged, counts.swept);
+    printf("refusals:");
+    for (int i = 1; i < 8; i++)
+        printf(" %d: %" PRIu64 "%s", i, counts.refusals[i], i < 7 ? "," : "\n");
+}
+
+int main(int argc, char **argv)
+{
+    seed = argc > 1 ? strtoull(argv[1], NULL, 10) : 1;
+    uint64_t rounds = argc > 2 ? strtoull(argv[2], NULL, 10) : 100;
+    state = (seed + 1) * 0x9E3779B97F4A7C15ULL | 1;
+    for (int i = 0; i < 20; i++)
+        next64();
+    cases_a_b();
+    case_c();
+    cases_d_e();
+    for (current_round = 0; current_round < rounds; current_round++)
+        run_round();
+    print_summary(rounds);
+    return 0;
+}

@@ -1,0 +1,707 @@
+/* The plain model. "01" is document 01, "reading" its reading. */
+#include "plain.h"
+#include <string.h>
+
+enum { WREN = 0x06, WRDI = 0x04, RDSR = 0x05, WRSR = 0x01, READ = 0x03, WRITE = 0x02 };
+enum { MEMORY = 65536, PAGE = 128, PAGES = 512, LONGEST_FRAME = 65540, LONGEST_CYCLE = 5000 };
+enum { NOTHING = 0, STATUS = 1, LATCHED = 2 }; /* what waits */
+enum { WRITABLE = 0x8C };                      /* SRWD, BP1, BP0 in the status byte */
+enum { Z = 2 };
+
+/* ---- ranges: 01 "What the device holds", reading "The record" */
+
+static int all_zero(const uint8_t *bytes, size_t length)
+{
+    unsigned seen = 0;
+    for (size_t i = 0; i < length; i++)
+        seen |= bytes[i];
+    return seen == 0;
+}
+
+static int latch_empty(const cartvesper_latch *latch)
+{
+    return all_zero(latch->bytes, PAGE) && all_zero(latch->marks, PAGE);
+}
+
+/* marks are 0 or 1, unmarked bytes are 0 */
+static int latch_ok(const cartvesper_latch *latch)
+{
+    unsigned bad = 0;
+    for (size_t i = 0; i < PAGE; i++) {
+        uint8_t mark = latch->marks[i];
+        bad |= (mark & 0xFEu) | (latch->bytes[i] & (uint8_t)(mark - 1));
+    }
+    return bad == 0;
+}
+
+static int waiting_ok(const cartvesper_waiting *waits)
+{
+    switch (waits->kind) {
+    case NOTHING:
+        return waits->status == 0 && waits->page == 0 && latch_empty(&waits->latch);
+    case STATUS:
+        return (waits->status & ~WRITABLE) == 0 && waits->page == 0 && latch_empty(&waits->latch);
+    case LATCHED:
+        return waits->status == 0 && waits->page < PAGES && latch_ok(&waits->latch);
+    default:
+        return 0;
+    }
+}
+
+int plain_core_ok(const cartvesper_core *core)
+{
+    if (core->srwd > 1 || core->bp1 > 1 || core->bp0 > 1 || core->wel > 1)
+        return 0;
+    if (core->cycle < 1 || core->cycle > LONGEST_CYCLE || core->left > core->cycle)
+        return 0;
+    /* 01: time left has WEL 1 and one thing waiting; with none left, nothing waits */
+    if (core->left > 0 ? !core->wel || core->waits.kind == NOTHING : core->waits.kind != NOTHING)
+        return 0;
+    return waiting_ok(&core->waits);
+}
+
+static int frame_empty(const cartvesper_frame_part *frame)
+{
+    return frame->taken == 0 && frame->bits == 0 && frame->part == 0 && frame->code == 0 && frame->ran == 0 && frame->value == 0 &&
+           frame->out == 0 && frame->shown == 0 && frame->address == 0 && latch_empty(&frame->latch);
+}
+
+/* the address: READ and WRITE only, its high byte from two whole bytes, its low byte from three */
+static int address_ok(const cartvesper_frame_part *frame)
+{
+    if ((frame->code != READ && frame->code != WRITE) || frame->taken < 2)
+        return frame->address == 0;
+    if (frame->taken == 2 && (frame->address & 0xFF) != 0)
+        return 0;
+    return frame->address < MEMORY;
+}
+
+/* data output: RDSR from one whole byte, READ from three if no cycle ran at the eighth edge */
+static inline int in_output(const cartvesper_frame_part *frame)
+{
+    if (frame->code == RDSR)
+        return frame->taken >= 1;
+    return frame->code == READ && frame->taken >= 3 && !frame->ran;
+}
+
+static int output_ok(const cartvesper_frame_part *frame)
+{
+    if (!in_output(frame) || frame->shown == 0)
+        return frame->out == 0 && frame->shown == 0;
+    return frame->shown <= 8;
+}
+
+static int frame_ok(const cartvesper_frame_part *frame, int cycle_runs)
+{
+    if (frame->taken > 4 || frame->bits > 7 || frame->part >> frame->bits != 0 || frame->ran > 1)
+        return 0;
+    if (frame->taken == 0 && (frame->code != 0 || frame->ran != 0))
+        return 0;
+    if (frame->taken >= 1 && cycle_runs && !frame->ran)
+        return 0;
+    if ((frame->code != WRSR || frame->taken < 2) && frame->value != 0)
+        return 0;
+    if (!address_ok(frame) || !output_ok(frame))
+        return 0;
+    return frame->code == WRITE && frame->taken == 4 ? latch_ok(&frame->latch) : latch_empty(&frame->latch);
+}
+
+int plain_device_ok(const cartvesper_device *device)
+{
+    const cartvesper_pins *pins = &device->pins;
+    if (pins->s > 1 || pins->c > 1 || pins->d > 1 || pins->w > 1 || pins->hold > 1 || device->held > 1)
+        return 0;
+    if (!plain_core_ok(&device->core))
+        return 0;
+    if (pins->s)
+        return !device->held && frame_empty(&device->frame);
+    if (!pins->c && device->held != !pins->hold)
+        return 0;
+    return frame_ok(&device->frame, device->core.left > 0);
+}
+
+/* ---- the status byte, protection, time */
+
+uint8_t plain_status(const cartvesper_core *core)
+{
+    return (uint8_t)(core->srwd << 7 | core->bp1 << 3 | core->bp0 << 2 | core->wel << 1 | (core->left > 0));
+}
+
+int plain_protected(const cartvesper_core *core, uint32_t address)
+{
+    switch (core->bp1 << 1 | core->bp0) {
+    case 0:
+        return 0;
+    case 1:
+        return address >= 0xC000;
+    case 2:
+        return address >= 0x8000;
+    default:
+        return 1;
+    }
+}
+
+void plain_core_power_up(cartvesper_core *core, uint32_t cycle, int srwd, int bp1, int bp0, uint32_t reading)
+{
+    memset(core, 0, sizeof *core);
+    core->srwd = (uint8_t)srwd;
+    core->bp1 = (uint8_t)bp1;
+    core->bp0 = (uint8_t)bp0;
+    core->cycle = cycle;
+    core->last = reading;
+}
+
+/* the marked cells of the target page; a mark of 1 makes a mask of FFh */
+static void store_page(uint8_t *restrict cells, const cartvesper_latch *restrict latch)
+{
+    for (size_t i = 0; i < PAGE; i++) {
+        uint8_t mask = (uint8_t)-latch->marks[i];
+        cells[i] = (uint8_t)((cells[i] & ~mask) | (latch->bytes[i] & mask));
+    }
+}
+
+static void store_status(cartvesper_core *core, uint8_t status)
+{
+    core->srwd = status >> 7;
+    core->bp1 = status >> 3 & 1;
+    core->bp0 = status >> 2 & 1;
+}
+
+static void end_cycle(cartvesper_core *core, uint8_t *memory)
+{
+    if (core->waits.kind == STATUS)
+        store_status(core, core->waits.status);
+    else
+        store_page(memory + PAGE * core->waits.page, &core->waits.latch);
+    memset(&core->waits, 0, sizeof core->waits);
+    core->left = 0;
+    core->wel = 0;
+}
+
+void plain_time(cartvesper_core *core, uint8_t *memory, uint32_t reading)
+{
+    uint32_t elapsed = reading - core->last; /* modulo 2^32 */
+    core->last = reading;
+    if (core->left == 0)
+        return;
+    if (elapsed >= core->left)
+        end_cycle(core, memory);
+    else
+        core->left -= elapsed;
+}
+
+/* ---- execution: nothing waits here, so only what begins to wait is written */
+
+static int status_write_allowed(const cartvesper_core *core, int w)
+{
+    return core->wel && !(core->srwd && !w);
+}
+
+static void start_status_cycle(cartvesper_core *core, uint8_t value)
+{
+    core->waits.kind = STATUS;
+    core->waits.status = value & WRITABLE;
+    core->left = core->cycle;
+}
+
+static void start_page_cycle(cartvesper_core *core, uint32_t address)
+{
+    core->waits.kind = LATCHED;
+    core->waits.page = address / PAGE;
+    core->left = core->cycle;
+}
+
+/* ---- the frame level */
+
+/* bits past the count are written as 1 */
+static void fill_tail(uint8_t *out, size_t length, size_t bits)
+{
+    out[length - 1] |= 0xFF >> (bits - 8 * (length - 1));
+}
+
+static uint64_t frame_rdsr(const cartvesper_core *core, size_t length, size_t bits, uint8_t *out)
+{
+    out[0] = 0xFF;
+    memset(out + 1, plain_status(core), length - 1);
+    fill_tail(out, length, bits);
+    return 8;
+}
+
+static uint64_t frame_read(const uint8_t *memory, const uint8_t *bytes, size_t length, size_t bits, uint8_t *out)
+{
+    if (length <= 3) {
+        memset(out, 0xFF, length);
+        return bits;
+    }
+    size_t address = (size_t)bytes[1] << 8 | bytes[2];
+    size_t data = length - 3, first = MEMORY - address;
+    if (first > data)
+        first = data;
+    memset(out, 0xFF, 3);
+    memcpy(out + 3, memory + address, first);
+    memcpy(out + 3 + first, memory, data - first); /* rolls from FFFFh to 0000h, once at most: data is 65,537 at most */
+    fill_tail(out, length, bits);
+    return 24;
+}
+
+/* the latest byte for a cell wins, so only the last 128 data bytes can stay */
+static void frame_latch(cartvesper_latch *latch, size_t offset, const uint8_t *data, size_t count)
+{
+    if (count > PAGE) {
+        offset = (offset + count - PAGE) % PAGE;
+        data += count - PAGE;
+        count = PAGE;
+    }
+    size_t first = PAGE - offset;
+    if (first > count)
+        first = count;
+    memcpy(latch->bytes + offset, data, first);
+    memset(latch->marks + offset, 1, first);
+    memcpy(latch->bytes, data + first, count - first);
+    memset(latch->marks, 1, count - first);
+}
+
+static void frame_wrsr(cartvesper_core *core, int w, const uint8_t *bytes, size_t bits)
+{
+    if (bits == 16 && status_write_allowed(core, w))
+        start_status_cycle(core, bytes[1]);
+}
+
+static void frame_write(cartvesper_core *core, const uint8_t *bytes, size_t length, size_t bits)
+{
+    if (length < 4 || bits != 8 * length || !core->wel)
+        return;
+    uint32_t address = (uint32_t)bytes[1] << 8 | bytes[2];
+    if (plain_protected(core, address))
+        return;
+    frame_latch(&core->waits.latch, address % PAGE, bytes + 3, length - 3);
+    start_page_cycle(core, address);
+}
+
+/* what a frame without output does; in a cycle nothing */
+static void frame_execute(cartvesper_core *core, int w, const uint8_t *bytes, size_t length, size_t bits)
+{
+    switch (bytes[0]) {
+    case WREN:
+        if (bits == 8)
+            core->wel = 1;
+        break;
+    case WRDI:
+        if (bits == 8)
+            core->wel = 0;
+        break;
+    case WRSR:
+        frame_wrsr(core, w, bytes, bits);
+        break;
+    case WRITE:
+        frame_write(core, bytes, length, bits);
+        break;
+    }
+}
+
+uint64_t plain_frame(cartvesper_core *core, const uint8_t *memory, int w, const uint8_t *bytes, size_t length, size_t bits, uint8_t *out)
+{
+    if (bits >= 8) {
+        if (bytes[0] == RDSR)
+            return frame_rdsr(core, length, bits, out);
+        if (core->left == 0) {
+            if (bytes[0] == READ)
+                return frame_read(memory, bytes, length, bits, out);
+            frame_execute(core, w, bytes, length, bits);
+        }
+    }
+    if (length > 0)
+        memset(out, 0xFF, length);
+    return bits;
+}
+
+/* ---- the pin level */
+
+void plain_device_power_up(cartvesper_device *device, uint32_t cycle, int srwd, int bp1, int bp0, uint32_t reading)
+{
+    memset(device, 0, sizeof *device);
+    device->pins.s = 1;
+    device->pins.w = 1;
+    device->pins.hold = 1;
+    plain_core_power_up(&device->core, cycle, srwd, bp1, bp0, reading);
+}
+
+/* the page's next cell: back to its start, not into the next page */
+static void latch_byte(cartvesper_frame_part *frame, uint8_t byte)
+{
+    uint32_t offset = frame->address % PAGE;
+    frame->latch.bytes[offset] = byte;
+    frame->latch.marks[offset] = 1;
+    frame->address = frame->address - offset + (offset + 1) % PAGE;
+}
+
+/* the second whole byte: high address byte, or the WRSR data byte */
+static void second_byte(cartvesper_frame_part *frame, uint8_t byte)
+{
+    if (frame->code == READ || frame->code == WRITE)
+        frame->address = (uint32_t)byte << 8;
+    else if (frame->code == WRSR)
+        frame->value = byte;
+}
+
+/* fields fill by the instruction's code, in ignored frames too */
+static void whole_byte(cartvesper_device *device, uint8_t byte)
+{
+    cartvesper_frame_part *frame = &device->frame;
+    switch (frame->taken) {
+    case 0:
+        frame->code = byte;
+        frame->ran = device->core.left > 0; /* 01: "No cycle" is judged at the eighth counted edge */
+        break;
+    case 1:
+        second_byte(frame, byte);
+        break;
+    case 2:
+        if (frame->code == READ || frame->code == WRITE)
+            frame->address |= byte;
+        break;
+    default:
+        if (frame->code == WRITE)
+            latch_byte(frame, byte);
+        break;
+    }
+    if (frame->taken < 4)
+        frame->taken++;
+}
+
+/* a counted rising edge takes D, high bit first */
+static void take_bit(cartvesper_device *device)
+{
+    cartvesper_frame_part *frame = &device->frame;
+    uint8_t part = (uint8_t)(frame->part << 1 | device->pins.d);
+    if (frame->bits < 7) {
+        frame->part = part;
+        frame->bits++;
+        return;
+    }
+    frame->part = 0;
+    frame->bits = 0;
+    whole_byte(device, part);
+}
+
+/* an unheld falling edge: bits shown 1 to 7 step, 0 and 8 load the next byte */
+static void move_q(cartvesper_device *device, const uint8_t *memory)
+{
+    cartvesper_frame_part *frame = &device->frame;
+    if (!in_output(frame))
+        return;
+    if (frame->shown >= 1 && frame->shown <= 7) {
+        frame->shown++;
+        return;
+    }
+    frame->shown = 1;
+    if (frame->code == RDSR) {
+        frame->out = plain_status(&device->core);
+    } else {
+        frame->out = memory[frame->address];
+        frame->address = (frame->address + 1) % MEMORY;
+    }
+}
+
+/* the frame's bits are `taken` whole bytes (4: four or more) and no part of one; `ran` 0 means that no cycle runs now either */
+static void execute(cartvesper_device *device)
+{
+    const cartvesper_frame_part *frame = &device->frame;
+    cartvesper_core *core = &device->core;
+    if (frame->bits != 0 || frame->ran)
+        return;
+    switch (frame->code) {
+    case WREN:
+        if (frame->taken == 1)
+            core->wel = 1;
+        break;
+    case WRDI:
+        if (frame->taken == 1)
+            core->wel = 0;
+        break;
+    case WRSR:
+        if (frame->taken == 2 && status_write_allowed(core, device->pins.w))
+            start_status_cycle(core, frame->value);
+        break;
+    case WRITE:
+        if (frame->taken == 4 && core->wel && !plain_protected(core, frame->address)) {
+            core->waits.latch = frame->latch;
+            start_page_cycle(core, frame->address);
+        }
+        break;
+    }
+}
+
+static void empty_frame(cartvesper_frame_part *frame)
+{
+    if (frame->code == WRITE && frame->taken == 4) /* else the latch is empty */
+        memset(&frame->latch, 0, sizeof frame->latch);
+    memset(frame, 0, offsetof(cartvesper_frame_part, latch));
+}
+
+void plain_s(cartvesper_device *device, int level)
+{
+    if (device->pins.s == level)
+        return;
+    device->pins.s = (uint8_t)level;
+    if (level) {
+        if (!device->held) /* deselecting while held drops the frame */
+            execute(device);
+        device->held = 0;
+        empty_frame(&device->frame);
+    } else {
+        device->held = !device->pins.c && !device->pins.hold;
+    }
+}
+
+void plain_c(cartvesper_device *device, int level, const uint8_t *memory)
+{
+    if (device->pins.c == level)
+        return;
+    device->pins.c = (uint8_t)level;
+    if (device->pins.s)
+        return;
+    if (level) {
+        if (!device->held)
+            take_bit(device);
+    } else {
+        if (!device->held)
+            move_q(device, memory);
+        device->held = !device->pins.hold; /* the edge acts by the old held value, then held is renewed */
+    }
+}
+
+void plain_d(cartvesper_device *device, int level)
+{
+    device->pins.d = (uint8_t)level;
+}
+
+void plain_w(cartvesper_device *device, int level)
+{
+    device->pins.w = (uint8_t)level;
+}
+
+void plain_hold(cartvesper_device *device, int level)
+{
+    device->pins.hold = (uint8_t)level;
+    if (!device->pins.s && !device->pins.c)
+        device->held = !level;
+}
+
+void plain_device_time(cartvesper_device *device, uint8_t *memory, uint32_t reading)
+{
+    plain_time(&device->core, memory, reading);
+}
+
+int plain_q(const cartvesper_device *device)
+{
+    if (device->pins.s || device->held || device->frame.shown == 0)
+        return Z;
+    return device->frame.out >> (8 - device->frame.shown) & 1;
+}
+
+void plain_event(cartvesper_device *device, uint8_t *memory, uint64_t event)
+{
+    int level = event & 1;
+    switch (event >> 32 & 7) {
+    case 0:
+        plain_s(device, level);
+        break;
+    case 1:
+        plain_c(device, level, memory);
+        break;
+    case 2:
+        plain_d(device, level);
+        break;
+    case 3:
+        plain_w(device, level);
+        break;
+    case 4:
+        plain_hold(device, level);
+        break;
+    default:
+        plain_device_time(device, memory, (uint32_t)event);
+        break;
+    }
+}
+
+void plain_play(cartvesper_device *device, uint8_t *memory, const uint64_t *events, size_t count, uint8_t *out)
+{
+    for (size_t i = 0; i < count; i++) {
+        plain_event(device, memory, events[i]);
+        out[i] = (uint8_t)plain_q(device);
+    }
+}
+
+/* ---- every input answered */
+
+static uint32_t power_up_refusal(uint32_t cycle, uint8_t srwd, uint8_t bp1, uint8_t bp0)
+{
+    if (srwd > 1 || bp1 > 1 || bp0 > 1)
+        return 2;
+    return cycle < 1 || cycle > LONGEST_CYCLE ? 6 : 0;
+}
+
+cartvesper_core_answer plain_power_up_call(uint32_t cycle, uint8_t srwd, uint8_t bp1, uint8_t bp0, uint32_t reading)
+{
+    cartvesper_core_answer answer;
+    answer.number = power_up_refusal(cycle, srwd, bp1, bp0);
+    if (answer.number)
+        plain_core_power_up(&answer.core, LONGEST_CYCLE, 0, 0, 0, 0); /* as delivered */
+    else
+        plain_core_power_up(&answer.core, cycle, srwd, bp1, bp0, reading);
+    return answer;
+}
+
+cartvesper_core_answer plain_clock_reading_call(cartvesper_core core, uint32_t reading, uint8_t *memory, size_t size)
+{
+    cartvesper_core_answer answer = {size != MEMORY ? 1 : !plain_core_ok(&core) ? 2 : 0, core};
+    if (answer.number == 0)
+        plain_time(&answer.core, memory, reading);
+    return answer;
+}
+
+static uint32_t frame_refusal(const cartvesper_core *core, size_t size, uint8_t w, size_t length, size_t bits, size_t room)
+{
+    if (size != MEMORY)
+        return 1;
+    if (!plain_core_ok(core) || w > 1)
+        return 2;
+    if (length > LONGEST_FRAME)
+        return 3;
+    if (length == 0 ? bits != 0 : bits < 8 * length - 7 || bits > 8 * length)
+        return 4;
+    return room != length ? 5 : 0;
+}
+
+cartvesper_frame_answer plain_frame_call(cartvesper_core core, const uint8_t *memory, size_t size, uint8_t w, const uint8_t *bytes,
+                                         size_t length, size_t bits, uint8_t *out, size_t room)
+{
+    cartvesper_frame_answer answer = {frame_refusal(&core, size, w, length, bits, room), 0, core};
+    if (answer.number == 0)
+        answer.undriven = plain_frame(&answer.core, memory, w, bytes, length, bits, out);
+    return answer;
+}
+
+static cartvesper_value value_or_2(int ok, uint32_t value)
+{
+    cartvesper_value answer = {ok ? 0 : 2, ok ? value : 0};
+    return answer;
+}
+
+cartvesper_value plain_core_in_ranges_call(cartvesper_core core)
+{
+    return value_or_2(plain_core_ok(&core), 1);
+}
+
+cartvesper_value plain_core_status_call(cartvesper_core core)
+{
+    return value_or_2(plain_core_ok(&core), plain_status(&core));
+}
+
+cartvesper_value plain_core_protected_call(cartvesper_core core, uint32_t address)
+{
+    cartvesper_value above = {7, 0};
+    if (plain_core_ok(&core) && address >= MEMORY)
+        return above;
+    return value_or_2(plain_core_ok(&core), (uint32_t)plain_protected(&core, address));
+}
+
+cartvesper_device_answer plain_device_power_up_call(uint32_t cycle, uint8_t srwd, uint8_t bp1, uint8_t bp0, uint32_t reading)
+{
+    cartvesper_device_answer answer;
+    answer.number = power_up_refusal(cycle, srwd, bp1, bp0);
+    if (answer.number)
+        plain_device_power_up(&answer.device, LONGEST_CYCLE, 0, 0, 0, 0);
+    else
+        plain_device_power_up(&answer.device, cycle, srwd, bp1, bp0, reading);
+    return answer;
+}
+
+static uint32_t level_refusal(const cartvesper_device *device, uint8_t level)
+{
+    return plain_device_ok(device) && level <= 1 ? 0 : 2;
+}
+
+cartvesper_device_answer plain_device_set_s_call(cartvesper_device device, uint8_t level)
+{
+    cartvesper_device_answer answer = {level_refusal(&device, level), device};
+    if (answer.number == 0)
+        plain_s(&answer.device, level);
+    return answer;
+}
+
+cartvesper_device_answer plain_device_set_c_call(cartvesper_device device, uint8_t level, const uint8_t *memory, size_t size)
+{
+    cartvesper_device_answer answer = {size != MEMORY ? 1 : level_refusal(&device, level), device};
+    if (answer.number == 0)
+        plain_c(&answer.device, level, memory);
+    return answer;
+}
+
+cartvesper_device_answer plain_device_set_d_call(cartvesper_device device, uint8_t level)
+{
+    cartvesper_device_answer answer = {level_refusal(&device, level), device};
+    if (answer.number == 0)
+        plain_d(&answer.device, level);
+    return answer;
+}
+
+cartvesper_device_answer plain_device_set_w_call(cartvesper_device device, uint8_t level)
+{
+    cartvesper_device_answer answer = {level_refusal(&device, level), device};
+    if (answer.number == 0)
+        plain_w(&answer.device, level);
+    return answer;
+}
+
+cartvesper_device_answer plain_device_set_hold_call(cartvesper_device device, uint8_t level)
+{
+    cartvesper_device_answer answer = {level_refusal(&device, level), device};
+    if (answer.number == 0)
+        plain_hold(&answer.device, level);
+    return answer;
+}
+
+cartvesper_device_answer plain_device_read_clock_call(cartvesper_device device, uint32_t reading, uint8_t *memory, size_t size)
+{
+    cartvesper_device_answer answer = {size != MEMORY ? 1 : !plain_device_ok(&device) ? 2 : 0, device};
+    if (answer.number == 0)
+        plain_device_time(&answer.device, memory, reading);
+    return answer;
+}
+
+cartvesper_value plain_device_q_call(cartvesper_device device)
+{
+    if (!plain_device_ok(&device)) /* before Q: bits shown may be above 8 */
+        return value_or_2(0, 0);
+    return value_or_2(1, (uint32_t)plain_q(&device));
+}
+
+cartvesper_value plain_device_status_call(cartvesper_device device)
+{
+    return value_or_2(plain_device_ok(&device), plain_status(&device.core));
+}
+
+cartvesper_value plain_device_in_ranges_call(cartvesper_device device)
+{
+    return value_or_2(plain_device_ok(&device), 1);
+}
+
+static uint32_t play_refusal(const cartvesper_device *device, size_t size, size_t count, size_t room)
+{
+    if (size != MEMORY)
+        return 1;
+    if (!plain_device_ok(device))
+        return 2;
+    return room != count ? 5 : 0;
+}
+
+cartvesper_device_answer plain_device_play_call(cartvesper_device device, uint8_t *memory, size_t size, const uint64_t *events, size_t count,
+                                                uint8_t *out, size_t room)
+{
+    cartvesper_device_answer answer = {play_refusal(&device, size, count, room), device};
+    if (answer.number == 0)
+        plain_play(&answer.device, memory, events, count, out);
+    return answer;
+}

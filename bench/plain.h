@@ -1,0 +1,58 @@
+/* A plain C model of the M95512, written from document 01 and its reading alone: the frame level and the pin level, in the C record types of
+ * cartvesper.h, updated in place. The functions without `_call` trust their caller (a record inside its ranges, 65,536 bytes of memory, levels
+ * 0 or 1); the `_call` functions answer every input as cartvesper.h says. */
+#ifndef PLAIN_H
+#define PLAIN_H
+#include "cartvesper.h"
+
+/* ---- both levels */
+
+int plain_core_ok(const cartvesper_core *core);
+int plain_device_ok(const cartvesper_device *device);
+uint8_t plain_status(const cartvesper_core *core);
+int plain_protected(const cartvesper_core *core, uint32_t address);
+
+/* ---- the frame level */
+
+void plain_core_power_up(cartvesper_core *core, uint32_t cycle, int srwd, int bp1, int bp0, uint32_t reading);
+void plain_time(cartvesper_core *core, uint8_t *memory, uint32_t reading);
+/* a whole frame; out has the slice's length; gives back how many leading bits were undriven */
+uint64_t plain_frame(cartvesper_core *core, const uint8_t *memory, int w, const uint8_t *bytes, size_t length, size_t bits, uint8_t *out);
+
+/* ---- the pin level */
+
+void plain_device_power_up(cartvesper_device *device, uint32_t cycle, int srwd, int bp1, int bp0, uint32_t reading);
+void plain_s(cartvesper_device *device, int level);
+void plain_c(cartvesper_device *device, int level, const uint8_t *memory);
+void plain_d(cartvesper_device *device, int level);
+void plain_w(cartvesper_device *device, int level);
+void plain_hold(cartvesper_device *device, int level);
+void plain_device_time(cartvesper_device *device, uint8_t *memory, uint32_t reading);
+int plain_q(const cartvesper_device *device); /* 0, 1, or 2 for Z */
+/* one event, or a list of them, as cartvesper_device_play writes them; out gets Q after each */
+void plain_event(cartvesper_device *device, uint8_t *memory, uint64_t event);
+void plain_play(cartvesper_device *device, uint8_t *memory, const uint64_t *events, size_t count, uint8_t *out);
+
+/* ---- every input answered, call by call as cartvesper.h */
+
+cartvesper_core_answer plain_power_up_call(uint32_t cycle, uint8_t srwd, uint8_t bp1, uint8_t bp0, uint32_t reading);
+cartvesper_core_answer plain_clock_reading_call(cartvesper_core core, uint32_t reading, uint8_t *memory, size_t size);
+cartvesper_frame_answer plain_frame_call(cartvesper_core core, const uint8_t *memory, size_t size, uint8_t w, const uint8_t *bytes,
+                                         size_t length, size_t bits, uint8_t *out, size_t room);
+cartvesper_value plain_core_in_ranges_call(cartvesper_core core);
+cartvesper_value plain_core_status_call(cartvesper_core core);
+cartvesper_value plain_core_protected_call(cartvesper_core core, uint32_t address);
+
+cartvesper_device_answer plain_device_power_up_call(uint32_t cycle, uint8_t srwd, uint8_t bp1, uint8_t bp0, uint32_t reading);
+cartvesper_device_answer plain_device_set_s_call(cartvesper_device device, uint8_t level);
+cartvesper_device_answer plain_device_set_c_call(cartvesper_device device, uint8_t level, const uint8_t *memory, size_t size);
+cartvesper_device_answer plain_device_set_d_call(cartvesper_device device, uint8_t level);
+cartvesper_device_answer plain_device_set_w_call(cartvesper_device device, uint8_t level);
+cartvesper_device_answer plain_device_set_hold_call(cartvesper_device device, uint8_t level);
+cartvesper_device_answer plain_device_read_clock_call(cartvesper_device device, uint32_t reading, uint8_t *memory, size_t size);
+cartvesper_value plain_device_q_call(cartvesper_device device);
+cartvesper_value plain_device_status_call(cartvesper_device device);
+cartvesper_value plain_device_in_ranges_call(cartvesper_device device);
+cartvesper_device_answer plain_device_play_call(cartvesper_device device, uint8_t *memory, size_t size, const uint64_t *events, size_t count,
+                                                uint8_t *out, size_t room);
+#endif

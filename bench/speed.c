@@ -1,0 +1,367 @@
+/* speed [call]: the library of cartvesper.h against the plain model. Both run alternately, at least 0.3 s each; printed are ns per operation of
+ * each and the ratio plain/library (1.00 = as fast as plain C). The plain model runs in place and without checks; with `call` it runs through its
+ * plain_*_call functions instead, which check the record and hand it over by value as the library does. */
+#define _POSIX_C_SOURCE 199309L
+#include "plain.h"
+#include <stdio.h>
+#include <stdlib.h>
+#include <string.h>
+#include <time.h>
+
+enum { WREN = 0x06, RDSR = 0x05, READ = 0x03, WRITE = 0x02 };
+enum { MEMORY = 65536, PAGE = 128, LONGEST = 65540, CYCLE = 5000, EVENTS = 1 << 15 };
+enum { SET_S, SET_C, SET_D, SET_W, SET_HOLD, CLOCK };
+
+/* one side: what it works on */
+typedef struct {
+    cartvesper_core core;
+    cartvesper_device device;
+    uint8_t memory[MEMORY], out[LONGEST];
+} side;
+
+static side lib, plain;
+static uint8_t frame_bytes[LONGEST];
+static size_t frame_length;
+static const uint8_t wren_byte[1] = {WREN};
+static uint64_t events[EVENTS];
+static size_t event_count;
+
+static double now(void)
+{
+    struct timespec t;
+    clock_gettime(CLOCK_MONOTONIC, &t);
+    return (double)t.tv_sec * 1e9 + (double)t.tv_nsec;
+}
+
+static void reset_side(side *one)
+{
+    memset(one, 0, sizeof *one);
+    for (size_t i = 0; i < MEMORY; i++)
+        one->memory[i] = (uint8_t)(i * 31 + (i >> 8));
+    plain_core_power_up(&one->core, CYCLE, 0, 0, 0, 0);
+    plain_device_power_up(&one->device, CYCLE, 0, 0, 0, 0);
+}
+
+static void refused(void)
+{
+    fprintf(stderr, "speed: a call was refused\n");
+    exit(1);
+}
+
+/* ---- one frame; operation = frame */
+
+static void lib_frames(size_t n)
+{
+    while (n-- > 0) {
+        cartvesper_frame_answer a =
+            cartvesper_frame(lib.core, lib.memory, MEMORY, 1, frame_bytes, frame_length, 8 * frame_length, lib.out, frame_length);
+        if (a.number)
+            refused();
+        lib.core = a.core;
+    }
+}
+
+static void plain_frames(size_t n)
+{
+    while (n-- > 0)
+        plain_frame(&plain.core, plain.memory, 1, frame_bytes, frame_length, 8 * frame_length, plain.out);
+}
+
+static void call_frames(size_t n)
+{
+    while (n-- > 0) {
+        cartvesper_frame_answer a =
+            plain_frame_call(plain.core, plain.memory, MEMORY, 1, frame_bytes, frame_length, 8 * frame_length, plain.out, frame_length);
+        if (a.number)
+            refused();
+        plain.core = a.core;
+    }
+}
+
+static void set_up_rdsr(void)
+{
+    frame_bytes[0] = RDSR;
+    frame_length = 2;
+}
+
+static void set_up_read(void)
+{
+    frame_bytes[0] = READ;
+    frame_bytes[1] = 0x12;
+    frame_bytes[2] = 0x34;
+    frame_length = 259;
+}
+
+static void set_up_long_read(void)
+{
+    set_up_read();
+    frame_length = 65539;
+}
+
+/* ---- WREN, WRITE of a page, the reading that ends its cycle; operation = the three */
+
+static void set_up_write(void)
+{
+    frame_bytes[0] = WRITE;
+    frame_length = 3 + PAGE;
+    for (size_t i = 0; i < PAGE; i++)
+        frame_bytes[3 + i] = (uint8_t)(i * 7);
+}
+
+/* the next page, from the middle of it */
+static void next_address(size_t n)
+{
+    frame_bytes[1] = (uint8_t)(n >> 1);
+    frame_bytes[2] = (uint8_t)(n << 7 | 0x40);
+}
+
+static void lib_writes(size_t n)
+{
+    while (n-- > 0) {
+        next_address(n);
+        cartvesper_frame_answer wren = cartvesper_frame(lib.core, lib.memory, MEMORY, 1, wren_byte, 1, 8, lib.out, 1);
+        cartvesper_frame_answer write =
+            cartvesper_frame(wren.core, lib.memory, MEMORY, 1, frame_bytes, frame_length, 8 * frame_length, lib.out, frame_length);
+        cartvesper_core_answer end = cartvesper_clock_reading(write.core, write.core.last + CYCLE, lib.memory, MEMORY);
+        if (wren.number || write.number || end.number)
+            refused();
+        lib.core = end.core;
+    }
+}
+
+static void plain_writes(size_t n)
+{
+    while (n-- > 0) {
+        next_address(n);
+        plain_frame(&plain.core, plain.memory, 1, wren_byte, 1, 8, plain.out);
+        plain_frame(&plain.core, plain.memory, 1, frame_bytes, frame_length, 8 * frame_length, plain.out);
+        plain_time(&plain.core, plain.memory, plain.core.last + CYCLE);
+    }
+}
+
+static void call_writes(size_t n)
+{
+    while (n-- > 0) {
+        next_address(n);
+        cartvesper_frame_answer wren = plain_frame_call(plain.core, plain.memory, MEMORY, 1, wren_byte, 1, 8, plain.out, 1);
+        cartvesper_frame_answer write =
+            plain_frame_call(wren.core, plain.memory, MEMORY, 1, frame_bytes, frame_length, 8 * frame_length, plain.out, frame_length);
+        cartvesper_core_answer end = plain_clock_reading_call(write.core, write.core.last + CYCLE, plain.memory, MEMORY);
+        if (wren.number || write.number || end.number)
+            refused();
+        plain.core = end.core;
+    }
+}
+
+/* ---- pin events: streams of frames drawn in mode 0; operation = event */
+
+static void emit(uint64_t kind, uint32_t value)
+{
+    events[event_count++] = kind << 32 | value;
+}
+
+static void draw_frame(const uint8_t *bytes, size_t length)
+{
+    emit(SET_S, 0);
+    for (size_t i = 0; i < 8 * length; i++) {
+        emit(SET_D, bytes[i / 8] >> (7 - i % 8) & 1);
+        emit(SET_C, 1);
+        emit(SET_C, 0);
+    }
+    emit(SET_S, 1);
+}
+
+static void set_up_read_stream(void)
+{
+    uint8_t bytes[3 + 64] = {READ, 0, 0};
+    event_count = 0;
+    for (int i = 0; i < 16; i++) {
+        bytes[1] = (uint8_t)(i * 17);
+        bytes[2] = (uint8_t)(i * 29);
+        draw_frame(bytes, sizeof bytes);
+    }
+}
+
+static void set_up_write_stream(void)
+{
+    uint8_t bytes[3 + 64] = {WRITE, 0, 0};
+    event_count = 0;
+    for (int i = 0; i < 16; i++) {
+        for (int k = 0; k < 64; k++)
+            bytes[3 + k] = (uint8_t)(i * k);
+        bytes[1] = (uint8_t)(i * 17);
+        bytes[2] = (uint8_t)(i * 29);
+        draw_frame(wren_byte, 1);
+        draw_frame(bytes, sizeof bytes);
+        emit(CLOCK, (uint32_t)(i + 1) * CYCLE); /* from the last to the first again counts as nearly a full turn: ends the cycle too */
+    }
+}
+
+static cartvesper_device_answer lib_event(uint64_t event)
+{
+    uint8_t level = event & 1;
+    switch (event >> 32) {
+    case SET_S:
+        return cartvesper_device_set_s(lib.device, level);
+    case SET_C:
+        return cartvesper_device_set_c(lib.device, level, lib.memory, MEMORY);
+    case SET_D:
+        return cartvesper_device_set_d(lib.device, level);
+    case SET_W:
+        return cartvesper_device_set_w(lib.device, level);
+    case SET_HOLD:
+        return cartvesper_device_set_hold(lib.device, level);
+    default:
+        return cartvesper_device_read_clock(lib.device, (uint32_t)event, lib.memory, MEMORY);
+    }
+}
+
+static void lib_events(size_t n)
+{
+    while (n-- > 0)
+        for (size_t i = 0; i < event_count; i++) {
+            cartvesper_device_answer a = lib_event(events[i]);
+            if (a.number)
+                refused();
+            lib.device = a.device;
+        }
+}
+
+static void plain_events(size_t n)
+{
+    while (n-- > 0)
+        for (size_t i = 0; i < event_count; i++)
+            plain_event(&plain.device, plain.memory, events[i]);
+}
+
+static cartvesper_device_answer call_event(uint64_t event)
+{
+    uint8_t level = event & 1;
+    switch (event >> 32) {
+    case SET_S:
+        return plain_device_set_s_call(plain.device, level);
+    case SET_C:
+        return plain_device_set_c_call(plain.device, level, plain.memory, MEMORY);
+    case SET_D:
+        return plain_device_set_d_call(plain.device, level);
+    case SET_W:
+        return plain_device_set_w_call(plain.device, level);
+    case SET_HOLD:
+        return plain_device_set_hold_call(plain.device, level);
+    default:
+        return plain_device_read_clock_call(plain.device, (uint32_t)event, plain.memory, MEMORY);
+    }
+}
+
+static void call_events(size_t n)
+{
+    while (n-- > 0)
+        for (size_t i = 0; i < event_count; i++) {
+            cartvesper_device_answer a = call_event(events[i]);
+            if (a.number)
+                refused();
+            plain.device = a.device;
+        }
+}
+
+static void lib_play(size_t n)
+{
+    while (n-- > 0) {
+        cartvesper_device_answer a = cartvesper_device_play(lib.device, lib.memory, MEMORY, events, event_count, lib.out, event_count);
+        if (a.number)
+            refused();
+        lib.device = a.device;
+    }
+}
+
+static void plain_plays(size_t n)
+{
+    while (n-- > 0)
+        plain_play(&plain.device, plain.memory, events, event_count, plain.out);
+}
+
+static void call_plays(size_t n)
+{
+    while (n-- > 0) {
+        cartvesper_device_answer a = plain_device_play_call(plain.device, plain.memory, MEMORY, events, event_count, plain.out, event_count);
+        if (a.number)
+            refused();
+        plain.device = a.device;
+    }
+}
+
+/* ---- the cases */
+
+typedef struct {
+    const char *name;
+    void (*set_up)(void);
+    void (*lib)(size_t), (*plain)(size_t), (*call)(size_t);
+    int is_stream; /* an operation is one event */
+} speed_case;
+
+static const speed_case cases[] = {
+    {"frame RDSR, 2 bytes", set_up_rdsr, lib_frames, plain_frames, call_frames, 0},
+    {"frame READ, 259 bytes", set_up_read, lib_frames, plain_frames, call_frames, 0},
+    {"frame READ, 65,539 bytes", set_up_long_read, lib_frames, plain_frames, call_frames, 0},
+    {"WREN, WRITE of 128 bytes, cycle's end", set_up_write, lib_writes, plain_writes, call_writes, 0},
+    {"pin event, READ frames, one by one", set_up_read_stream, lib_events, plain_events, call_events, 1},
+    {"pin event, WRITE frames, one by one", set_up_write_stream, lib_events, plain_events, call_events, 1},
+    {"pin event, READ frames, as a list", set_up_read_stream, lib_play, plain_plays, call_plays, 1},
+    {"pin event, WRITE frames, as a list", set_up_write_stream, lib_play, plain_plays, call_plays, 1},
+};
+
+static double timed(void (*run)(size_t), size_t n)
+{
+    double start = now();
+    run(n);
+    return now() - start;
+}
+
+/* how many runs take about 5 ms */
+static size_t calibrate(void (*run)(size_t))
+{
+    size_t n = 1;
+    while (timed(run, n) < 5e6)
+        n *= 2;
+    return n;
+}
+
+static void check_same(const char *name)
+{
+    if (memcmp(lib.memory, plain.memory, MEMORY) != 0 || memcmp(lib.out, plain.out, LONGEST) != 0) {
+        fprintf(stderr, "speed: the two sides differ after: %s\n", name);
+        exit(1);
+    }
+}
+
+static void run_case(const speed_case *one, int through_call)
+{
+    void (*base)(size_t) = through_call ? one->call : one->plain;
+    double lib_time = 0, base_time = 0, lib_runs = 0, base_runs = 0;
+    reset_side(&lib);
+    reset_side(&plain);
+    one->set_up();
+    one->lib(512); /* every page once, so that both memories end the same */
+    base(512);
+    size_t lib_n = calibrate(one->lib), base_n = calibrate(base);
+    while (lib_time < 3e8 || base_time < 3e8) {
+        lib_time += timed(one->lib, lib_n);
+        base_time += timed(base, base_n);
+        lib_runs += (double)lib_n;
+        base_runs += (double)base_n;
+    }
+    check_same(one->name);
+    double each = one->is_stream ? (double)event_count : 1;
+    double lib_ns = lib_time / lib_runs / each, base_ns = base_time / base_runs / each;
+    printf("%-40s %12.2f %12.2f %8.2f\n", one->name, lib_ns, base_ns, base_ns / lib_ns);
+    fflush(stdout);
+}
+
+int main(int argc, char **argv)
+{
+    int through_call = argc > 1 && strcmp(argv[1], "call") == 0;
+    printf("%-40s %12s %12s %8s\n", "", "library ns", through_call ? "call ns" : "plain ns", "ratio");
+    for (size_t i = 0; i < sizeof cases / sizeof *cases; i++)
+        run_case(&cases[i], through_call);
+    return 0;
+}

@@ -1,0 +1,19 @@
+use borrow.Author.Needs.{needs}
+use Rattle.bench.proofs.core_calls.cartvesper_clock_reading.Statement.{statement}
+use Rattle.bench.proofs.core_calls.cartvesper_clock_reading.Tie as tie
+
+clock-reading-requires : tie.Need-clock-reading-requires
+clock-reading-requires c κs = search needs
+
+number-requires : tie.Need-number-requires
+number-requires c κs = search needs
+
+same-length : tie.Need-same-length
+same-length c = search needs
+
+returns : tie.Need-returns
+returns c = (rw (c .number .ensures, c .before .before .before .before .clock-reading .ensures .1 .0, c .before .before .before .before .clock-reading .ensures .0), c .before .before .before .before .clock-reading .ensures .1 .1)
+
+pub cartvesper-clock-reading-spec : {M : Type 1} → statement M
+cartvesper-clock-reading-spec =
+    tie.close (tie.spec clock-reading-requires number-requires same-length returns)

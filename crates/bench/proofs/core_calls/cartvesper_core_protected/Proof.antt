@@ -1,0 +1,19 @@
+use borrow.Author.Needs.{needs}
+use Rattle.bench.proofs.core_calls.cartvesper_core_protected.Statement.{statement}
+use Rattle.bench.proofs.core_calls.cartvesper_core_protected.Tie as tie
+
+protection-requires : tie.Need-protection-requires
+protection-requires c κs = search needs
+
+number-requires : tie.Need-number-requires
+number-requires c κs = search needs
+
+value-requires : tie.Need-value-requires
+value-requires c κs = search needs
+
+returns : tie.Need-returns
+returns c = rw (c .before .number .ensures, c .value .ensures, c .before .before .protection .ensures .1 .0, c .before .before .protection .ensures .1 .1)
+
+pub cartvesper-core-protected-spec : {M : Type 1} → statement M
+cartvesper-core-protected-spec =
+    tie.close (tie.spec protection-requires number-requires value-requires returns)

@@ -1,0 +1,23 @@
+use Rattle.laws.specs.Pick.{call-yes, arms}
+use borrow.Author.Needs.{needs}
+use Rattle.bench.proofs.core_calls.cartvesper_core_status.Statement.{statement}
+use Rattle.bench.proofs.core_calls.cartvesper_core_status.Tie as tie
+
+in-ranges-requires : tie.Need-in-ranges-requires
+in-ranges-requires c κs = search needs
+
+status-requires : tie.Need-status-requires
+status-requires c κs = search needs
+
+wide-requires : tie.Need-wide-requires
+wide-requires c κs = search needs
+
+returns : tie.Need-returns
+returns c = call-yes _ (c .before .before .before .in-ranges .ensures) (c .before .before .if1 .taken) (rw (c .wide .ensures, c .before .status .ensures))
+
+returns-2 : tie.Need-returns-2
+returns-2 c = search arms
+
+pub cartvesper-core-status-spec : {M : Type 1} → statement M
+cartvesper-core-status-spec =
+    tie.close (tie.spec in-ranges-requires status-requires wide-requires returns returns-2)

@@ -1,0 +1,18 @@
+use borrow.Author.Needs.{needs}
+use Rattle.bench.proofs.device_calls.cartvesper_device_q.Statement.{statement}
+use Rattle.bench.proofs.device_calls.cartvesper_device_q.Tie as tie
+
+q-requires : tie.Need-q-requires
+q-requires c κs = search needs
+
+number-requires : tie.Need-number-requires
+number-requires c κs = search needs
+
+value-requires : tie.Need-value-requires
+value-requires c κs = search needs
+
+returns : tie.Need-returns
+returns c = rw (c .before .number .ensures, c .value .ensures, c .before .before .q .ensures .1, c .before .before .q .ensures .0)
+
+pub cartvesper-device-q-spec : {M : Type 1} → statement M
+cartvesper-device-q-spec = tie.close (tie.spec q-requires number-requires value-requires returns)

@@ -1,0 +1,19 @@
+use borrow.Author.Needs.{needs}
+use Rattle.bench.proofs.device_calls.cartvesper_device_read_clock.Statement.{statement}
+use Rattle.bench.proofs.device_calls.cartvesper_device_read_clock.Tie as tie
+
+read-clock-requires : tie.Need-read-clock-requires
+read-clock-requires c κs = search needs
+
+answered-requires : tie.Need-answered-requires
+answered-requires c κs = search needs
+
+same-length : tie.Need-same-length
+same-length c = search needs
+
+returns : tie.Need-returns
+returns c = (rw (c .answered .ensures, c .before .before .before .read-clock .ensures .1 .0, c .before .before .before .read-clock .ensures .0), c .before .before .before .read-clock .ensures .1 .1)
+
+pub cartvesper-device-read-clock-spec : {M : Type 1} → statement M
+cartvesper-device-read-clock-spec =
+    tie.close (tie.spec read-clock-requires answered-requires same-length returns)

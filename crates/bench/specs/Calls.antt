@@ -1,0 +1,106 @@
+-- What each call for C answers, for every number that C may hand over.
+use Prim.Native.Nat.{ℕ}
+use mathlib.Core.Bool.{Bool, _&&_}
+use mathlib.Core.List.{List}
+use lib.ListN.{length}
+use lib.Dec.{eqb, leb}
+use Rattle.laws.specs.Pick.{pick}
+use Rattle.chip.specs.Part.{Part}
+use Rattle.chip.specs.Status.{bit, on}
+use Rattle.chip.specs.Records.{status}
+use Rattle.chip.specs.Ranges.{inRanges}
+use Rattle.chip.specs.Protect.{questionNumber, questionValue}
+use Rattle.chip.specs.Power.{delivered, poweredUp, powerUpNumber}
+use Rattle.chip.specs.Time.{readingNumber, clockReading}
+use Rattle.chip.specs.declared.Core.{Core}
+use Rattle.bench.specs.declared.CoreAnswer.{CoreAnswer}
+use Rattle.frames.specs.Answers.{framed, framedOutput, answerNumber, answerUndriven}
+use Rattle.pins.specs.declared.Device.{Device}
+use Rattle.pins.specs.Devices.{resting}
+use Rattle.pins.specs.Ranges.{deviceFits}
+use Rattle.pins.specs.Events.{onTime}
+use Rattle.pins.specs.Answers.{answer, recordOutcome, recordNumber, memoryOutcome, memoryNumber, qAnswer, qValue, statusAnswer, statusValue, powered, played, playOutcome, playNumber}
+use Rattle.bench.specs.declared.FrameAnswer.{FrameAnswer}
+use Rattle.bench.specs.declared.DeviceAnswer.{DeviceAnswer}
+use Rattle.bench.specs.declared.Value.{Value}
+
+-- ---- answers put together
+
+abbrev pub coreAnswer : ℕ → Core → CoreAnswer
+coreAnswer n c = record { number = n; core = c }
+
+abbrev pub valueAnswer : ℕ → ℕ → Value
+valueAnswer n v = record { number = n; value = v }
+
+-- ---- the frame model
+
+-- 2 for a flag that is not 0 or 1, with the delivered record
+abbrev pub powerUpCall : Part → ℕ → ℕ → ℕ → ℕ → ℕ → CoreAnswer
+powerUpCall P cycle s b a t =
+    pick (leb s 1 && leb b 1 && leb a 1)
+    (coreAnswer (powerUpNumber P cycle) (poweredUp P cycle (on s) (on b) (on a) t .core))
+    (coreAnswer 2 (delivered P))
+
+abbrev pub readingCall : Part → Core → ℕ → List ℕ → CoreAnswer
+readingCall P c t m = coreAnswer (readingNumber P c m) (clockReading P t c m .core)
+
+abbrev pub inRangesCall : Part → Core → Value
+inRangesCall P c = pick (inRanges P c) (valueAnswer 0 1) (valueAnswer 2 0)
+
+abbrev pub statusCall : Part → Core → Value
+statusCall P c = pick (inRanges P c) (valueAnswer 0 (status c)) (valueAnswer 2 0)
+
+abbrev pub protectedCall : Part → Core → ℕ → Value
+protectedCall P c a = valueAnswer (questionNumber P c a) (questionValue P c a)
+
+-- W is a level; a level of 2 is outside the ranges, after a memory of another length
+abbrev pub frameAnswer : ℕ → ℕ → Core → FrameAnswer
+frameAnswer n u c = record { number = n; undriven = u; core = c }
+
+abbrev pub frameCall : Part → Core → List ℕ → ℕ → List ℕ → ℕ → ℕ → FrameAnswer
+frameCall P c m w s n room =
+    let r = framed P c m (on w) s n room in
+    pick (leb w 1)
+    (frameAnswer (answerNumber (r .answer)) (answerUndriven (r .answer)) (r .core))
+    (frameAnswer (pick (eqb (length m) (P .size)) 2 1) 0 c)
+
+abbrev pub frameCallOutput : Part → Core → List ℕ → ℕ → List ℕ → ℕ → List ℕ → List ℕ
+frameCallOutput P c m w s n out = pick (leb w 1) (framedOutput P c m s n out) out
+
+-- ---- the pin model
+
+abbrev pub deviceAnswer : ℕ → Device → DeviceAnswer
+deviceAnswer n x = record { number = n; device = x }
+
+abbrev pub devicePowerUpCall : Part → ℕ → ℕ → ℕ → ℕ → ℕ → DeviceAnswer
+devicePowerUpCall P cycle s b a t =
+    pick (leb s 1 && leb b 1 && leb a 1)
+    (deviceAnswer (powerUpNumber P cycle) (powered P cycle (on s) (on b) (on a) t .device))
+    (deviceAnswer 2 (resting P (delivered P)))
+
+-- an event that sets a pin: y follows, or the device as it was
+abbrev pub pinCall : Part → ℕ → Device → Device → DeviceAnswer
+pinCall P level y x = pick (leb level 1) (deviceAnswer (recordNumber P x) (answer (recordOutcome P x) y x .device)) (deviceAnswer 2 x)
+
+abbrev pub clockPinCall : Part → ℕ → Device → Device → List ℕ → DeviceAnswer
+clockPinCall P level y x m =
+    pick (leb level 1)
+    (deviceAnswer (memoryNumber P x m) (answer (memoryOutcome P x m) y x .device))
+    (deviceAnswer (pick (eqb (length m) (P .size)) 2 1) x)
+
+abbrev pub deviceReadingCall : Part → Device → ℕ → List ℕ → DeviceAnswer
+deviceReadingCall P x t m = deviceAnswer (memoryNumber P x m) (answer (memoryOutcome P x m) (onTime P t x) x .device)
+
+abbrev pub qCall : Part → Device → Value
+qCall P x = valueAnswer (recordNumber P x) (qValue (qAnswer P x))
+
+abbrev pub deviceStatusCall : Part → Device → Value
+deviceStatusCall P x = valueAnswer (recordNumber P x) (statusValue (statusAnswer P x))
+
+abbrev pub deviceInRangesCall : Part → Device → Value
+deviceInRangesCall P x = pick (deviceFits P x) (valueAnswer 0 1) (valueAnswer 2 0)
+
+abbrev pub playCall : Part → Device → List ℕ → List ℕ → ℕ → DeviceAnswer
+playCall P x m es room =
+    deviceAnswer (playNumber P x m (length es) room)
+    (answer (playOutcome P x m (length es) room) (played P es (record { device = x; memory = m }) .device) x .device)

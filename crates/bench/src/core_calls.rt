@@ -1,0 +1,100 @@
+// The frame model's device for C: power-up, a clock reading, and what a record says.
+ghost use mathlib.Core.Path.{_≡_};
+ghost use Rattle.chip.specs.Part.{m95512};
+ghost use Rattle.chip.specs.Time.{clockMemory};
+ghost use Rattle.bench.specs.Calls.{powerUpCall, readingCall, inRangesCall, statusCall, protectedCall};
+use crate::CoreAnswer;
+use crate::Value;
+use chip::Core;
+
+#[no_mangle]
+pub extern "C" fn cartvesper_power_up(
+    cycle: u32,
+    srwd: u8,
+    bp1: u8,
+    bp0: u8,
+    reading: u32,
+) -> CoreAnswer
+    ensures { λ r. ⌜ r ≡ powerUpCall m95512 cycle srwd bp1 bp0 reading ⌝ }
+{
+    if (srwd <= 1) & (bp1 <= 1) & (bp0 <= 1) {
+        let powered = chip::power_up(cycle, srwd == 1, bp1 == 1, bp0 == 1, reading);
+        let outcome = powered.outcome;
+        let core = powered.core;
+        return CoreAnswer {
+            number: outcome.number(),
+            core: core,
+        };
+    }
+    CoreAnswer {
+        number: 2,
+        core: Core::delivered(),
+    }
+}
+
+#[no_mangle]
+pub extern "C" fn cartvesper_clock_reading(
+    core: Core,
+    reading: u32,
+    memory: &mut [u8],
+) -> CoreAnswer
+    ensures { λ r. ⌜ r ≡ readingCall m95512 core reading (now (memory .entry)) ⌝ }
+    ensures { λ _. ⌜ now (memory .exit) ≡ clockMemory m95512 reading core (now (memory .entry)) ⌝ }
+{
+    let timed = chip::clock_reading(core, reading, memory);
+    let outcome = timed.outcome;
+    let next = timed.core;
+    CoreAnswer {
+        number: outcome.number(),
+        core: next,
+    }
+}
+
+#[no_mangle]
+pub extern "C" fn cartvesper_core_in_ranges(core: Core) -> Value
+    ensures { λ r. ⌜ r ≡ inRangesCall m95512 core ⌝ }
+{
+    if core.in_ranges() {
+        return Value {
+            number: 0,
+            value: 1,
+        };
+    }
+    Value {
+        number: 2,
+        value: 0,
+    }
+}
+
+#[no_mangle]
+pub extern "C" fn cartvesper_core_status(core: Core) -> Value
+    ensures { λ r. ⌜ r ≡ statusCall m95512 core ⌝ }
+{
+    if core.in_ranges() {
+        return Value {
+            number: 0,
+            value: wide(core.status()),
+        };
+    }
+    Value {
+        number: 2,
+        value: 0,
+    }
+}
+
+fn wide(byte: u8) -> u32
+    ensures { λ r. ⌜ r ≡ byte ⌝ }
+{
+    byte as u32
+}
+
+#[no_mangle]
+pub extern "C" fn cartvesper_core_protected(core: Core, address: u32) -> Value
+    ensures { λ r. ⌜ r ≡ protectedCall m95512 core address ⌝ }
+{
+    let answer = core.protection(address);
+    Value {
+        number: answer.number(),
+        value: answer.value(),
+    }
+}

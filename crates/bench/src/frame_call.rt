@@ -1,0 +1,37 @@
+// The frame model's frame for C.
+ghost use mathlib.Core.Path.{_≡_};
+ghost use lib.ListN.{length};
+ghost use Rattle.chip.specs.Part.{m95512};
+ghost use Rattle.bench.specs.Calls.{frameCall, frameCallOutput};
+use crate::FrameAnswer;
+use crate::device_calls::bad_level;
+use chip::Core;
+
+#[no_mangle]
+pub extern "C" fn cartvesper_frame(
+    core: Core,
+    memory: &[u8],
+    w: u8,
+    bytes: &[u8],
+    bits: usize,
+    out: &mut [u8],
+) -> FrameAnswer
+    ensures { λ r. ⌜ r ≡ frameCall m95512 core (now (memory .entry)) w (now (bytes .entry)) bits (length (now (out .entry))) ⌝ }
+    ensures { λ _. ⌜ now (out .exit) ≡ frameCallOutput m95512 core (now (memory .entry)) w (now (bytes .entry)) bits (now (out .entry)) ⌝ }
+{
+    if w <= 1 {
+        let framed = frames::frame(core, memory, w == 1, bytes, bits, out);
+        let answer = framed.answer;
+        let next = framed.core;
+        return FrameAnswer {
+            number: answer.number(),
+            undriven: answer.undriven() as u64,
+            core: next,
+        };
+    }
+    FrameAnswer {
+        number: bad_level(memory.len()),
+        undriven: 0,
+        core: core,
+    }
+}

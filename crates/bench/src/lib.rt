@@ -1,0 +1,35 @@
+// Both models for C programs: numbers, records of numbers and lent bytes in, the same out. bench/cartvesper.h documents each call.
+//
+// Each function takes the numbers that C hands over, calls the proved public call and puts its answer together: the record crosses as it is, so
+// nothing is lost on the way. A level or a flag that is not 0 or 1 gets refusal 2.
+mod core_calls;
+mod device_calls;
+mod frame_call;
+
+use chip::Core;
+use pins::Device;
+
+#[repr(C)]
+pub struct CoreAnswer {
+    pub number: u32,
+    pub core: Core,
+}
+
+#[repr(C)]
+pub struct FrameAnswer {
+    pub number: u32,
+    pub undriven: u64,
+    pub core: Core,
+}
+
+#[repr(C)]
+pub struct DeviceAnswer {
+    pub number: u32,
+    pub device: Device,
+}
+
+#[repr(C)]
+pub struct Value {
+    pub number: u32,
+    pub value: u32,
+}

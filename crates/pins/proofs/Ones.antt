@@ -1,0 +1,67 @@
+-- Each public call allows one result; and one memory and one output where it is lent them.
+use denote.Ref.{now}
+use Rattle.laws.specs.One.{OneResult, OneExit, same}
+use Rattle.pins.proofs.public.power_up.Kinds as power-up
+use Rattle.pins.proofs.public.power_up.Reads as power-up-reads
+use Rattle.pins.proofs.Device.set_s.Kinds as set-s
+use Rattle.pins.proofs.Device.set_s.Reads as set-s-reads
+use Rattle.pins.proofs.Device.set_c.Kinds as set-c
+use Rattle.pins.proofs.Device.set_c.Reads as set-c-reads
+use Rattle.pins.proofs.Device.set_d.Kinds as set-d
+use Rattle.pins.proofs.Device.set_d.Reads as set-d-reads
+use Rattle.pins.proofs.Device.set_w.Kinds as set-w
+use Rattle.pins.proofs.Device.set_w.Reads as set-w-reads
+use Rattle.pins.proofs.Device.set_hold.Kinds as set-hold
+use Rattle.pins.proofs.Device.set_hold.Reads as set-hold-reads
+use Rattle.pins.proofs.Device.read_clock.Kinds as read-clock
+use Rattle.pins.proofs.Device.read_clock.Reads as read-clock-reads
+use Rattle.pins.proofs.Device.q.Kinds as q
+use Rattle.pins.proofs.Device.q.Reads as q-reads
+use Rattle.pins.proofs.Device.status.Kinds as status
+use Rattle.pins.proofs.Device.status.Reads as status-reads
+use Rattle.pins.proofs.Device.in_ranges.Kinds as in-ranges
+use Rattle.pins.proofs.Device.in_ranges.Reads as in-ranges-reads
+use Rattle.pins.proofs.listed.play.Kinds as play
+use Rattle.pins.proofs.listed.play.Reads as play-reads
+
+pub power-up-one : OneResult power-up.ps power-up.r power-up-reads.Post
+power-up-one κs a z z′ e e′ p q = same (p .0) (q .0)
+
+pub set-s-one : OneResult set-s.ps set-s.r set-s-reads.Post
+set-s-one κs a z z′ e e′ p q = same (p .0) (q .0)
+
+pub set-c-one : OneResult set-c.ps set-c.r set-c-reads.Post
+set-c-one κs a z z′ e e′ p q = same (p .0) (q .0)
+
+pub set-d-one : OneResult set-d.ps set-d.r set-d-reads.Post
+set-d-one κs a z z′ e e′ p q = same (p .0) (q .0)
+
+pub set-w-one : OneResult set-w.ps set-w.r set-w-reads.Post
+set-w-one κs a z z′ e e′ p q = same (p .0) (q .0)
+
+pub set-hold-one : OneResult set-hold.ps set-hold.r set-hold-reads.Post
+set-hold-one κs a z z′ e e′ p q = same (p .0) (q .0)
+
+pub read-clock-one : OneResult read-clock.ps read-clock.r read-clock-reads.Post
+read-clock-one κs a z z′ e e′ p q = same (p .0) (q .0)
+
+pub read-clock-memory : OneExit read-clock.ps read-clock.r read-clock-reads.Post (λ κs e. now (e .1 .1 .0))
+read-clock-memory κs a z z′ e e′ p q = same (p .1 .1) (q .1 .1)
+
+pub q-one : OneResult q.ps q.r q-reads.Post
+q-one κs a z z′ e e′ p q = same (p .0) (q .0)
+
+pub status-one : OneResult status.ps status.r status-reads.Post
+status-one κs a z z′ e e′ p q = same (p .0) (q .0)
+
+pub in-ranges-one : OneResult in-ranges.ps in-ranges.r in-ranges-reads.Post
+in-ranges-one κs a z z′ e e′ p q = same p q
+
+pub play-one : OneResult play.ps play.r play-reads.Post
+play-one κs a z z′ e e′ p q = same (p .0) (q .0)
+
+pub play-memory : OneExit play.ps play.r play-reads.Post (λ κs e. now (e .1 .0))
+play-memory κs a z z′ e e′ p q = same (p .1 .1 .0) (q .1 .1 .0)
+
+pub play-output : OneExit play.ps play.r play-reads.Post (λ κs e. now (e .1 .1 .1 .0))
+play-output κs a z z′ e e′ p q = same (p .1 .1 .1) (q .1 .1 .1)

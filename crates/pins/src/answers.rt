@@ -1,0 +1,53 @@
+// Document 01's number of what a device shows, and its value.
+ghost use mathlib.Core.Path.{_≡_};
+ghost use Rattle.pins.specs.Answers.{qNumber, qValue, statusNumber, statusValue};
+use crate::QAnswer;
+use crate::StatusAnswer;
+
+impl QAnswer {
+    pub fn number(self) -> u32
+        ensures { λ r. ⌜ r ≡ qNumber self ⌝ }
+    {
+        match self {
+            QAnswer::Shows(_) => 0,
+            QAnswer::Unanswered(r) => r.number(),
+        }
+    }
+
+    // 0, 1, or 2 for Z; 0 in a refusal.
+    pub fn value(self) -> u32
+        ensures { λ r. ⌜ r ≡ qValue self ⌝ }
+    {
+        match self {
+            QAnswer::Shows(level) => wide(level.number()),
+            QAnswer::Unanswered(_) => 0,
+        }
+    }
+}
+
+fn wide(byte: u8) -> u32
+    ensures { λ r. ⌜ r ≡ byte ⌝ }
+{
+    byte as u32
+}
+
+impl StatusAnswer {
+    pub fn number(self) -> u32
+        ensures { λ r. ⌜ r ≡ statusNumber self ⌝ }
+    {
+        match self {
+            StatusAnswer::Byte(_) => 0,
+            StatusAnswer::Unanswered(r) => r.number(),
+        }
+    }
+
+    // The byte; 0 in a refusal.
+    pub fn value(self) -> u32
+        ensures { λ r. ⌜ r ≡ statusValue self ⌝ }
+    {
+        match self {
+            StatusAnswer::Byte(byte) => wide(byte),
+            StatusAnswer::Unanswered(_) => 0,
+        }
+    }
+}
