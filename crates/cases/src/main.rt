@@ -3,6 +3,7 @@
 use chip::Core;
 use chip::clock_reading;
 use chip::power_up;
+use frames::frame;
 use libc::STDOUT_FILENO;
 
 fn say(what: &[u8], number: u32) {
@@ -61,6 +62,170 @@ fn time(what: &[u8], core: Core, reading: u32) {
     say(b"  cell 128", wide(memory[128]));
 }
 
+// A frame of up to eight bytes with W high: its number, the undriven count, the first three output bytes and the status that it leaves.
+fn send(what: &[u8], core: Core, bytes: &[u8], bits: usize) -> Core {
+    let memory = io::large_buffer();
+    let mut out = [0u8; 8];
+    let n = bytes.len();
+    if n > 8 {
+        return core;
+    }
+    let framed = frame(core, &memory, true, bytes, bits, &mut out[0..n]);
+    let answer = framed.answer;
+    let next = framed.core;
+    say(what, answer.number());
+    say(b"  undriven", (answer.undriven() % 65536) as u32);
+    say(b"  output byte 1", wide(out[1]));
+    say(b"  output byte 3", wide(out[3]));
+    say(b"  its status byte", wide(next.status()));
+    next
+}
+
+fn guarded(core: Core) -> Core {
+    let mut next = core;
+    next.bp1 = 1;
+    next.bp0 = 1;
+    next
+}
+
+// Cases of the frame model: j, k, and a write that is taken, ignored, cut short.
+fn frames_sent() {
+    let fresh = Core::delivered();
+    send(b"j: WREN with 16 bits", fresh, b"\x06\x00", 16);
+    let enabled = send(b"WREN", fresh, b"\x06", 8);
+    send(
+        b"b: WRITE with 55 bits",
+        enabled,
+        b"\x02\x00\x7e\x11\x22\x33\x44",
+        55,
+    );
+    send(
+        b"WRITE to a protected address",
+        guarded(enabled),
+        b"\x02\x00\x7e\x11",
+        32,
+    );
+    let busy = send(
+        b"a: WRITE with 56 bits",
+        enabled,
+        b"\x02\x00\x7e\x11\x22\x33\x44",
+        56,
+    );
+    send(b"k: READ in a cycle", busy, b"\x03\x00\x7e\x00\x00", 40);
+    send(b"RDSR in a cycle", busy, b"\x05\x00", 16);
+    send(b"WREN in a cycle", busy, b"\x06", 8);
+    send(b"READ, idle", enabled, b"\x03\x00\x7e\x00\x00", 40);
+    send(b"READ of 29 bits", enabled, b"\x03\x00\x7e\x00", 29);
+    send(b"three bits", fresh, b"\x06", 3);
+    send(b"no bits", fresh, b"", 0);
+}
+
+// What is refused, and that the first in the order decides.
+fn refused(what: &[u8], core: Core, memory: &[u8], bytes: &[u8], bits: usize, room: usize) {
+    let mut out = [0u8; 8];
+    if room > 8 {
+        return;
+    }
+    let framed = frame(core, memory, true, bytes, bits, &mut out[0..room]);
+    let answer = framed.answer;
+    say(what, answer.number());
+}
+
+fn with_srwd_2() -> Core {
+    let mut core = Core::delivered();
+    core.srwd = 2;
+    core
+}
+
+fn bad_memory() {
+    let long_memory = [0u8; 65537];
+    refused(
+        b"memory of 65537",
+        Core::delivered(),
+        &long_memory,
+        b"\x05\x00",
+        16,
+        2,
+    );
+    refused(
+        b"memory of 65535",
+        Core::delivered(),
+        &long_memory[0..65535],
+        b"\x05\x00",
+        16,
+        2,
+    );
+    refused(
+        b"all of them",
+        with_srwd_2(),
+        &long_memory,
+        b"\x05\x00",
+        99,
+        1,
+    );
+}
+
+fn bad_record() {
+    let memory = io::large_buffer();
+    refused(b"SRWD 2", with_srwd_2(), &memory, b"\x05\x00", 16, 2);
+    refused(
+        b"all but the memory",
+        with_srwd_2(),
+        &memory,
+        b"\x05\x00",
+        99,
+        1,
+    );
+}
+
+fn bad_count() {
+    let memory = io::large_buffer();
+    refused(
+        b"a bit too many",
+        Core::delivered(),
+        &memory,
+        b"\x05\x00",
+        17,
+        2,
+    );
+    refused(
+        b"a bit too few",
+        Core::delivered(),
+        &memory,
+        b"\x05\x00",
+        8,
+        2,
+    );
+    refused(b"a bit of no bytes", Core::delivered(), &memory, b"", 1, 0);
+}
+
+fn bad_output() {
+    let memory = io::large_buffer();
+    refused(
+        b"an output too long",
+        Core::delivered(),
+        &memory,
+        b"\x05\x00",
+        16,
+        3,
+    );
+    refused(
+        b"an output too short",
+        Core::delivered(),
+        &memory,
+        b"\x05\x00",
+        16,
+        1,
+    );
+}
+
+fn too_long() {
+    let fresh = Core::delivered();
+    let memory = io::large_buffer();
+    let bytes = [5u8; 65541];
+    refused(b"65541 bytes", fresh, &memory, &bytes, 1, 8);
+}
+
 fn main() {
     power(b"power-up, cycle 0", 0);
     power(b"power-up, cycle 1", 1);
@@ -82,4 +247,10 @@ fn main() {
     let mut short = [0u8; 128];
     let outcome = clock_reading(broken, 0, &mut short).outcome;
     say(b"a memory of 128 bytes", outcome.number());
+    frames_sent();
+    bad_memory();
+    bad_record();
+    bad_count();
+    bad_output();
+    too_long();
 }
