@@ -6,13 +6,14 @@ use mathlib.Core.List.{List, [], _∷_}
 use Prim.Native.Nat.{ℕ, _*_, _-_, _/_, _<_}
 use lib.ListN.{length, getD}
 use Rattle.laws.specs.Pick.{pick-case, at-no, and-no-right}
+use Rattle.laws.specs.And.{or-none-out}
 use Rattle.chip.specs.Part.{Part}
 use Rattle.chip.specs.Latches.{inPage, marked}
 use Rattle.chip.specs.Records.{running}
 use Rattle.chip.specs.Verdicts.{isExecuted}
 use Rattle.chip.specs.Effects.{effect}
 use Rattle.chip.specs.Time.{ends, timed}
-use Rattle.chip.specs.Cells.{awaited}
+use Rattle.chip.specs.Cells.{awaited, isWrite}
 use Rattle.chip.specs.declared.Latch.{Latch}
 use Rattle.chip.specs.declared.Core.{Core}
 use Rattle.chip.specs.declared.Instruction.{Instruction}
@@ -21,19 +22,9 @@ use Rattle.chip.proofs.Within.{Within}
 use Rattle.chip.proofs.Passing.{timed-within, timed-length, cell-rule}
 use Rattle.frames.specs.Bytes.{instruction, address, written}
 use Rattle.frames.specs.After.{judged, after}
-use Rattle.frames.specs.Play.{Act, frame, reading, Device, acted, played, isWrite, addresses, addressed}
+use Rattle.frames.specs.Play.{Act, frame, reading, Device, acted, played, addresses, addressed}
 use Rattle.chip.proofs.Executed.{Paged}
 use Rattle.frames.proofs.Kept.{after-within}
-
--- neither of two tests
-or-left : (a b : Bool) → (a || b) ≡ false → a ≡ false
-or-left true b e = e
-or-left false b e = refl
-
-or-right : (a b : Bool) → (a || b) ≡ false → b ≡ false
-or-right true true e = e
-or-right true false e = refl
-or-right false b e = e
 
 -- ---- which cells wait after an act
 
@@ -83,9 +74,10 @@ module _ (P : Part) (h : Paged P) (i : ℕ) (below : i < P .size) where
   played-cell [] d size k e f = refl
   played-cell (frame w s n ∷ acts) d size k e f =
       let next = acted P (frame w s n) d in
+      let two = or-none-out (addresses P (frame w s n) (d .core) i) (addressed P acts next i) f in
       played-cell acts next size (after-within P h w (d .core) s n (running (d .core)) (λ r. r) k)
-      (frame-awaits P i w s n (d .core) e (or-left (addresses P (frame w s n) (d .core) i) (addressed P acts next i) f))
-      (or-right (addresses P (frame w s n) (d .core) i) (addressed P acts next i) f)
+      (frame-awaits P i w s n (d .core) e (two .0))
+      (two .1)
   played-cell (reading t ∷ acts) d size k e f =
       let next = acted P (reading t) d in
       played-cell acts next (timed-length P t (d .core) (d .memory) ∙ size) (timed-within P t (d .core) k) (time-awaits P i t (d .core) e) f

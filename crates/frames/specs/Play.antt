@@ -6,10 +6,9 @@ use Rattle.chip.specs.Part.{Part}
 use Rattle.chip.specs.Latches.{inPage, marked}
 use Rattle.chip.specs.Records.{running}
 use Rattle.chip.specs.Verdicts.{isExecuted}
+use Rattle.chip.specs.Cells.{isWrite}
 use Rattle.chip.specs.Time.{timed, timedMemory}
 use Rattle.chip.specs.declared.Core.{Core}
-use Rattle.chip.specs.declared.Instruction.{Instruction}
-use Rattle.chip.specs.declared.Instruction.the-variants.{Wren, Wrdi, Rdsr, Wrsr, Read, Write, Silence}
 use Rattle.frames.specs.Bytes.{instruction, address, written}
 use Rattle.frames.specs.After.{judged, after}
 
@@ -33,15 +32,6 @@ played P [] d = d
 played P (a ∷ acts) d = played P acts (acted P a d)
 
 -- ---- the cells that executed WRITE frames address
-
-abbrev pub isWrite : Instruction → Bool
-isWrite Wren = false
-isWrite Wrdi = false
-isWrite Rdsr = false
-isWrite Wrsr = false
-isWrite Read = false
-isWrite Write = true
-isWrite Silence = false
 
 -- an executed WRITE whose page has cell i, with a data byte for it
 abbrev pub addresses : Part → Act → Core → ℕ → Bool

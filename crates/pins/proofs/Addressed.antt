@@ -19,7 +19,7 @@ use Rattle.chip.specs.Latches.{inPage, marked, byteAt, noLatch, cellFits, latch
 use Rattle.chip.specs.Records.{running}
 use Rattle.chip.specs.Instructions.{decode}
 use Rattle.chip.specs.Verdicts.{isExecuted}
-use Rattle.chip.specs.Cells.{awaited}
+use Rattle.chip.specs.Cells.{awaited, isWrite}
 use Rattle.chip.specs.declared.Latch.{Latch}
 use Rattle.chip.specs.declared.Core.{Core}
 use Rattle.chip.specs.declared.Instruction.{Instruction}
@@ -39,7 +39,7 @@ use Rattle.pins.proofs.Sound.{Sound}
 use Rattle.pins.proofs.Parts.{FrameFits, Fits, parts}
 use Rattle.pins.proofs.Edges.{no-latch-fits}
 use Rattle.pins.proofs.Fits.{Sized, stepped-fits, stepped-sized}
-use Rattle.pins.proofs.CellRule.{isWrite, inFrame, writes, touched, untouched-cell}
+use Rattle.pins.proofs.CellRule.{inFrame, writes, touched, untouched-cell}
 
 -- the next whole byte of the frame is a data byte of a WRITE, for cell i
 abbrev pub dataFor : Part → ℕ → Frame → Bool

@@ -14,7 +14,7 @@ use Rattle.chip.specs.Instructions.{decode}
 use Rattle.chip.specs.Verdicts.{isExecuted}
 use Rattle.chip.specs.Effects.{effect}
 use Rattle.chip.specs.Time.{ends, timed}
-use Rattle.chip.specs.Cells.{offset, awaited}
+use Rattle.chip.specs.Cells.{offset, awaited, isWrite}
 use Rattle.chip.specs.declared.Latch.{Latch}
 use Rattle.chip.specs.declared.Core.{Core}
 use Rattle.chip.specs.declared.Instruction.{Instruction}
@@ -69,15 +69,6 @@ event-length P x m (Hold level) = refl
 event-length P x m (Time t) = timed-length P t (x .core) m
 
 -- ---- which events make a cell wait
-
-abbrev pub isWrite : Instruction → Bool
-isWrite Wren = false
-isWrite Wrdi = false
-isWrite Rdsr = false
-isWrite Wrsr = false
-isWrite Read = false
-isWrite Write = true
-isWrite Silence = false
 
 -- cell i is marked in a frame's latch, in the page of its address
 abbrev pub inFrame : Part → Frame → ℕ → Bool

@@ -1,0 +1,131 @@
+-- The two models agree: demand 3.
+use Prim.Native.Nat.{ℕ, _*_, _-_, _<_, _≤_}
+use mathlib.Core.Bool.{Bool, true, _&&_}
+use mathlib.Core.List.{List, []}
+use mathlib.Core.Path.{_≡_, refl, sym, ap, _∙_, subst⁻¹}
+use lib.Dec.{leb}
+use lib.ListN.{take, length, replicate, length-replicate}
+use borrow.Author.Tests.{eq-eqb, le-leb, eqb-true, leb-true}
+use native.Mathlib.Omega.{arith}
+use Rattle.laws.specs.Pick.{at-yes, and-left, and-right}
+use Rattle.laws.specs.Table.{table}
+use Rattle.chip.specs.Part.{Part, m95512}
+use Rattle.chip.specs.Status.{on}
+use Rattle.chip.specs.Records.{running, status}
+use Rattle.chip.specs.Refusals.{isDone}
+use Rattle.chip.specs.Ranges.{inRanges}
+use Rattle.chip.specs.declared.Core.{Core}
+use Rattle.chip.specs.declared.Outcome.the-variants.{Done}
+use Rattle.chip.proofs.Within.{Within, within, in-ranges}
+use Rattle.frames.specs.Bytes.{instruction, address}
+use Rattle.frames.specs.After.{after}
+use Rattle.frames.specs.Shown.{byteOut, output}
+use Rattle.frames.specs.Answers.{frameOutcome, framed, framedOutput}
+use Rattle.frames.proofs.Padding.{few-unused}
+use Rattle.frames.proofs.Kept.{framed-within}
+use Rattle.pins.specs.declared.Pins.{Pins}
+use Rattle.pins.specs.declared.Device.{Device}
+use Rattle.pins.specs.Devices.{noFrame}
+use Rattle.pins.specs.Ranges.{pinsFit, heldFits, frameFits, emptyFits, ranFits, deviceFits}
+use Rattle.agree.specs.Drawings.{Sendable, flat, bitsOf}
+use Rattle.agree.specs.Reports.{watched, framesPlayed, Agreement}
+use Rattle.agree.proofs.Facts.{Good, m95512-good, bit-on}
+use Rattle.agree.proofs.Ticks.{seenOf, endOf, decides}
+use Rattle.agree.proofs.Bytes.{none, seen-bytes, end-bytes}
+use Rattle.agree.proofs.Seen.{seen-table}
+use Rattle.agree.proofs.Ends.{end-table}
+use Rattle.agree.proofs.Pad.{pad-bits}
+use Rattle.agree.proofs.Waves.{says}
+
+module _ (P : Part) (G : Good P) where
+  -- ---- one frame
+
+  module _ (w : Bool) (c : Core) (m : List ℕ) (s : List ℕ) (n : ℕ) (kept : Within P c) (size : length m ≡ P .size) (F : Sendable P s n) where
+    -- it is not refused
+    done : (room : ℕ) → room ≡ length s → frameOutcome P c (length m) (length s) n room ≡ Done
+    done room e =
+        at-yes _ _ (eq-eqb _ _ size) ∙ at-yes _ _ (in-ranges P c kept) ∙ at-yes _ _ (le-leb _ _ (F .short)) ∙ at-yes _ _ (F .counted) ∙ at-yes _ _ (eq-eqb _ _ e)
+
+    framed-core : framed P c m w s n (length s) .core ≡ after P (running c) w c s n
+    unfolding framed
+    framed-core = at-yes _ _ (ap isDone (done (length s) refl))
+
+    framed-output : framedOutput P c m s n (replicate (length s) 0) ≡ output P (running c) (λ j. status c) m s n
+    unfolding framedOutput
+    framed-output = at-yes _ _ (ap isDone (done (length (replicate (length s) 0)) (length-replicate (length s) 0)))
+
+    frame-seen : seenOf P m c (noFrame P) (bitsOf s n) ≡ bitsOf (framedOutput P c m s n (replicate (length s) 0)) n
+    frame-seen =
+        let few = few-unused (length s) n (F .counted) in
+        seen-bytes P G m c s n (noFrame P) none (F .bytes)
+        ∙ ap (λ l. take n (flat l)) (seen-table P G m c s)
+        ∙ sym (ap (λ l. take n (flat l)) framed-output ∙ padding (few .0) (few .1))
+      where
+        shown : ℕ → ℕ
+        shown = byteOut P (instruction s) (running c) (λ j. status c) m (address P s)
+
+        padding : n ≤ 8 * length s → 8 * length s - n < 8 → take n (flat (output P (running c) (λ j. status c) m s n)) ≡ take n (flat (table (length s) shown))
+        padding h k = unfold output table in pad-bits shown (length s) (8 * length s - n) k (length s) 0 n (omega arith) (omega arith)
+
+    frame-core : decides P c w (endOf P m c (noFrame P) (bitsOf s n)) ≡ framed P c m w s n (length s) .core
+    frame-core =
+        let few = few-unused (length s) n (F .counted) in
+        end-bytes P G m c s n (noFrame P) w none (F .bytes) (few .0)
+        ∙ end-table P G m c w s n (few .0) (omega arith)
+        ∙ sym framed-core
+
+  -- ---- the start: an unselected device inside its ranges
+
+  module _ (x : Device) (fits : deviceFits P x ≡ true) where
+    abbrev p : Pins
+    p = x .pins
+
+    parts : (pinsFit p ≡ true) × ((heldFits p (x .held) ≡ true) × (inRanges P (x .core) ≡ true))
+    unfolding deviceFits
+    parts =
+        let a = pinsFit p in
+        let b = heldFits p (x .held) in
+        let d = frameFits P (x .frame) in
+        let e = emptyFits x in
+        let f = ranFits x in
+        let abdef = and-left (a && b && d && e && f) (inRanges P (x .core)) fits in
+        let abde = and-left (a && b && d && e) f abdef in
+        let abd = and-left (a && b && d) e abde in
+        let ab = and-left (a && b) d abd in
+        (and-left a b ab, (and-right a b ab, and-right (a && b && d && e && f) (inRanges P (x .core)) fits))
+
+    levels : (p .c ≤ 1) × ((p .d ≤ 1) × (p .w ≤ 1))
+    levels =
+        let s = leb (p .s) 1 in
+        let c = leb (p .c) 1 in
+        let d = leb (p .d) 1 in
+        let w = leb (p .w) 1 in
+        let scdw = and-left (s && c && d && w) (leb (p .hold) 1) (parts .0) in
+        let scd = and-left (s && c && d) w scdw in
+        let sc = and-left (s && c) d scd in
+        (leb-true _ _ (and-right s c sc), (leb-true _ _ (and-right (s && c) d scd), leb-true _ _ (and-right (s && c && d) w scdw)))
+
+    unheld : p .s ≡ 1 → x .held ≡ 0
+    unheld e = eqb-true _ _ (sym (at-yes _ _ (ap on e)) ∙ parts .1 .0)
+
+  pub agrees : Agreement P
+  unfolding Agreement
+  agrees b ks es u r =
+      let x = b .device in
+      let p = x .pins in
+      let l = levels x (u .fits) in
+      subst⁻¹ (λ y. watched P es [] y ≡ framesPlayed P ks (on (p .w)) (x .core) (b .memory))
+      (λ i. record {
+        device = record {
+          pins = record { s = u .up i; c = bit-on (p .c) (l .0) i; d = bit-on (p .d) (l .1 .0) i; w = bit-on (p .w) (l .1 .1) i; hold = u .free i };
+          held = unheld x (u .fits) (u .up) i;
+          frame = x .frame;
+          core = x .core;
+        };
+        memory = b .memory;
+      })
+      (says P (λ w c m s n k e F. (frame-seen w c m s n k e F, (frame-core w c m s n k e F, framed-within P (G .paged) w c s n m (length s) k)))
+      r (x .frame) (x .core) (b .memory) (within P (x .core) (parts x (u .fits) .1 .1)) (u .memory))
+
+pub agreement : Agreement m95512
+agreement = agrees m95512 m95512-good

@@ -1,0 +1,309 @@
+-- Eight ticks are a byte.
+use Prim.Native.Nat.{ℕ, zero, suc, _+_, _*_, _-_, _/_, _%_, _^_, _<_, _≤_, min}
+use mathlib.Core.Bool.{Bool, true, false}
+use mathlib.Core.List.{List, [], _∷_, _++_}
+use mathlib.Core.Path.{_≡_, refl, sym, ap, ap₂, _∙_, subst⁻¹}
+use lib.Dec.{leb, ltb}
+use lib.ListN.{take, length, getD}
+use lib.Seq.{take-nil}
+use borrow.Author.Tests.{le-leb, lt-leb, lt-ltb, le-ltb}
+use native.Mathlib.Nat.{mod-eq-of-lt, pow-suc}
+use native.Mathlib.Omega.{arith}
+use Rattle.laws.specs.Pick.{pick, at-yes, at-no, and-both}
+use Rattle.chip.specs.Part.{Part}
+use Rattle.chip.specs.Status.{bit, on, bitOf}
+use Rattle.chip.specs.Latches.{noLatch}
+use Rattle.chip.specs.Records.{running}
+use Rattle.chip.specs.Instructions.{decode}
+use Rattle.chip.specs.declared.Core.{Core}
+use Rattle.chip.specs.declared.Latch.{Latch}
+use Rattle.chip.specs.declared.Instruction.{Instruction}
+use Rattle.pins.specs.declared.Frame.{Frame}
+use Rattle.pins.specs.declared.Level.the-variants.{Zero, One}
+use Rattle.pins.specs.Devices.{noFrame}
+use Rattle.pins.specs.Rising.{risen, wholeByte, shiftedIn}
+use Rattle.pins.specs.Falling.{fallen, outputs, levelOf}
+use Rattle.agree.specs.Drawings.{flat}
+use Rattle.agree.specs.Reports.{asOne}
+use Rattle.agree.proofs.Facts.{Good, on-bit}
+use Rattle.agree.proofs.Ticks.{tick, shows, seenOf, endOf, decidesAt, decides}
+use Rattle.agree.proofs.Steps.{shownAt, mid, stepByte, St, drives, Go, addressOf, valueOf, latchOf, first-is, step-is}
+
+-- ---- the bits of a byte, joined
+
+bit-most : (b : Bool) → bit b ≤ 1
+bit-most true = omega arith
+bit-most false = omega arith
+
+bit-odd : (x : ℕ) → bit (on (x % 2)) ≡ x % 2
+bit-odd x = go (x % 2) (omega arith)
+  where
+    go : (y : ℕ) → y < 2 → bit (on y) ≡ y
+    go zero h = refl
+    go (suc zero) h = refl
+    go (suc (suc y)) h = absurd (omega arith)
+
+unfoldable pub joined : ℕ → List Bool → ℕ
+joined a [] = a
+joined a (b ∷ bs) = joined (2 * a + bit b) bs
+
+top : (v : ℕ) → v < 256 → 2 * 0 + v / 2 ^ 7 % 2 ≡ v / 2 ^ 7
+top v h = omega arith
+
+b6 : (v : ℕ) → 2 * (v / 2 ^ 7) + v / 2 ^ 6 % 2 ≡ v / 2 ^ 6
+b6 v = omega arith
+
+b5 : (v : ℕ) → 2 * (v / 2 ^ 6) + v / 2 ^ 5 % 2 ≡ v / 2 ^ 5
+b5 v = omega arith
+
+b4 : (v : ℕ) → 2 * (v / 2 ^ 5) + v / 2 ^ 4 % 2 ≡ v / 2 ^ 4
+b4 v = omega arith
+
+b3 : (v : ℕ) → 2 * (v / 2 ^ 4) + v / 2 ^ 3 % 2 ≡ v / 2 ^ 3
+b3 v = omega arith
+
+b2 : (v : ℕ) → 2 * (v / 2 ^ 3) + v / 2 ^ 2 % 2 ≡ v / 2 ^ 2
+b2 v = omega arith
+
+b1 : (v : ℕ) → 2 * (v / 2 ^ 2) + v / 2 ^ 1 % 2 ≡ v / 2 ^ 1
+b1 v = omega arith
+
+b0 : (v : ℕ) → 2 * (v / 2 ^ 1) + v / 2 ^ 0 % 2 ≡ v
+b0 v = omega arith
+
+-- the seven high bits
+abbrev high7 : ℕ → List Bool
+high7 v = on (bitOf 7 v) ∷ on (bitOf 6 v) ∷ on (bitOf 5 v) ∷ on (bitOf 4 v) ∷ on (bitOf 3 v) ∷ on (bitOf 2 v) ∷ on (bitOf 1 v) ∷ []
+
+joined-seven : (v : ℕ) → v < 256 → joined 0 (high7 v) ≡ v / 2 ^ 1
+unfolding joined
+joined-seven v h = rw (bit-odd (v / 2 ^ 7), bit-odd (v / 2 ^ 6), bit-odd (v / 2 ^ 5), bit-odd (v / 2 ^ 4), bit-odd (v / 2 ^ 3), bit-odd (v / 2 ^ 2), bit-odd (v / 2 ^ 1), top v h, b6 v, b5 v, b4 v, b3 v, b2 v, b1 v)
+
+joined-eight : (v : ℕ) → v < 256 → 2 * joined 0 (high7 v) + bit (on (bitOf 0 v)) ≡ v
+joined-eight v h = rw (joined-seven v h, bit-odd (v / 2 ^ 0)) (b0 v)
+
+-- ---- what Q shows over a byte, an undriven bit as 1
+
+abbrev pub onQ : Bool → Frame → ℕ
+onQ true f = f .out
+onQ false f = 255
+
+as-level : (t : Bool) → asOne (pick t One Zero) ≡ t
+unfolding pick
+as-level true = refl
+as-level false = refl
+
+all-ones : (k : ℕ) → k ≤ 7 → true ≡ on (bitOf (7 - k) 255)
+all-ones zero h = refl
+all-ones (suc zero) h = refl
+all-ones (suc (suc zero)) h = refl
+all-ones (suc (suc (suc zero))) h = refl
+all-ones (suc (suc (suc (suc zero)))) h = refl
+all-ones (suc (suc (suc (suc (suc zero))))) h = refl
+all-ones (suc (suc (suc (suc (suc (suc zero)))))) h = refl
+all-ones (suc (suc (suc (suc (suc (suc (suc zero))))))) h = refl
+all-ones (suc (suc (suc (suc (suc (suc (suc (suc k)))))))) h = absurd (omega arith)
+
+shown-bit : (b : Bool) (k a : ℕ) (f : Frame) → k ≤ 7 → asOne (shows (mid b k a f)) ≡ on (bitOf (7 - k) (onQ b f))
+unfolding shows
+shown-bit true k a f h =
+    let next : 8 - suc k ≡ 7 - k = omega arith in
+    ap asOne (at-yes _ _ (le-leb 1 (suc k) (omega arith)))
+    ∙ ap (λ n. asOne (levelOf (bitOf n (f .out)))) next
+    ∙ as-level (on (bitOf (7 - k) (f .out)))
+shown-bit false k a f h = ap asOne (at-no _ _ (lt-leb 1 0 (omega arith))) ∙ all-ones k h
+
+-- n bits of a byte, k past its first
+unfoldable pub shownBits : ℕ → ℕ → ℕ → List Bool
+shownBits v k zero = []
+shownBits v k (suc n) = on (bitOf (7 - k) v) ∷ shownBits v (suc k) n
+
+module _ (P : Part) (G : Good P) (m : List ℕ) (c : Core) where
+  -- in data output
+  abbrev pub drivesOf : Frame → Bool
+  drivesOf f = outputs P (decode (f .code)) (f .taken) (on (f .ran))
+
+  -- ---- one of the first seven ticks
+
+  shifted : (d : Bool) (a : ℕ) → a < 128 → shiftedIn a (bit d) ≡ 2 * a + bit d
+  shifted d a h = rw (on-bit d) (mod-eq-of-lt (omega (arith, bit-most d)))
+
+  -- the rising edge: one bit more, nothing else
+  abbrev rose : Bool → ℕ → ℕ → Frame → Frame
+  rose b k a f =
+      record {
+        taken = f .taken;
+        bits = suc k;
+        part = a;
+        code = f .code;
+        ran = f .ran;
+        value = f .value;
+        out = f .out;
+        shown = shownAt b k;
+        address = f .address;
+        latch = f .latch;
+      }
+
+  mid-rise : (b d : Bool) (f : Frame) (k a : ℕ) → k < 7 → a < 128 → risen P (running c) (bit d) (mid b k a f) ≡ rose b k (2 * a + bit d) f
+  unfolding risen
+  mid-rise b d f k a h l =
+      let next : k + 1 ≡ suc k = omega arith in
+      at-yes _ _ (lt-ltb k 7 h)
+      ∙ ap₂ (λ n v. record { taken = f .taken; bits = n; part = v; code = f .code; ran = f .ran; value = f .value; out = f .out; shown = shownAt b k; address = f .address; latch = f .latch }) next (shifted d a l)
+
+  mid-fall : (b : Bool) (f : Frame) (k a : ℕ) → drivesOf f ≡ b → k < 7 → fallen P m c (rose b k a f) ≡ mid b (suc k) a f
+  unfolding fallen
+  mid-fall true f k a e h =
+      let next : suc k + 1 ≡ suc (suc k) = omega arith in
+      at-yes _ _ e
+      ∙ at-yes _ _ (and-both (leb 1 (suc k)) (ltb (suc k) 8) (le-leb 1 (suc k) (omega arith)) (lt-ltb (suc k) 8 (omega arith)))
+      ∙ ap (λ n. record { taken = f .taken; bits = suc k; part = a; code = f .code; ran = f .ran; value = f .value; out = f .out; shown = n; address = f .address; latch = f .latch }) next
+  mid-fall false f k a e h = at-no _ _ e
+
+  mid-tick : (b d : Bool) (f : Frame) (k a : ℕ) → drivesOf f ≡ b → k < 7 → a < 128 → tick P m c d (mid b k a f) ≡ mid b (suc k) (2 * a + bit d) f
+  mid-tick b d f k a e h l = ap (fallen P m c) (mid-rise b d f k a h l) ∙ mid-fall b f k (2 * a + bit d) e h
+
+  -- the eighth: the byte v is whole
+  last-tick : (b d : Bool) (f : Frame) (a v : ℕ) → 2 * a + bit d ≡ v → v < 256 → tick P m c d (mid b 7 a f) ≡ stepByte P G m c b v f
+  unfolding risen wholeByte stepByte
+  last-tick b d f a v e h =
+      let whole : shiftedIn a (bit d) ≡ v = rw (on-bit d, e) (mod-eq-of-lt h) in
+      ap (fallen P m c) (at-no _ _ (le-ltb 7 7 (omega arith)) ∙ ap (λ x. wholeByte P (running c) x (mid b 7 a f)) whole)
+
+  -- ---- up to seven ticks
+
+  below-128 : (k a : ℕ) → k < 7 → a < 2 ^ k → a < 128
+  below-128 zero a h l = omega arith
+  below-128 (suc zero) a h l = omega arith
+  below-128 (suc (suc zero)) a h l = omega arith
+  below-128 (suc (suc (suc zero))) a h l = omega arith
+  below-128 (suc (suc (suc (suc zero)))) a h l = omega arith
+  below-128 (suc (suc (suc (suc (suc zero))))) a h l = omega arith
+  below-128 (suc (suc (suc (suc (suc (suc zero)))))) a h l = omega arith
+  below-128 (suc (suc (suc (suc (suc (suc (suc k))))))) a h l = absurd (omega arith)
+
+  twice-below : (k a : ℕ) (d : Bool) → a < 2 ^ k → 2 * a + bit d < 2 ^ suc k
+  twice-below k a d h = omega (arith, bit-most d, pow-suc 2 k)
+
+  mid-seen : (bs rest : List Bool) (b : Bool) (f : Frame) (k a : ℕ) → drivesOf f ≡ b → k + length bs ≤ 7 → a < 2 ^ k
+      → seenOf P m c (mid b k a f) (bs ++ rest)
+      ≡ shownBits (onQ b f) k (length bs) ++ seenOf P m c (mid b (k + length bs) (joined a bs) f) rest
+  unfolding seenOf joined shownBits
+  mid-seen [] rest b f k a e h l = ap (λ n. seenOf P m c (mid b n a f) rest) (omega arith)
+  mid-seen (d ∷ bs) rest b f k a e h l =
+      let next : suc k + length bs ≡ k + suc (length bs) = omega arith in
+      ap₂ (λ x l. x ∷ l) (shown-bit b k a f (omega arith))
+      (ap (λ g. seenOf P m c g (bs ++ rest)) (mid-tick b d f k a e (omega arith) (below-128 k a (omega arith) l))
+      ∙ mid-seen bs rest b f (suc k) (2 * a + bit d) e (omega arith) (twice-below k a d l)
+      ∙ ap (λ n. shownBits (onQ b f) (suc k) (length bs) ++ seenOf P m c (mid b n (joined (2 * a + bit d) bs) f) rest) next)
+
+  mid-end : (bs rest : List Bool) (b : Bool) (f : Frame) (k a : ℕ) → drivesOf f ≡ b → k + length bs ≤ 7 → a < 2 ^ k
+      → endOf P m c (mid b k a f) (bs ++ rest) ≡ endOf P m c (mid b (k + length bs) (joined a bs) f) rest
+  unfolding endOf joined
+  mid-end [] rest b f k a e h l = ap (λ n. endOf P m c (mid b n a f) rest) (omega arith)
+  mid-end (d ∷ bs) rest b f k a e h l =
+      let next : suc k + length bs ≡ k + suc (length bs) = omega arith in
+      ap (λ g. endOf P m c g (bs ++ rest)) (mid-tick b d f k a e (omega arith) (below-128 k a (omega arith) l))
+      ∙ mid-end bs rest b f (suc k) (2 * a + bit d) e (omega arith) (twice-below k a d l)
+      ∙ ap (λ n. endOf P m c (mid b n (joined (2 * a + bit d) bs) f) rest) next
+
+  -- ---- a frame, byte by byte
+
+  unfoldable pub step : ℕ → Frame → Frame
+  step v f = stepByte P G m c (drivesOf f) v f
+
+  unfoldable pub bytesSeen : Frame → List ℕ → List ℕ
+  bytesSeen f [] = []
+  bytesSeen f (v ∷ vs) = onQ (drivesOf f) f ∷ bytesSeen (step v f) vs
+
+  unfoldable pub bytesEnd : Frame → List ℕ → Frame
+  bytesEnd f [] = f
+  bytesEnd f (v ∷ vs) = bytesEnd (step v f) vs
+
+  pub step-first : (i : Instruction) (v : ℕ) → decode v ≡ i → step v (noFrame P) ≡ Go P G m c i v 1 0 0 0 (noLatch P)
+  unfolding step decode pick
+  step-first i v e = first-is P G m c i v e
+
+  pub step-more : (i : Instruction) (u v j a x o z : ℕ) (l : Latch) → decode v ≡ i → 1 ≤ j
+      → let n = min (P .most) j in
+      step u (St P G m c v j a x o z l) ≡ Go P G m c i v (suc j) (addressOf P i n u a) (valueOf i n u x) o (latchOf P i n u a l)
+  unfolding step
+  step-more i u v j a x o z l e k =
+      ap₂ (λ d r. stepByte P G m c (outputs P d (min (P .most) j) r) u (St P G m c v j a x o z l)) e (on-bit (running c))
+      ∙ step-is P G m c i u v j a x o z l e k
+
+  -- a byte's start: no bit taken, and nothing or the first bit shown
+  pub data Reached : Frame → Type 0 where
+    none : Reached (noFrame P)
+    some : (v j a x o : ℕ) (l : Latch) → 1 ≤ j → Reached (St P G m c v j a x o (shownAt (drives P G m c (decode v) j) 0) l)
+
+  as-mid : (f : Frame) → Reached f → f ≡ mid (drivesOf f) 0 0 f
+  as-mid f none = unfold decode pick in refl
+  as-mid f (some v j a x o l h) =
+      ap (λ r. St P G m c v j a x o (shownAt (outputs P (decode v) (min (P .most) j) r) 0) l) (sym (on-bit (running c)))
+
+  reached-step : (u : ℕ) (f : Frame) → Reached f → Reached (step u f)
+  reached-step u f none = subst⁻¹ Reached (step-first (decode u) u refl) (some u 1 _ _ _ _ (omega arith))
+  reached-step u f (some v j a x o l h) = subst⁻¹ Reached (step-more (decode v) u v j a x o _ l refl h) (some v (suc j) _ _ _ _ (omega arith))
+
+  cons-seen : (f : Frame) (v : ℕ) (vs : List ℕ) (n : ℕ) → v < 256
+      → ((k : ℕ) → seenOf P m c (step v f) (take k (flat vs)) ≡ take k (flat (bytesSeen (step v f) vs)))
+      → seenOf P m c (mid (drivesOf f) 0 0 f) (take n (flat (v ∷ vs))) ≡ take n (flat (bytesSeen f (v ∷ vs)))
+  unfolding flat bytesSeen seenOf shownBits step
+  cons-seen f v vs zero h ih = mid-seen ([]) [] (drivesOf f) f 0 0 refl (omega arith) (omega arith)
+  cons-seen f v vs (suc zero) h ih = mid-seen (on (bitOf 7 v) ∷ []) [] (drivesOf f) f 0 0 refl (omega arith) (omega arith)
+  cons-seen f v vs (suc (suc zero)) h ih = mid-seen (on (bitOf 7 v) ∷ on (bitOf 6 v) ∷ []) [] (drivesOf f) f 0 0 refl (omega arith) (omega arith)
+  cons-seen f v vs (suc (suc (suc zero))) h ih = mid-seen (on (bitOf 7 v) ∷ on (bitOf 6 v) ∷ on (bitOf 5 v) ∷ []) [] (drivesOf f) f 0 0 refl (omega arith) (omega arith)
+  cons-seen f v vs (suc (suc (suc (suc zero)))) h ih = mid-seen (on (bitOf 7 v) ∷ on (bitOf 6 v) ∷ on (bitOf 5 v) ∷ on (bitOf 4 v) ∷ []) [] (drivesOf f) f 0 0 refl (omega arith) (omega arith)
+  cons-seen f v vs (suc (suc (suc (suc (suc zero))))) h ih = mid-seen (on (bitOf 7 v) ∷ on (bitOf 6 v) ∷ on (bitOf 5 v) ∷ on (bitOf 4 v) ∷ on (bitOf 3 v) ∷ []) [] (drivesOf f) f 0 0 refl (omega arith) (omega arith)
+  cons-seen f v vs (suc (suc (suc (suc (suc (suc zero)))))) h ih = mid-seen (on (bitOf 7 v) ∷ on (bitOf 6 v) ∷ on (bitOf 5 v) ∷ on (bitOf 4 v) ∷ on (bitOf 3 v) ∷ on (bitOf 2 v) ∷ []) [] (drivesOf f) f 0 0 refl (omega arith) (omega arith)
+  cons-seen f v vs (suc (suc (suc (suc (suc (suc (suc zero))))))) h ih = mid-seen (on (bitOf 7 v) ∷ on (bitOf 6 v) ∷ on (bitOf 5 v) ∷ on (bitOf 4 v) ∷ on (bitOf 3 v) ∷ on (bitOf 2 v) ∷ on (bitOf 1 v) ∷ []) [] (drivesOf f) f 0 0 refl (omega arith) (omega arith)
+  cons-seen f v vs (suc (suc (suc (suc (suc (suc (suc (suc n)))))))) h ih =
+      let b = drivesOf f in
+      let a = joined 0 (high7 v) in
+      mid-seen (high7 v) (on (bitOf 0 v) ∷ take n (flat vs)) b f 0 0 refl (omega arith) (omega arith)
+      ∙ ap₂ (λ x l. shownBits (onQ b f) 0 7 ++ (x ∷ l)) (shown-bit b 7 a f (omega arith))
+      (ap (λ g. seenOf P m c g (take n (flat vs))) (last-tick b (on (bitOf 0 v)) f a v (joined-eight v h) h) ∙ ih n)
+
+  pub seen-bytes : (s : List ℕ) (n : ℕ) (f : Frame) → Reached f → ((i : ℕ) → getD s i 0 < 256)
+      → seenOf P m c f (take n (flat s)) ≡ take n (flat (bytesSeen f s))
+  unfolding flat bytesSeen seenOf
+  seen-bytes [] n f r h = rw take-nil
+  seen-bytes (v ∷ vs) n f r h =
+      ap (λ g. seenOf P m c g (take n (flat (v ∷ vs)))) (as-mid f r)
+      ∙ cons-seen f v vs n (h 0) (λ k. seen-bytes vs k (step v f) (reached-step v f r) (λ i. h (suc i)))
+
+  cons-end : (f : Frame) (v : ℕ) (vs : List ℕ) (n : ℕ) (w : Bool) → v < 256 → n ≤ 8 * suc (length vs)
+      → ((k : ℕ) → k ≤ 8 * length vs → decides P c w (endOf P m c (step v f) (take k (flat vs))) ≡ decidesAt P c w (k % 8) (bytesEnd (step v f) (take (k / 8) vs)))
+      → decides P c w (endOf P m c (mid (drivesOf f) 0 0 f) (take n (flat (v ∷ vs)))) ≡ decidesAt P c w (n % 8) (bytesEnd f (take (n / 8) (v ∷ vs)))
+  unfolding flat bytesEnd endOf step decides decidesAt
+  cons-end f v vs zero w h u ih = ap (decides P c w) (mid-end ([]) [] (drivesOf f) f 0 0 refl (omega arith) (omega arith))
+  cons-end f v vs (suc zero) w h u ih = ap (decides P c w) (mid-end (on (bitOf 7 v) ∷ []) [] (drivesOf f) f 0 0 refl (omega arith) (omega arith))
+  cons-end f v vs (suc (suc zero)) w h u ih = ap (decides P c w) (mid-end (on (bitOf 7 v) ∷ on (bitOf 6 v) ∷ []) [] (drivesOf f) f 0 0 refl (omega arith) (omega arith))
+  cons-end f v vs (suc (suc (suc zero))) w h u ih = ap (decides P c w) (mid-end (on (bitOf 7 v) ∷ on (bitOf 6 v) ∷ on (bitOf 5 v) ∷ []) [] (drivesOf f) f 0 0 refl (omega arith) (omega arith))
+  cons-end f v vs (suc (suc (suc (suc zero)))) w h u ih = ap (decides P c w) (mid-end (on (bitOf 7 v) ∷ on (bitOf 6 v) ∷ on (bitOf 5 v) ∷ on (bitOf 4 v) ∷ []) [] (drivesOf f) f 0 0 refl (omega arith) (omega arith))
+  cons-end f v vs (suc (suc (suc (suc (suc zero))))) w h u ih = ap (decides P c w) (mid-end (on (bitOf 7 v) ∷ on (bitOf 6 v) ∷ on (bitOf 5 v) ∷ on (bitOf 4 v) ∷ on (bitOf 3 v) ∷ []) [] (drivesOf f) f 0 0 refl (omega arith) (omega arith))
+  cons-end f v vs (suc (suc (suc (suc (suc (suc zero)))))) w h u ih = ap (decides P c w) (mid-end (on (bitOf 7 v) ∷ on (bitOf 6 v) ∷ on (bitOf 5 v) ∷ on (bitOf 4 v) ∷ on (bitOf 3 v) ∷ on (bitOf 2 v) ∷ []) [] (drivesOf f) f 0 0 refl (omega arith) (omega arith))
+  cons-end f v vs (suc (suc (suc (suc (suc (suc (suc zero))))))) w h u ih = ap (decides P c w) (mid-end (on (bitOf 7 v) ∷ on (bitOf 6 v) ∷ on (bitOf 5 v) ∷ on (bitOf 4 v) ∷ on (bitOf 3 v) ∷ on (bitOf 2 v) ∷ on (bitOf 1 v) ∷ []) [] (drivesOf f) f 0 0 refl (omega arith) (omega arith))
+  cons-end f v vs (suc (suc (suc (suc (suc (suc (suc (suc n)))))))) w h u ih =
+      let b = drivesOf f in
+      let a = joined 0 (high7 v) in
+      let whole : suc (n / 8) ≡ (suc (suc (suc (suc (suc (suc (suc (suc n)))))))) / 8 = omega arith in
+      let over : n % 8 ≡ (suc (suc (suc (suc (suc (suc (suc (suc n)))))))) % 8 = omega arith in
+      ap (decides P c w) (mid-end (high7 v) (on (bitOf 0 v) ∷ take n (flat vs)) b f 0 0 refl (omega arith) (omega arith)
+      ∙ ap (λ g. endOf P m c g (take n (flat vs))) (last-tick b (on (bitOf 0 v)) f a v (joined-eight v h) h))
+      ∙ ih n (omega arith)
+      ∙ ap₂ (λ k j. decidesAt P c w k (bytesEnd f (take j (v ∷ vs)))) over whole
+
+  as-whole : (f : Frame) → Reached f → (w : Bool) → decides P c w f ≡ decidesAt P c w 0 f
+  unfolding decides
+  as-whole f r w = ap (λ (g : Frame). decidesAt P c w (g .bits) f) (as-mid f r)
+
+  pub end-bytes : (s : List ℕ) (n : ℕ) (f : Frame) (w : Bool) → Reached f → ((i : ℕ) → getD s i 0 < 256) → n ≤ 8 * length s
+      → decides P c w (endOf P m c f (take n (flat s))) ≡ decidesAt P c w (n % 8) (bytesEnd f (take (n / 8) s))
+  unfolding flat bytesEnd endOf
+  end-bytes [] zero f w r h u = as-whole f r w
+  end-bytes [] (suc n) f w r h u = absurd (omega arith)
+  end-bytes (v ∷ vs) n f w r h u =
+      ap (λ g. decides P c w (endOf P m c g (take n (flat (v ∷ vs))))) (as-mid f r)
+      ∙ cons-end f v vs n w (h 0) u (λ k u′. end-bytes vs k (step v f) w (reached-step v f r) (λ i. h (suc i)) u′)

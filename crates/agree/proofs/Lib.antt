@@ -1,0 +1,12 @@
+pub mod Facts
+pub mod Ticks
+pub mod Waves
+pub mod Steps
+pub mod Bytes
+pub mod Seen
+pub mod Pages
+pub mod Ends
+pub mod Pad
+pub mod Agree
+pub mod Drawn
+pub mod Shown

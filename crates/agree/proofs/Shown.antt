@@ -1,0 +1,84 @@
+-- The statement is about models that do something: a list whose reports have driven bits at 0, a changed status and a changed cell.
+use Prim.Native.Nat.{ℕ}
+use mathlib.Core.Bool.{Bool, true, false}
+use mathlib.Core.List.{List, [], _∷_, _++_}
+use mathlib.Core.Path.{_≡_, refl, sym, subst}
+use lib.ListN.{getD, replicate, length-replicate}
+use Rattle.laws.specs.Pick.{pick}
+use Rattle.laws.specs.Each.{each}
+use Rattle.laws.specs.Table.{from, table}
+use Rattle.chip.specs.Part.{m95512}
+use Rattle.chip.specs.Latches.{zeros, stored}
+use Rattle.chip.specs.Records.{status}
+use Rattle.chip.specs.Instructions.{decode}
+use Rattle.chip.specs.Verdicts.{verdict}
+use Rattle.chip.specs.Ranges.{inRanges}
+use Rattle.chip.specs.Time.{timed, timedMemory}
+use Rattle.chip.specs.Power.{delivered}
+use Rattle.frames.specs.Bytes.{latchedFrom}
+use Rattle.frames.specs.Shown.{output}
+use Rattle.frames.specs.Answers.{framed, framedOutput}
+use Rattle.pins.specs.declared.Event.{Event}
+use Rattle.pins.specs.Devices.{resting}
+use Rattle.pins.specs.Ranges.{deviceFits}
+use Rattle.pins.specs.Answers.{Bench}
+use Rattle.agree.specs.Drawings.{Act, send, reading, flat, Wave, between}
+use Rattle.agree.specs.Reports.{Report, watched, framesPlayed, Unselected, Agreement}
+use Rattle.agree.proofs.Agree.{agreement}
+
+-- WREN; WRITE of 00h at 0000h; RDSR; the clock reads 5,000; RDSR; READ at 0000h
+abbrev pub acts : List Act
+acts =
+    send (0x06 ∷ []) 8 ∷ send (0x02 ∷ 0x00 ∷ 0x00 ∷ 0x00 ∷ []) 32 ∷ send (0x05 ∷ 0x00 ∷ []) 16 ∷ reading 5000
+    ∷ send (0x05 ∷ 0x00 ∷ []) 16 ∷ send (0x03 ∷ 0x00 ∷ 0x00 ∷ 0x00 ∷ []) 32 ∷ []
+
+-- a device as delivered, with W high, and a memory of FFh
+abbrev pub blank : List ℕ
+blank = replicate 65536 0xff
+
+pub run : List Report
+run = framesPlayed m95512 acts true (delivered m95512) blank
+
+abbrev pub bitsSeen : List Report → List (List Bool)
+bitsSeen [] = []
+bitsSeen (r ∷ rs) = r .bits ∷ bitsSeen rs
+
+abbrev pub statuses : List Report → List ℕ
+statuses [] = []
+statuses (r ∷ rs) = status (r .core) ∷ statuses rs
+
+abbrev pub firstCells : List Report → List ℕ
+firstCells [] = []
+firstCells (r ∷ rs) = getD (r .memory) 0 0 ∷ firstCells rs
+
+abbrev pub ones : List Bool
+ones = true ∷ true ∷ true ∷ true ∷ true ∷ true ∷ true ∷ true ∷ []
+
+abbrev pub none : List Bool
+none = false ∷ false ∷ false ∷ false ∷ false ∷ false ∷ false ∷ false ∷ []
+
+-- what a bench sees: the status 03h and then 00h on Q, and the cell's 00h; a write enable latch and a cycle that come and go; a cell from FFh to 00h
+pub record Seen (rs : List Report) : Type 0 where
+  pub bits :
+      bitsSeen rs
+      ≡ ones ∷ (ones ++ ones ++ ones ++ ones) ∷ (ones ++ (false ∷ false ∷ false ∷ false ∷ false ∷ false ∷ true ∷ true ∷ [])) ∷ (ones ++ none)
+      ∷ (ones ++ ones ++ ones ++ none) ∷ []
+  pub registers : statuses rs ≡ 2 ∷ 3 ∷ 3 ∷ 0 ∷ 0 ∷ []
+  pub cell : firstCells rs ≡ 0xff ∷ 0xff ∷ 0xff ∷ 0x00 ∷ 0x00 ∷ []
+
+pub frames-seen : Seen run
+unfolding run framesPlayed framed framedOutput inRanges each pick verdict decode latchedFrom zeros timed timedMemory stored table from output flat
+frames-seen = record { bits = refl; registers = refl; cell = refl }
+
+-- ---- and so the pin model, from the same device, whatever drawing of the list
+
+abbrev pub bench : Bench
+bench = record { device = resting m95512 (delivered m95512); memory = blank }
+
+unselected : Unselected m95512 bench
+unfolding deviceFits inRanges each pick decode zeros
+unselected = record { fits = refl; up = refl; free = refl; memory = length-replicate {A = ℕ} 65536 0xff }
+
+pub pins-seen : (es : List Event) → Wave m95512 (between false) false true [] acts es → Seen (watched m95512 es [] bench)
+unfolding Agreement run
+pins-seen es r = subst Seen (sym (agreement bench acts es unselected r)) frames-seen

@@ -1,0 +1,46 @@
+-- A frame as ticks: a rising edge and the falling edge after it. Neither pins nor pauses nor modes stand here.
+use Prim.Native.Nat.{ℕ, _+_, _*_, _-_, _/_}
+use mathlib.Core.Bool.{Bool, not, _&&_}
+use mathlib.Core.List.{List, [], _∷_}
+use lib.Dec.{leb}
+use Rattle.laws.specs.Pick.{pick}
+use Rattle.chip.specs.Part.{Part}
+use Rattle.chip.specs.Status.{bit, on, bitOf}
+use Rattle.chip.specs.Records.{running}
+use Rattle.chip.specs.Instructions.{decode}
+use Rattle.chip.specs.Protect.{protects}
+use Rattle.chip.specs.Verdicts.{verdict, isExecuted}
+use Rattle.chip.specs.Effects.{effect}
+use Rattle.chip.specs.declared.Core.{Core}
+use Rattle.pins.specs.declared.Frame.{Frame}
+use Rattle.pins.specs.declared.Level.{Level}
+use Rattle.pins.specs.declared.Level.the-variants.{Z}
+use Rattle.pins.specs.Rising.{risen}
+use Rattle.pins.specs.Falling.{fallen, levelOf}
+use Rattle.agree.specs.Reports.{asOne}
+
+abbrev pub tick : Part → List ℕ → Core → Bool → Frame → Frame
+tick P m c b f = fallen P m c (risen P (running c) (bit b) f)
+
+-- what Q shows of a frame
+unfoldable pub shows : Frame → Level
+shows f = pick (leb 1 (f .shown)) (levelOf (bitOf (8 - f .shown) (f .out))) Z
+
+-- the bits seen at the counted clocks
+unfoldable pub seenOf : Part → List ℕ → Core → Frame → List Bool → List Bool
+seenOf P m c f [] = []
+seenOf P m c f (b ∷ bs) = asOne (shows f) ∷ seenOf P m c (tick P m c b f) bs
+
+unfoldable pub endOf : Part → List ℕ → Core → Frame → List Bool → Frame
+endOf P m c f [] = f
+endOf P m c f (b ∷ bs) = endOf P m c (tick P m c b f) bs
+
+-- what deselect decides of a frame part, k bits past its whole bytes
+unfoldable pub decidesAt : Part → Core → Bool → ℕ → Frame → Core
+decidesAt P c w k f =
+    let i = decode (f .code) in
+    pick (isExecuted (verdict P i (8 * f .taken + k) (on (f .ran)) (on (c .wel)) (on (c .srwd) && not (on (bit w))) (protects P c (f .address)) (on 0)))
+    (effect P i (f .value) (f .address / P .page) (f .latch) c) c
+
+unfoldable pub decides : Part → Core → Bool → Frame → Core
+decides P c w f = decidesAt P c w (f .bits) f

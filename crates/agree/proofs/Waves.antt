@@ -1,0 +1,210 @@
+-- Any drawing of a list of frames comes to ticks.
+use Prim.Native.Nat.{ℕ, _+_, _*_, _/_}
+use mathlib.Core.Bool.{Bool, true, false, not, _&&_, Bool·beq}
+use mathlib.Core.List.{List, [], _∷_, _++_, append-nil, append-assoc}
+use mathlib.Core.Path.{_≡_, refl, sym, ap, ap₂, _∙_, subst}
+use lib.Dec.{T, leb, ltb}
+use lib.ListN.{length, replicate}
+use Rattle.laws.specs.Pick.{pick, pick-case, pick-same}
+use Rattle.chip.specs.Part.{Part}
+use Rattle.chip.specs.Status.{bit, on}
+use Rattle.chip.specs.Protect.{protects}
+use Rattle.chip.specs.Verdicts.{verdict, isExecuted}
+use Rattle.chip.specs.Effects.{effect}
+use Rattle.chip.specs.Instructions.{decode}
+use Rattle.chip.specs.Records.{running}
+use Rattle.chip.specs.Time.{timed, timedMemory}
+use Rattle.chip.specs.declared.Core.{Core}
+use Rattle.chip.specs.declared.Instruction.{Instruction}
+use Rattle.chip.specs.declared.Instruction.the-variants.{Wren, Wrdi, Rdsr, Wrsr, Read, Write, Silence}
+use Rattle.chip.proofs.Within.{Within}
+use Rattle.chip.proofs.Passing.{timed-within, timed-length}
+use Rattle.frames.specs.Answers.{framed, framedOutput}
+use Rattle.pins.specs.declared.Frame.{Frame}
+use Rattle.pins.specs.declared.Event.{Event}
+use Rattle.pins.specs.declared.Event.the-variants.{S, C, D, W, Hold, Time}
+use Rattle.pins.specs.Devices.{noFrame}
+use Rattle.pins.specs.Rising.{risen}
+use Rattle.pins.specs.Falling.{fallen, outputs, loading, q}
+use Rattle.pins.specs.Events.{onS, onC, onD, onW, onHold, onTime}
+use Rattle.pins.specs.Answers.{Bench}
+use Rattle.agree.specs.Drawings.{Act, mode0, mode3, Phase, between, inside, paused, sOf, cOf, holdOf, stays, Sendable, bitsOf}
+use Rattle.agree.specs.Drawings.{Wave, data′, stay′, end′, clock′, reading′, protect′, select′, rise′, fall′, deselect′, hold′, idle′, resume′}
+use Rattle.agree.specs.Reports.{Report, asOne, watched, framesPlayed}
+use Rattle.agree.proofs.Ticks.{tick, shows, seenOf, endOf, decidesAt, decides}
+
+abbrev pub mk : (s c d w h z : Bool) → Frame → Core → List ℕ → Bench
+mk s c d w h z f k m =
+    record {
+      device = record { pins = record { s = bit s; c = bit c; d = bit d; w = bit w; hold = bit h }; held = bit z; frame = f; core = k };
+      memory = m;
+    }
+
+-- the bench in a phase: held where HOLD is low
+abbrev pub at : Phase → Bool → Bool → Frame → Core → List ℕ → Bench
+at p d w f c m = mk (sOf p) (cOf p) d w (holdOf p) (not (holdOf p)) f c m
+
+module _ (P : Part) where
+  -- a frame's report, and then the acts
+  pub shut : List Act → Bool → List ℕ → List Bool → Core → List Report
+  shut ks w m bits c = record { bits = bits; memory = m; core = c } ∷ framesPlayed P ks w c m
+
+  -- the ticks' account of a frame with bs still to come, from the frame part f, then the acts
+  pub goes : List Bool → List Act → Bool → Frame → Core → List ℕ → List Bool → List Report
+  goes bs ks w f c m seen = shut ks w m (seen ++ seenOf P m c f bs) (decides P c w (endOf P m c f bs))
+
+  -- the frame leaves a record inside the ranges, and the memory has its size
+  abbrev pub Kept : List Bool → Bool → Frame → Core → List ℕ → Type 0
+  Kept bs w f c m = Within P (decides P c w (endOf P m c f bs)) × (length m ≡ P .size)
+
+  abbrev pub Says : Phase → Bool → Bool → List Bool → List Act → List Event → Type 0
+  Says (between l) d w bs ks es =
+      (f : Frame) (c : Core) (m : List ℕ) → Within P c → length m ≡ P .size → watched P es [] (at (between l) d w f c m) ≡ framesPlayed P ks w c m
+  Says (inside o false) d w bs ks es =
+      (f : Frame) (c : Core) (m : List ℕ) (seen : List Bool) → Kept bs w f c m → watched P es seen (at (inside o false) d w f c m) ≡ goes bs ks w f c m seen
+  Says (inside o true) d w bs ks es =
+      (f : Frame) (c : Core) (m : List ℕ) (seen : List Bool) → Kept bs w (fallen P m c f) c m
+      → watched P es seen (at (inside o true) d w f c m) ≡ goes bs ks w (fallen P m c f) c m seen
+  Says (paused o l) d w bs ks es =
+      (f : Frame) (c : Core) (m : List ℕ) (seen : List Bool) → Kept bs w f c m → watched P es seen (at (paused o l) d w f c m) ≡ goes bs ks w f c m seen
+
+  -- ---- setting a pin to the level that it has
+
+  stay-s : (b s c d w h z : Bool) (f : Frame) (k : Core) (m : List ℕ) (es : List Event) (seen : List Bool) → T (Bool·beq b s)
+      → watched P (S b ∷ es) seen (mk s c d w h z f k m) ≡ watched P es seen (mk s c d w h z f k m)
+  unfolding watched onS pick
+  stay-s true true c d w h z f k m es seen t = refl
+  stay-s true false c d w h z f k m es seen t = absurd t
+  stay-s false true c d w h z f k m es seen t = absurd t
+  stay-s false false c d w h z f k m es seen t = refl
+
+  stay-c : (b s c d w h z : Bool) (f : Frame) (k : Core) (m : List ℕ) (es : List Event) (seen : List Bool) → T (Bool·beq b c)
+      → watched P (C b ∷ es) seen (mk s c d w h z f k m) ≡ watched P es seen (mk s c d w h z f k m)
+  unfolding watched onC pick
+  stay-c true s true d w h z f k m es seen t = refl
+  stay-c true s false d w h z f k m es seen t = absurd t
+  stay-c false s true d w h z f k m es seen t = absurd t
+  stay-c false s false d w h z f k m es seen t = refl
+
+  stay-w : (b s c d w h z : Bool) (f : Frame) (k : Core) (m : List ℕ) (es : List Event) (seen : List Bool) → T (Bool·beq b w)
+      → watched P (W b ∷ es) seen (mk s c d w h z f k m) ≡ watched P es seen (mk s c d w h z f k m)
+  unfolding watched onW
+  stay-w true s c d true h z f k m es seen t = refl
+  stay-w true s c d false h z f k m es seen t = absurd t
+  stay-w false s c d true h z f k m es seen t = absurd t
+  stay-w false s c d false h z f k m es seen t = refl
+
+  -- HOLD: held follows it, and does so already
+  stay-hold : (p : Phase) (b d w : Bool) (f : Frame) (k : Core) (m : List ℕ) (es : List Event) (seen : List Bool) → T (Bool·beq b (holdOf p))
+      → watched P (Hold b ∷ es) seen (at p d w f k m) ≡ watched P es seen (at p d w f k m)
+  unfolding watched onHold pick
+  stay-hold (between true) true d w f k m es seen t = refl
+  stay-hold (between false) true d w f k m es seen t = refl
+  stay-hold (between l) false d w f k m es seen t = absurd t
+  stay-hold (inside o true) true d w f k m es seen t = refl
+  stay-hold (inside o false) true d w f k m es seen t = refl
+  stay-hold (inside o l) false d w f k m es seen t = absurd t
+  stay-hold (paused o l) true d w f k m es seen t = absurd t
+  stay-hold (paused o true) false d w f k m es seen t = refl
+  stay-hold (paused o false) false d w f k m es seen t = refl
+
+  stay : (p : Phase) (w : Bool) (e : Event) → T (stays p w e) → (d : Bool) (f : Frame) (k : Core) (m : List ℕ) (es : List Event) (seen : List Bool)
+      → watched P (e ∷ es) seen (at p d w f k m) ≡ watched P es seen (at p d w f k m)
+  stay p w (S b) t d f k m es seen = stay-s b (sOf p) (cOf p) d w (holdOf p) (not (holdOf p)) f k m es seen t
+  stay p w (C b) t d f k m es seen = stay-c b (sOf p) (cOf p) d w (holdOf p) (not (holdOf p)) f k m es seen t
+  stay p w (D b) t d f k m es seen = absurd t
+  stay p w (W b) t d f k m es seen = stay-w b (sOf p) (cOf p) d w (holdOf p) (not (holdOf p)) f k m es seen t
+  stay p w (Hold b) t d f k m es seen = stay-hold p b d w f k m es seen t
+  stay p w (Time n) t d f k m es seen = absurd t
+
+  -- ---- a falling edge is nothing to the end of a frame: only a READ moves its address then
+
+  abbrev by : Core → Bool → Instruction → Frame → Core
+  by c w i f =
+      pick (isExecuted (verdict P i (8 * f .taken + f .bits) (on (f .ran)) (on (c .wel)) (on (c .srwd) && not (on (bit w))) (protects P c (f .address)) (on 0)))
+      (effect P i (f .value) (f .address / P .page) (f .latch) c) c
+
+  by-loading : (m : List ℕ) (c : Core) (w : Bool) (i : Instruction) (f : Frame) → by c w i (loading P m c i f) ≡ by c w i f
+  by-loading m c w Wren f = refl
+  by-loading m c w Wrdi f = refl
+  by-loading m c w Rdsr f = refl
+  by-loading m c w Wrsr f = refl
+  by-loading m c w Read f = pick-same _ c ∙ sym (pick-same _ c)
+  by-loading m c w Write f = refl
+  by-loading m c w Silence f = refl
+
+  same-code : (m : List ℕ) (c : Core) (i : Instruction) (f : Frame) → loading P m c i f .code ≡ f .code
+  same-code m c Wren f = refl
+  same-code m c Wrdi f = refl
+  same-code m c Rdsr f = refl
+  same-code m c Wrsr f = refl
+  same-code m c Read f = refl
+  same-code m c Write f = refl
+  same-code m c Silence f = refl
+
+  decides-fall : (m : List ℕ) (c : Core) (w : Bool) (f : Frame) → decides P c w (fallen P m c f) ≡ decides P c w f
+  unfolding decides decidesAt fallen
+  decides-fall m c w f =
+      let i = decode (f .code) in
+      pick-case (λ g. by c w (decode (g .code)) g ≡ by c w i f) (outputs P i (f .taken) (on (f .ran)))
+      (λ e. pick-case (λ g. by c w (decode (g .code)) g ≡ by c w i f) (leb 1 (f .shown) && ltb (f .shown) 8)
+      (λ e. refl)
+      (λ e. ap (λ n. by c w (decode n) (loading P m c i f)) (same-code m c i f) ∙ by-loading m c w i f))
+      (λ e. refl)
+
+  fall-none : (m : List ℕ) (c : Core) → fallen P m c (noFrame P) ≡ noFrame P
+  unfolding fallen decode pick
+  fall-none m c = refl
+
+  -- ---- the drawing
+
+  abbrev pub Frames : Type 0
+  Frames =
+      (w : Bool) (c : Core) (m : List ℕ) (s : List ℕ) (n : ℕ) → Within P c → length m ≡ P .size → Sendable P s n
+      → (seenOf P m c (noFrame P) (bitsOf s n) ≡ bitsOf (framedOutput P c m s n (replicate (length s) 0)) n)
+      × ((decides P c w (endOf P m c (noFrame P) (bitsOf s n)) ≡ framed P c m w s n (length s) .core)
+      × Within P (framed P c m w s n (length s) .core))
+
+  module _ (frames : Frames) where
+    pub says : {p : Phase} {d w : Bool} {bs : List Bool} {ks : List Act} {es : List Event} → Wave P p d w bs ks es → Says p d w bs ks es
+    unfolding watched onS onC onD onW onHold onTime q shows goes shut framesPlayed seenOf endOf decides decidesAt pick
+    says (data′ {p = between l} d′ r) = λ f c m k e. says r f c m k e
+    says (data′ {p = inside o false} d′ r) = λ f c m seen k. says r f c m seen k
+    says (data′ {p = inside o true} d′ r) = λ f c m seen k. says r f c m seen k
+    says (data′ {p = paused o l} d′ r) = λ f c m seen k. says r f c m seen k
+    says (stay′ {p = between l} {d = d} {w = w} {es = es} a t r) = λ f c m k e. stay (between l) w a t d f c m es [] ∙ says r f c m k e
+    says (stay′ {p = inside o false} {d = d} {w = w} {es = es} a t r) = λ f c m seen k. stay (inside o false) w a t d f c m es seen ∙ says r f c m seen k
+    says (stay′ {p = inside o true} {d = d} {w = w} {es = es} a t r) = λ f c m seen k. stay (inside o true) w a t d f c m es seen ∙ says r f c m seen k
+    says (stay′ {p = paused o l} {d = d} {w = w} {es = es} a t r) = λ f c m seen k. stay (paused o l) w a t d f c m es seen ∙ says r f c m seen k
+    says end′ = λ f c m k e. refl
+    says (clock′ {l = false} false r) = λ f c m k e. says r f c m k e
+    says (clock′ {l = false} true r) = λ f c m k e. says r f c m k e
+    says (clock′ {l = true} false r) = λ f c m k e. says r f c m k e
+    says (clock′ {l = true} true r) = λ f c m k e. says r f c m k e
+    says (reading′ t r) = λ f c m k e. says r f (timed P t c) (timedMemory P t c m) (timed-within P t c k) (timed-length P t c m ∙ e)
+    says (protect′ v r) = λ f c m k e. says r f c m k e
+    says (select′ {w = w} {ks = ks} mode0 s n h r) = λ f c m k e.
+        let z = frames w c m s n k e h in
+        says r (noFrame P) c m [] (subst (Within P) (sym (z .1 .0)) (z .1 .1), e) ∙ ap₂ (shut ks w m) (z .0) (z .1 .0)
+    says (select′ {w = w} {ks = ks} mode3 s n h r) = λ f c m k e.
+        let z = frames w c m s n k e h in
+        says r (noFrame P) c m [] (subst (λ g. Kept (bitsOf s n) w g c m) (sym (fall-none m c)) (subst (Within P) (sym (z .1 .0)) (z .1 .1), e))
+        ∙ ap (λ g. goes (bitsOf s n) ks w g c m []) (fall-none m c)
+        ∙ ap₂ (shut ks w m) (z .0) (z .1 .0)
+    says (rise′ {d = d} {w = w} {bs = bs} {ks = ks} r) = λ f c m seen k.
+        says r (risen P (running c) (bit d) f) c m (seen ++ (asOne (shows f) ∷ [])) k
+        ∙ ap (λ b. shut ks w m b (decides P c w (endOf P m c (tick P m c d f) bs))) (append-assoc seen (asOne (shows f) ∷ []) (seenOf P m c (tick P m c d f) bs))
+    says (fall′ r) = λ f c m seen k. says r (fallen P m c f) c m seen k
+    says (deselect′ {m = mode0} {w = w} {ks = ks} r) = λ f c m seen k.
+        ap (λ l. record { bits = seen; memory = m; core = decides P c w f } ∷ l) (says r (noFrame P) (decides P c w f) m (k .0) (k .1))
+        ∙ ap (λ b. shut ks w m b (decides P c w f)) (sym (append-nil seen))
+    says (deselect′ {m = mode3} {w = w} {ks = ks} r) = λ f c m seen k.
+        ap (λ l. record { bits = seen; memory = m; core = decides P c w f } ∷ l)
+        (says r (noFrame P) (decides P c w f) m (subst (Within P) (decides-fall m c w f) (k .0)) (k .1))
+        ∙ ap₂ (shut ks w m) (sym (append-nil seen)) (sym (decides-fall m c w f))
+    says (hold′ r) = λ f c m seen k. says r f c m seen k
+    says (idle′ {l = false} false r) = λ f c m seen k. says r f c m seen k
+    says (idle′ {l = false} true r) = λ f c m seen k. says r f c m seen k
+    says (idle′ {l = true} false r) = λ f c m seen k. says r f c m seen k
+    says (idle′ {l = true} true r) = λ f c m seen k. says r f c m seen k
+    says (resume′ r) = λ f c m seen k. says r f c m seen k

@@ -1,0 +1,94 @@
+-- What a bench sees of each model over a list, and demand 3: it sees the same.
+use Prim.Native.Nat.{ℕ}
+use mathlib.Core.Bool.{Bool, true, false, not, _&&_, cond}
+use mathlib.Core.List.{List, [], _∷_, _++_}
+use mathlib.Core.Path.{_≡_}
+use lib.ListN.{length, replicate}
+use Rattle.laws.specs.Pick.{pick}
+use Rattle.chip.specs.Part.{Part}
+use Rattle.chip.specs.Status.{on}
+use Rattle.chip.specs.Time.{timed, timedMemory}
+use Rattle.chip.specs.declared.Core.{Core}
+use Rattle.frames.specs.Answers.{framed, framedOutput}
+use Rattle.pins.specs.declared.Device.{Device}
+use Rattle.pins.specs.declared.Event.{Event}
+use Rattle.pins.specs.declared.Event.the-variants.{S, C, D, W, Hold, Time}
+use Rattle.pins.specs.declared.Level.{Level}
+use Rattle.pins.specs.declared.Level.the-variants.{Zero, One, Z}
+use Rattle.pins.specs.Devices.{selected, counting}
+use Rattle.pins.specs.Falling.{q}
+use Rattle.pins.specs.Events.{stepped, steppedMemory}
+use Rattle.pins.specs.Ranges.{deviceFits}
+use Rattle.pins.specs.Answers.{Bench}
+use Rattle.agree.specs.Drawings.{Act, send, reading, protect, bitsOf, Wave, between}
+
+-- after each frame: the output bits at its counted clocks, then the memory and the record (status, time left, what waits)
+pub record Report : Type 0 where
+  pub bits : List Bool
+  pub memory : List ℕ
+  pub core : Core
+
+-- ---- the pin model, watched over events
+
+-- an undriven bit reads as 1
+abbrev pub asOne : Level → Bool
+asOne Zero = false
+asOne One = true
+asOne Z = true
+
+-- a counted clock: C rising on a device that counts
+abbrev pub isCounted : Event → Device → Bool
+isCounted (S b) x = false
+isCounted (C b) x = b && not (on (x .pins .c)) && counting x
+isCounted (D b) x = false
+isCounted (W b) x = false
+isCounted (Hold b) x = false
+isCounted (Time t) x = false
+
+-- the end of a frame: S rising on a selected device
+abbrev pub isEnd : Event → Device → Bool
+isEnd (S b) x = b && selected x
+isEnd (C b) x = false
+isEnd (D b) x = false
+isEnd (W b) x = false
+isEnd (Hold b) x = false
+isEnd (Time t) x = false
+
+abbrev pub next : Part → Event → Bench → Bench
+next P e b = record { device = stepped P (b .memory) e (b .device); memory = steppedMemory P e (b .device) (b .memory) }
+
+-- seen: the bits at the counted clocks since the frame began
+unfoldable pub watched : Part → List Event → List Bool → Bench → List Report
+watched P [] seen b = []
+watched P (e ∷ es) seen b =
+    let x = b .device in
+    let y = next P e b in
+    cond (isEnd e x) (record { bits = seen; memory = y .memory; core = y .device .core } ∷ []) []
+    ++ watched P es (cond (isEnd e x) [] (cond (isCounted e x) (seen ++ (asOne (q x) ∷ [])) seen)) y
+
+-- ---- the frame model, played over acts
+
+-- w: the level of Write Protect
+unfoldable pub framesPlayed : Part → List Act → Bool → Core → List ℕ → List Report
+framesPlayed P [] w c m = []
+framesPlayed P (send s n ∷ ks) w c m =
+    let after = framed P c m w s n (length s) .core in
+    record { bits = bitsOf (framedOutput P c m s n (replicate (length s) 0)) n; memory = m; core = after } ∷ framesPlayed P ks w after m
+framesPlayed P (reading t ∷ ks) w c m = framesPlayed P ks w (timed P t c) (timedMemory P t c m)
+framesPlayed P (protect w′ ∷ ks) w c m = framesPlayed P ks w′ c m
+
+-- ---- demand 3
+
+-- inside the ranges, not selected, HOLD high, with its memory
+pub record Unselected (P : Part) (b : Bench) : Type 0 where
+  pub fits : deviceFits P (b .device) ≡ true
+  pub up : b .device .pins .s ≡ 1
+  pub free : b .device .pins .hold ≡ 1
+  pub memory : length (b .memory) ≡ P .size
+
+-- from one unselected device and memory, whatever drawing es of the acts ks: the bench sees the same of both models
+unfoldable pub Agreement : Part → Type 0
+Agreement P =
+    (b : Bench) (ks : List Act) (es : List Event) → Unselected P b
+    → Wave P (between (on (b .device .pins .c))) (on (b .device .pins .d)) (on (b .device .pins .w)) [] ks es
+    → watched P es [] b ≡ framesPlayed P ks (on (b .device .pins .w)) (b .device .core) (b .memory)
