@@ -6,13 +6,15 @@ ghost use Rattle.chip.specs.Refusals.{isDone, number};
 ghost use Rattle.laws.specs.Pick.{pick};
 ghost use Rattle.pins.specs.Answers.{answer, answerMemory, playOutcome, playNumber, played, playedQ};
 use crate::Device;
+use crate::Event;
 use crate::Stepped;
 use crate::events::event_of;
 use crate::falling::level_of;
+use crate::records::bit;
 use chip::Outcome;
 use chip::Refusal;
 
-// The events one after another, and Q after each.
+// The events one after another, and Q after each. A move of D, the most frequent event beside C's, is made in place: the record is not copied for it.
 fn play_all(device: Device, memory: &mut [u8], events: &[u64], out: &mut [u8]) -> Device
     requires { ⌜ length (now out) ≡ length (now events) ⌝ }
     ensures { λ r. ⌜ r ≡ played m95512 (now (events .entry)) (record { device = device; memory = now (memory .entry) }) .device ⌝ }
@@ -22,7 +24,13 @@ fn play_all(device: Device, memory: &mut [u8], events: &[u64], out: &mut [u8]) -
     let mut next = device;
     let mut i: usize = 0;
     while i < events.len() {
-        next = next.stepped(event_of(events[i]), memory);
+        let event = event_of(events[i]);
+        if let Event::D(level) = event {
+            let d = bit(level);
+            next.pins.d = d;
+        } else {
+            next = next.stepped(event, memory);
+        }
         out[i] = level_of(next.pins.s, next.held, next.frame.shown, next.frame.out).number();
         i += 1;
     }
