@@ -1015,11 +1015,15 @@ typedef struct {
 
 static const field core_fields[] = {CORE_FIELD(srwd),       CORE_FIELD(bp1),          CORE_FIELD(bp0),        CORE_FIELD(wel),
                                     CORE_FIELD(cycle),      CORE_FIELD(left),         CORE_FIELD(last),       CORE_FIELD(waits.kind),
-                                    CORE_FIELD(waits.status), CORE_FIELD(waits.page)};
+                                    CORE_FIELD(waits.status), CORE_FIELD(waits.page),
+                                    CORE_FIELD(waits.latch.bytes[0]), CORE_FIELD(waits.latch.bytes[127]),
+                                    CORE_FIELD(waits.latch.marks[0]), CORE_FIELD(waits.latch.marks[127])};
 static const field device_fields[] = {DEVICE_FIELD(pins.s),      DEVICE_FIELD(pins.c),     DEVICE_FIELD(pins.d),      DEVICE_FIELD(pins.w),
                                       DEVICE_FIELD(pins.hold),   DEVICE_FIELD(held),       DEVICE_FIELD(frame.taken), DEVICE_FIELD(frame.bits),
                                       DEVICE_FIELD(frame.part),  DEVICE_FIELD(frame.code), DEVICE_FIELD(frame.ran),   DEVICE_FIELD(frame.value),
-                                      DEVICE_FIELD(frame.out),   DEVICE_FIELD(frame.shown), DEVICE_FIELD(frame.address)};
+                                      DEVICE_FIELD(frame.out),   DEVICE_FIELD(frame.shown), DEVICE_FIELD(frame.address),
+                                      DEVICE_FIELD(frame.latch.bytes[0]), DEVICE_FIELD(frame.latch.bytes[127]),
+                                      DEVICE_FIELD(frame.latch.marks[0]), DEVICE_FIELD(frame.latch.marks[127])};
 
 enum { EDGES = 24 };
 static const uint32_t edges[EDGES] = {0,   1,   2,   3,   4,    5,    6,    7,     8,     9,          16,  127,
@@ -1059,33 +1063,6 @@ static void set_field(void *record, field chosen, uint32_t value)
         *at = (uint8_t)value;
     else
         memcpy(at, &value, 4);
-}
-
-/* each field of a record inside the ranges at each edge, the other fields as they were: is it inside? */
-static void sweep_core(void)
-{
-    cartvesper_core core = random_core(), copy;
-    for (size_t f = 0; f < FIELDS(core_fields); f++)
-        for (size_t e = 0; e < EDGES; e++) {
-            copy = core;
-            set_field(&copy, core_fields[f], edges[e]);
-            begin_call(&copy, NULL, "core_in_ranges");
-            compare_values(cartvesper_core_in_ranges(copy), plain_core_in_ranges_call(copy));
-        }
-    counts.swept += FIELDS(core_fields) * EDGES;
-}
-
-static void sweep_device(void)
-{
-    cartvesper_device device = random_device(), copy;
-    for (size_t f = 0; f < FIELDS(device_fields); f++)
-        for (size_t e = 0; e < EDGES; e++) {
-            copy = device;
-            set_field(&copy, device_fields[f], edges[e]);
-            begin_call(NULL, &copy, "device_in_ranges");
-            compare_values(cartvesper_device_in_ranges(copy), plain_device_in_ranges_call(copy));
-        }
-    counts.swept += FIELDS(device_fields) * EDGES;
 }
 
 static void damage_latch(cartvesper_latch *latch)
@@ -1128,34 +1105,78 @@ static void damage_device(cartvesper_device *device)
 }
 
 /* every call of the frame model on it, with now and then other refusals at once */
+static void try_core_calls(const cartvesper_core *core)
+{
+    cartvesper_core copy;
+    size_t bits, length;
+    try_core_queries(core, percent(50) ? random_address() : random32() >> below(32));
+    length = random_frame(&bits, below(500) == 0);
+    copy = *core;
+    try_frame(&copy, random_size(20), (uint8_t)(percent(10) ? random32() : below(2)), length, off_by_one(bits, 20), off_by_one(length, 20));
+    copy = *core;
+    try_reading(&copy, random_reading(core), random_size(20));
+}
+
+/* every call of the pin model */
+static void try_device_calls(const cartvesper_device *device)
+{
+    cartvesper_device copy;
+    try_device_queries(device);
+    for (int kind = SET_S; kind <= CLOCK; kind++) {
+        copy = *device;
+        try_event(&copy, kind, kind == CLOCK ? random_reading(&device->core) : percent(15) ? random32() : (uint32_t)percent(50), random_size(15));
+    }
+    uint64_t events[4] = {next64(), next64(), next64(), next64()};
+    size_t count = below(4);
+    copy = *device;
+    try_play(&copy, events, count, off_by_one(count, 20), random_size(20));
+}
+
 static void try_damaged_core(void)
 {
-    cartvesper_core core = random_core(), copy;
-    size_t bits, length;
+    cartvesper_core core = random_core();
     damage_core(&core);
     counts.damaged++;
-    try_core_queries(&core, percent(50) ? random_address() : random32() >> below(32));
-    length = random_frame(&bits, below(500) == 0);
-    copy = core;
-    try_frame(&copy, random_size(20), (uint8_t)(percent(10) ? random32() : below(2)), length, off_by_one(bits, 20), off_by_one(length, 20));
-    copy = core;
-    try_reading(&copy, random_reading(&core), random_size(20));
+    try_core_calls(&core);
 }
 
 static void try_damaged_device(void)
 {
-    cartvesper_device device = random_device(), copy;
+    cartvesper_device device = random_device();
     damage_device(&device);
     counts.damaged++;
-    try_device_queries(&device);
-    for (int kind = SET_S; kind <= CLOCK; kind++) {
-        copy = device;
-        try_event(&copy, kind, kind == CLOCK ? random_reading(&device.core) : percent(15) ? random32() : (uint32_t)percent(50), random_size(15));
-    }
-    uint64_t events[4] = {next64(), next64(), next64(), next64()};
-    size_t count = below(4);
-    copy = device;
-    try_play(&copy, events, count, off_by_one(count, 20), random_size(20));
+    try_device_calls(&device);
+}
+
+/* each field of a record inside the ranges at each edge, the other fields as they were */
+static void sweep_core(void)
+{
+    const cartvesper_core core = random_core();
+    for (size_t f = 0; f < FIELDS(core_fields); f++)
+        for (size_t e = 0; e < EDGES; e++) {
+            cartvesper_core copy = core;
+            set_field(&copy, core_fields[f], edges[e]);
+            try_core_calls(&copy);
+        }
+    counts.swept += FIELDS(core_fields) * EDGES;
+}
+
+static void sweep_device(void)
+{
+    const cartvesper_device device = random_device();
+    for (size_t f = 0; f < FIELDS(device_fields); f++)
+        for (size_t e = 0; e < EDGES; e++) {
+            cartvesper_device copy = device;
+            set_field(&copy, device_fields[f], edges[e]);
+            try_device_calls(&copy);
+        }
+    for (size_t f = 0; f < FIELDS(core_fields); f++)
+        for (size_t e = 0; e < EDGES; e++) {
+            cartvesper_device copy = device;
+            set_field(&copy.core, core_fields[f], edges[e]);
+            try_device_calls(&copy);
+        }
+    counts.swept += (FIELDS(device_fields) + FIELDS(core_fields)) * EDGES;
 }
 
 /* ---- the two models against each other, through the library: 01 "Frames" */
@@ -1388,10 +1409,8 @@ static void run_round(void)
         step_unreached();
     for (int i = 0; i < 60; i++)
         step_unreached_core();
-    for (int i = 0; i < 20; i++) {
-        sweep_core();
-        sweep_device();
-    }
+    sweep_core();
+    sweep_device();
     try_power_ups(40);
     cross_session(12);
 }
