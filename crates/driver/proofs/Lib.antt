@@ -1,0 +1,12 @@
+pub mod Playing
+pub mod Frames
+pub mod Ready
+pub mod Waits
+pub mod Joined
+pub mod Parts
+pub mod Seen
+pub mod Runs
+pub mod Drives
+pub mod Outcomes
+pub mod Cases
+pub mod Ones

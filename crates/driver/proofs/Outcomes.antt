@@ -1,0 +1,111 @@
+-- What it says of an input that it is not refused, document 01's number of each answer, and what is handed back.
+use mathlib.Core.Path.{_≡_, refl, ap, sym, _∙_}
+use mathlib.Core.Bool.{Bool, true, _&&_}
+use mathlib.Core.List.{List}
+use Prim.Native.Nat.{ℕ, _+_, _-_, _≤_}
+use native.Mathlib.Decide.{decLe}
+use native.Mathlib.Omega.{arith}
+use lib.Dec.{eqb, leb}
+use lib.ListN.{length}
+use borrow.Author.Tests.{eqb-true, leb-true, le-leb, lt-leb}
+use Rattle.laws.specs.Pick.{pick, pick-ap, pick-cong, at-yes, at-no}
+use Rattle.laws.specs.And.{and-4-out}
+use Rattle.chip.specs.Part.{Part, m95512}
+use Rattle.chip.specs.Ranges.{inRanges}
+use Rattle.chip.specs.Refusals.{refusalNumber}
+use Rattle.chip.specs.declared.Core.{Core}
+use Rattle.chip.specs.declared.Refusal.{Refusal}
+use Rattle.chip.specs.declared.Refusal.the-variants.{MemoryLength, RecordRange, AddressRange, PollRange}
+use Rattle.chip.specs.declared.Outcome.{Outcome}
+use Rattle.chip.specs.declared.Outcome.the-variants as outcome
+use Rattle.frames.proofs.Outcomes.{not-refused}
+use Rattle.frames.specs.Play.{Device, played}
+use Rattle.driver.specs.declared.Sent.{Sent}
+use Rattle.driver.specs.declared.Answer.the-variants.{Refused}
+use Rattle.driver.specs.declared.Driven.{Driven}
+use Rattle.driver.specs.Sequence.{Ending, allDone, timedOut, notTaken, Run, run}
+use Rattle.driver.specs.Answers.{answerNumber, endingAnswer, runAnswer, pollsFit, driveOutcome, endingNumber, driveNumber, answered, driven, drivenMemory}
+
+-- the test that makes no sum
+pub fits-either : (a n m : ℕ) → n ≤ m → leb a (m - n) ≡ leb (a + n) m
+fits-either a n m h = elim (decLe (a + n) m) [
+  | yes f ↦ le-leb a (m - n) (omega arith) ∙ sym (le-leb (a + n) m f)
+  | no f ↦ lt-leb a (m - n) (omega arith) ∙ sym (lt-leb (a + n) m (omega arith))
+]
+
+pub record Taken (c : Core) (size a len interval limit : ℕ) : Type 0 where
+  pub whole : size ≡ 65536
+  pub ranges : inRanges m95512 c ≡ true
+  pub inside : a + len ≤ 65536
+  pub interval-some : 1 ≤ interval
+  pub interval-most : interval ≤ 5000
+  pub limits : (1 ≤ limit) × (limit ≤ 5001)
+
+module _ (c : Core) (size a len interval limit : ℕ) where
+  pub taken : {o : Outcome} → o ≡ driveOutcome m95512 c size a len interval limit → o ≡ outcome.Done → Taken c size a len interval limit
+  taken found done =
+      let memory = not-refused _ _ MemoryLength (sym found ∙ done) in
+      let ranges = not-refused _ _ RecordRange (memory .1) in
+      let address = not-refused _ _ AddressRange (ranges .1) in
+      let polls = not-refused _ _ PollRange (address .1) in
+      let four = and-4-out (leb 1 interval) (leb interval 5000) (leb 1 limit) (leb limit 5001) (polls .0) in
+      record {
+        whole = eqb-true _ _ (memory .0);
+        ranges = ranges .0;
+        inside = leb-true _ _ (address .0);
+        interval-some = leb-true _ _ (four .0);
+        interval-most = leb-true _ _ (four .1 .0);
+        limits = (leb-true _ _ (four .1 .1 .0), leb-true _ _ (four .1 .1 .1));
+      }
+
+-- ---- the numbers
+
+ending-number : (e : Ending) (s : Sent) → answerNumber (endingAnswer e s) ≡ endingNumber e
+ending-number allDone s = refl
+ending-number timedOut s = refl
+ending-number notTaken s = refl
+
+module _ (P : Part) (c : Core) (size a len interval limit : ℕ) (r : Run) where
+  abbrev numbered : Outcome → ℕ
+  numbered o = answerNumber (answered o r)
+
+  pub drive-number : numbered (driveOutcome P c size a len interval limit) ≡ driveNumber P c size a len interval limit (r .ending)
+  drive-number =
+      pick-ap numbered (eqb size (P .size)) _ _
+      ∙ pick-cong (eqb size (P .size)) 1 (λ m. pick-ap numbered (inRanges P c) _ _
+      ∙ pick-cong (inRanges P c) 2 (λ n. pick-ap numbered (leb (a + len) (P .size)) _ _
+      ∙ pick-cong (leb (a + len) (P .size)) 7 (λ f. pick-ap numbered (pollsFit P interval limit) _ _
+      ∙ pick-cong (pollsFit P interval limit) 8 (λ p. ending-number (r .ending) _))))
+
+-- ---- what is handed back and left in the memory: a run that is taken, and one that is refused
+
+module _ (P : Part) (c : Core) (m : List ℕ) (a : ℕ) (bytes : List ℕ) (interval limit : ℕ) where
+  abbrev began : Device
+  began = record { core = c; memory = m }
+
+  abbrev whole : Run
+  whole = run P interval limit a bytes began
+
+  abbrev pub HandsBack : Driven → List ℕ → Type 0
+  HandsBack r m′ =
+      (r ≡ driven P c m a bytes interval limit)
+      × ((answerNumber (r .answer) ≡ driveNumber P c (length m) a (length bytes) interval limit (whole .ending))
+      × (m′ ≡ drivenMemory P c m a bytes interval limit))
+
+  numbers : (o : Outcome) → driveOutcome P c (length m) a (length bytes) interval limit ≡ o
+      → answerNumber (answered o whole) ≡ driveNumber P c (length m) a (length bytes) interval limit (whole .ending)
+  numbers o e = ap (λ (x : Outcome). answerNumber (answered x whole)) (sym e) ∙ drive-number P c (length m) a (length bytes) interval limit whole
+
+  pub drove : (r : Driven) (m′ : List ℕ) {o : Outcome} → o ≡ driveOutcome P c (length m) a (length bytes) interval limit → o ≡ outcome.Done
+      → r ≡ record { answer = runAnswer whole; core = played P (whole .acts) began .core } → m′ ≡ played P (whole .acts) began .memory → HandsBack r m′
+  unfolding driven drivenMemory pick
+  drove r m′ found done p q =
+      let e = sym found ∙ done in
+      rw (p, q) (rw e, (numbers outcome.Done e, rw e))
+
+  pub refused : (n : Refusal) {o : Outcome} → o ≡ driveOutcome P c (length m) a (length bytes) interval limit → o ≡ outcome.Refused n
+      → HandsBack (record { answer = Refused n; core = c }) m
+  unfolding driven drivenMemory pick
+  refused n found refuses =
+      let e = sym found ∙ refuses in
+      (rw e, (numbers (outcome.Refused n) e, rw e))

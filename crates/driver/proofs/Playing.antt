@@ -1,0 +1,17 @@
+-- Acts one after another: what they leave, and how many frames they are.
+use mathlib.Core.Path.{_≡_, refl}
+use mathlib.Core.List.{List, [], _∷_, _++_}
+use Prim.Native.Nat.{ℕ, _+_}
+use native.Mathlib.Omega.{arith}
+use Rattle.chip.specs.Part.{Part}
+use Rattle.frames.specs.Play.{Act, frame, reading, Device, acted, played}
+use Rattle.driver.specs.Sequence.{sent}
+
+pub played-append : (P : Part) (xs ys : List Act) (d : Device) → played P (xs ++ ys) d ≡ played P ys (played P xs d)
+played-append P [] ys d = refl
+played-append P (x ∷ xs) ys d = played-append P xs ys (acted P x d)
+
+pub sent-append : (xs ys : List Act) → sent (xs ++ ys) ≡ sent xs + sent ys
+sent-append [] ys = omega arith
+sent-append (frame w s n ∷ xs) ys = omega (arith, sent-append xs ys)
+sent-append (reading t ∷ xs) ys = sent-append xs ys

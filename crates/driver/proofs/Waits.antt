@@ -1,0 +1,110 @@
+-- A turn of a wait: what is left to do after a poll.
+use mathlib.Core.Path.{_≡_, refl, ap, sym, _∙_}
+use mathlib.Core.Bool.{Bool, true, false, _&&_, true≢false}
+use mathlib.Core.List.{List, [], _++_}
+use Prim.Native.Nat.{ℕ, zero, suc, _+_, _-_, _%_, _<_, _≤_}
+use native.Mathlib.Decide.{decLt}
+use native.Mathlib.Omega.{arith}
+use lib.Bits.{bitAnd, and-mask}
+use lib.Dec.{eqb, ltb}
+use borrow.Author.Tests.{lt-ltb, eqb-true, ltb-true}
+use Rattle.laws.specs.Pick.{at-yes, at-no, pick-case, and-left, and-right}
+use Rattle.laws.specs.And.{and-other}
+use Rattle.chip.specs.Part.{Part}
+use Rattle.chip.specs.Status.{bit}
+use Rattle.chip.specs.Records.{running, status}
+use Rattle.chip.specs.declared.Core.{Core}
+use Rattle.chip.proofs.Cases.{wip}
+use Rattle.frames.specs.Play.{Act, Device, played}
+use Rattle.driver.specs.Sequence.{sent, latePoll, more}
+use Rattle.driver.proofs.Playing.{played-append, sent-append}
+
+module _ (P : Part) (i : ℕ) (d : Device) where
+  -- the device after a poll
+  abbrev polled : Device
+  polled = played P (latePoll i d) d
+
+  more-busy : (k : ℕ) → running (d .core) ≡ true → more P i (suc k) d ≡ latePoll i d ++ more P i k polled
+  unfolding more
+  more-busy k e = at-yes _ _ e
+
+  -- no cycle runs, or no poll is left
+  pub more-free : (k : ℕ) → running (d .core) ≡ false → more P i k d ≡ []
+  unfolding more
+  more-free zero e = refl
+  more-free (suc k) e = at-no _ _ e
+
+  pub more-none : (k : ℕ) → k ≡ 0 → more P i k d ≡ []
+  unfolding more
+  more-none k e = rw e refl
+
+  -- what a poll leaves to be played, and to be counted
+  pub played-busy : (j k : ℕ) → j ≡ suc k → running (d .core) ≡ true → played P (more P i j d) d ≡ played P (more P i k polled) polled
+  played-busy j k e r =
+      ap (λ (n : ℕ). played P (more P i n d) d) e
+      ∙ ap (λ (acts : List Act). played P acts d) (more-busy k r)
+      ∙ played-append P (latePoll i d) (more P i k polled) d
+
+  pub sent-busy : (j k : ℕ) → j ≡ suc k → running (d .core) ≡ true → sent (more P i j d) ≡ 1 + sent (more P i k polled)
+  sent-busy j k e r =
+      ap (λ (n : ℕ). sent (more P i n d)) e ∙ ap sent (more-busy k r) ∙ sent-append (latePoll i d) (more P i k polled)
+
+-- a wait makes at most the polls that are left
+pub sent-most : (P : Part) (i k : ℕ) (d : Device) → sent (more P i k d) ≤ k
+unfolding more
+sent-most P i zero d = omega arith
+sent-most P i (suc k) d =
+    pick-case (λ (acts : List Act). sent acts ≤ suc k) (running (d .core))
+    (λ r. let rest = sent-most P i k (played P (latePoll i d) d) in omega (arith, sent-append (latePoll i d) (more P i k (played P (latePoll i d) d))))
+    (λ r. omega arith)
+
+-- ---- the loop that waits: n polls made of those that were left at the start
+
+-- WIP in the status byte that a poll sees
+seen : (s : ℕ) (c : Core) → s ≡ status c → bitAnd s 1 ≡ bit (running c)
+seen s c e = and-mask s 1 ∙ ap (λ (v : ℕ). v % 2) e ∙ wip c
+
+one-so : (b : Bool) → bit b ≡ 1 → b ≡ true
+one-so true e = refl
+one-so false e = absurd (omega arith)
+
+other-so : (b : Bool) → eqb (bit b) 1 ≡ false → b ≡ false
+other-so true e = absurd (true≢false e)
+other-so false e = refl
+
+-- it goes on where a poll is left and WIP is 1 ..
+pub goes-on : (n left s : ℕ) (c : Core) → s ≡ status c → (ltb n left && eqb (bitAnd s 1) 1) ≡ true → (n < left) × (running c ≡ true)
+goes-on n left s c e t =
+    (ltb-true n left (and-left (ltb n left) (eqb (bitAnd s 1) 1) t), one-so (running c) (sym (seen s c e) ∙ eqb-true (bitAnd s 1) 1 (and-right (ltb n left) (eqb (bitAnd s 1) 1) t)))
+
+-- .. and else nothing is left to do
+pub is-over : (P : Part) (i n left s : ℕ) (d : Device) → s ≡ status (d .core) → (ltb n left && eqb (bitAnd s 1) 1) ≡ false → more P i (left - n) d ≡ []
+is-over P i n left s d e t = elim (decLt n left) [
+  | yes h ↦
+      more-free P i d (left - n)
+      (other-so (running (d .core)) (sym (ap (λ (v : ℕ). eqb v 1) (seen s (d .core) e)) ∙ and-other (ltb n left) (eqb (bitAnd s 1) 1) t (lt-ltb n left h)))
+  | no h ↦ more-none P i d (left - n) (omega arith)
+]
+
+-- what is left to do is what there was to do from d₀ on
+pub record Onward (P : Part) (i left : ℕ) (d₀ : Device) (n : ℕ) (d : Device) : Type 0 where
+  pub leaves : played P (more P i (left - n) d) d ≡ played P (more P i left d₀) d₀
+  pub counts : n + sent (more P i (left - n) d) ≡ sent (more P i left d₀)
+
+module _ (P : Part) (i left : ℕ) (d₀ : Device) where
+  pub onward-first : Onward P i left d₀ 0 d₀
+  onward-first =
+      let all : left - 0 ≡ left = omega arith in
+      record { leaves = ap (λ (k : ℕ). played P (more P i k d₀) d₀) all; counts = rw all (omega arith) }
+
+  pub onward-next : (n : ℕ) (d d′ : Device) → d′ ≡ played P (latePoll i d) d → n < left → running (d .core) ≡ true → Onward P i left d₀ n d → Onward P i left d₀ (n + 1) d′
+  onward-next n d d′ e h r o =
+      let one : left - n ≡ suc (left - (n + 1)) = omega arith in
+      record {
+        leaves = rw e (sym (played-busy P i d (left - n) (left - (n + 1)) one r) ∙ o .leaves);
+        counts = rw e (omega (arith, sent-busy P i d (left - n) (left - (n + 1)) one r, o .counts));
+      }
+
+  pub onward-last : (n : ℕ) (d : Device) → more P i (left - n) d ≡ [] → Onward P i left d₀ n d → (d ≡ played P (more P i left d₀) d₀) × (n ≡ sent (more P i left d₀))
+  onward-last n d e o =
+      (sym (ap (λ (acts : List Act). played P acts d) e) ∙ o .leaves, omega (arith, ap sent e, o .counts))

@@ -1,0 +1,92 @@
+use mathlib.Core.Path.{ap, sym, _∙_}
+use native.Mathlib.Omega.{arith}
+use lib.ListN.{length}
+use Rattle.chip.specs.Part.{m95512}
+use Rattle.chip.specs.Ranges.{inRanges}
+use Rattle.frames.specs.Play.{Device}
+use Rattle.driver.specs.Sequence.{firstWait}
+use Rattle.driver.proofs.Ready.{device-of, ready-played}
+use Rattle.driver.proofs.Joined.{first-most}
+use Rattle.driver.proofs.Seen.{seen-wip}
+use Rattle.driver.proofs.Drives.{rested, drove-none, drove-late, drove-parts}
+use borrow.Author.Needs.{needs}
+use Rattle.driver.proofs.drive.Statement.{statement}
+use Rattle.driver.proofs.drive.Tie as tie
+use Rattle.driver.proofs.drive.Reads as reads
+use Rattle.driver.proofs.drive.Lts as lts
+use Rattle.driver.proofs.pages.wip.Reads as wip-reads
+use Rattle.driver.proofs.pages.write_parts.Reads as write-parts-reads
+use Rattle.driver.proofs.waiting.first_wait.Reads as first-wait-reads
+
+-- src/lib.rt:51:9
+returns : tie.Need-returns
+returns c =
+    let start = c .before .before .before in
+    let a = start .args in
+    let d : Device = record { core = a .core; memory = a .memory .now } in
+    drove-none m95512 (a .interval) (a .limit) (a .address) (a .bytes .now) d (c .if1 .taken)
+
+-- src/lib.rt:56:9
+first-wait-requires : tie.Need-first-wait-requires
+first-wait-requires c κs = search needs
+
+-- src/lib.rt:59:8
+wip-requires : tie.Need-wip-requires
+wip-requires c κs = search needs
+
+-- src/lib.rt:60:9
+same-length : tie.Need-same-length
+same-length c = search needs
+
+-- src/lib.rt:60:9
+returns-2 : tie.Need-returns-2
+returns-2 c =
+    let start = c .before .before .before .before .before .before .before .before .before .before in
+    let a = start .args in
+    let d : Device = record { core = a .core; memory = a .memory .now } in
+    let wait = c .before .before .before .before .before .first-wait in
+    let y : Device = record { core = wait .result .core; memory = wait .last .1 .0 } in
+    let e = device-of (rested m95512 (a .interval) (a .limit) (a .address) (a .bytes .now) d) (wait .ensures .0) (wait .ensures .1 .1 .1) in
+    drove-late m95512 (a .interval) (a .limit) (a .address) (a .bytes .now) d (wait .result .frames) y (c .before .before .before .before .before .before .before .if1 .left) e (wait .ensures .1 .1 .0)
+    (sym (seen-wip (wait .result .status) (y .core) (wait .ensures .1 .0)) ∙ sym (c .before .wip .ensures) ∙ c .if2 .taken)
+
+-- src/lib.rt:65:5
+write-parts-requires : tie.Need-write-parts-requires
+write-parts-requires c κs =
+    let start = c .before .before .before .before .before .before .before .before .before .before .before in
+    let a = start .args in
+    let d : Device = record { core = a .core; memory = a .memory .now } in
+    let wait = c .before .before .before .before .before .before .first-wait in
+    let ready = ready-played (firstWait m95512 (a .interval) (a .limit) d) d (record { whole = start .pre .0; ranges = start .pre .1 .0 }) in
+    let most = first-most m95512 (a .interval) (a .limit) d (start .pre .1 .1 .0) in
+    (ap length (wait .ensures .1 .1 .1) ∙ ready .whole, (ap (inRanges m95512) (wait .ensures .0) ∙ ready .ranges, (start .pre .1 .1, omega (arith, wait .ensures .1 .1 .0))))
+
+-- src/lib.rt:43:1
+same-length-2 : tie.Need-same-length-2
+same-length-2 c = search needs
+
+-- src/lib.rt:43:1
+returns-3 : tie.Need-returns-3
+returns-3 c =
+    let start = c .before .before .before .before .before .before .before .before .before .before .before .before .before .before in
+    let a = start .args in
+    let d : Device = record { core = a .core; memory = a .memory .now } in
+    let wait = c .before .before .before .before .before .before .before .before .before .first-wait in
+    let parts = c .before .before .write-parts in
+    let y : Device = record { core = wait .result .core; memory = wait .last .1 .0 } in
+    let e = device-of (rested m95512 (a .interval) (a .limit) (a .address) (a .bytes .now) d) (wait .ensures .0) (wait .ensures .1 .1 .1) in
+    drove-parts m95512 (a .interval) (a .limit) (a .address) (a .bytes .now) d (parts .result) (parts .last .1 .0) (wait .result .frames) y (c .before .before .before .before .before .before .before .before .before .before .before .if1 .left) e (wait .ensures .1 .1 .0)
+    (sym (seen-wip (wait .result .status) (y .core) (wait .ensures .1 .0)) ∙ sym (c .before .before .before .before .before .wip .ensures) ∙ c .before .before .before .before .if2 .left) (parts .ensures .0) (parts .ensures .1)
+
+pub drive-spec : {M : Type 1} → statement M
+drive-spec =
+    tie.close
+    (tie.spec
+    returns
+    first-wait-requires
+    wip-requires
+    same-length
+    returns-2
+    write-parts-requires
+    same-length-2
+    returns-3)

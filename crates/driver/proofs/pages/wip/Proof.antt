@@ -1,0 +1,14 @@
+use mathlib.Core.Path.{ap}
+use Rattle.chip.specs.Status.{on}
+use Rattle.driver.proofs.Seen.{low-bit}
+use Rattle.driver.proofs.pages.wip.Statement.{statement}
+use Rattle.driver.proofs.pages.wip.Tie as tie
+use Rattle.driver.proofs.pages.wip.Reads as reads
+use Rattle.driver.proofs.pages.wip.Lts as lts
+
+-- src/pages.rt:65:1
+returns : tie.Need-returns
+returns c = ap on (low-bit (c .args .status))
+
+pub wip-spec : {M : Type 1} → statement M
+wip-spec = tie.close (tie.spec returns)

@@ -1,0 +1,113 @@
+use mathlib.Core.Path.{refl, subst}
+use mathlib.Core.List.{List}
+use Prim.Native.Nat.{ℕ, _+_, _-_}
+use native.Mathlib.Omega.{arith}
+use lib.ListN.{length-take, length-drop}
+use Rattle.chip.specs.Part.{m95512}
+use Rattle.split.specs.Pieces.{piece}
+use Rattle.frames.specs.Play.{Device}
+use Rattle.driver.specs.Sequence.{pageActs}
+use Rattle.driver.proofs.Joined.{Told}
+use Rattle.driver.proofs.Parts.{lies, part-bytes}
+use borrow.Author.Needs.{needs}
+use Rattle.driver.proofs.pages.write_part.Statement.{statement}
+use Rattle.driver.proofs.pages.write_part.Tie as tie
+use Rattle.driver.proofs.pages.write_part.Reads as reads
+use Rattle.driver.proofs.pages.write_part.Lts as lts
+use Rattle.driver.proofs.pages.write_page.Reads as write-page-reads
+use Rattle.split.proofs.cartvesper_split_address.Reads as cartvesper-split-address-reads
+use Rattle.split.proofs.cartvesper_split_length.Reads as cartvesper-split-length-reads
+
+-- src/pages.rt:57:9
+cartvesper-split-address-requires : tie.Need-cartvesper-split-address-requires
+cartvesper-split-address-requires c κs = search needs
+
+-- src/pages.rt:58:17
+sub-from : tie.Need-sub-from
+sub-from c =
+    let start = c .before .before .before in
+    let a = start .args in
+    let at = c .cartvesper-split-address in
+    let l = lies (a .address) (a .bytes .now) (a .k) (at .result) _ (start .pre .1 .1 .1) (at .ensures) refl in
+    l .from
+
+-- src/pages.rt:59:22
+cartvesper-split-length-requires : tie.Need-cartvesper-split-length-requires
+cartvesper-split-length-requires c κs = search needs
+
+-- src/pages.rt:59:15
+add-end : tie.Need-add-end
+add-end c =
+    let start = c .before .before .before .before in
+    let a = start .args in
+    let at = c .before .cartvesper-split-address in
+    let long = c .cartvesper-split-length in
+    let l = lies (a .address) (a .bytes .now) (a .k) (at .result) (long .result) (start .pre .1 .1 .1) (at .ensures) (long .ensures) in
+    let to = l .to in
+    let inside = l .inside in
+    omega arith
+
+-- src/pages.rt:60:46
+sub-write-page : tie.Need-sub-write-page
+sub-write-page c = search needs
+
+-- src/pages.rt:60:46
+part-write-page-start : tie.Need-part-write-page-start
+part-write-page-start c = search needs
+
+-- src/pages.rt:60:46
+part-write-page-end : tie.Need-part-write-page-end
+part-write-page-end c =
+    let start = c .before .before .before .before .before in
+    let a = start .args in
+    let at = c .before .before .cartvesper-split-address in
+    let long = c .before .cartvesper-split-length in
+    let l = lies (a .address) (a .bytes .now) (a .k) (at .result) (long .result) (start .pre .1 .1 .1) (at .ensures) (long .ensures) in
+    let from = l .from in
+    let to = l .to in
+    omega arith
+
+-- src/pages.rt:60:5
+write-page-requires : tie.Need-write-page-requires
+write-page-requires c κs =
+    let start = c .before .before .before .before .before .before in
+    let a = start .args in
+    let at = c .before .before .before .cartvesper-split-address in
+    let long = c .before .before .cartvesper-split-length in
+    let l = lies (a .address) (a .bytes .now) (a .k) (at .result) (long .result) (start .pre .1 .1 .1) (at .ensures) (long .ensures) in
+    let from = l .from in
+    let to = l .to in
+    let page = l .page in
+    (start .pre .0, (start .pre .1 .0, (l .memory, (simp (length-take, length-drop) (omega arith), start .pre .1 .1 .0))))
+
+-- src/pages.rt:46:1
+same-length : tie.Need-same-length
+same-length c = search needs
+
+-- src/pages.rt:46:1
+returns : tie.Need-returns
+returns c =
+    let start = c .before .before .before .before .before .before .before .before .before in
+    let a = start .args in
+    let at = c .before .before .before .before .before .before .cartvesper-split-address in
+    let long = c .before .before .before .before .before .cartvesper-split-length in
+    let page = c .before .before .write-page in
+    let d : Device = record { core = a .core; memory = a .memory .now } in
+    let bytes = part-bytes (a .address) (a .bytes .now) (a .k) (at .result) (long .result) (start .pre .1 .1 .1) (at .ensures) (long .ensures) (at .result - a .address + long .result - (at .result - a .address)) (omega arith) in
+    subst (λ (s : ℕ). Told m95512 (pageActs m95512 (a .interval) (a .limit) s (piece 65536 128 (a .address) (a .bytes .now) (a .k)) d) d (page .result) (page .last .1 .0)) (at .ensures)
+    (subst (λ (l : List ℕ). Told m95512 (pageActs m95512 (a .interval) (a .limit) (at .result) l d) d (page .result) (page .last .1 .0)) bytes (page .ensures))
+
+pub write-part-spec : {M : Type 1} → statement M
+write-part-spec =
+    tie.close
+    (tie.spec
+    cartvesper-split-address-requires
+    sub-from
+    cartvesper-split-length-requires
+    add-end
+    sub-write-page
+    part-write-page-start
+    part-write-page-end
+    write-page-requires
+    same-length
+    returns)

@@ -1,0 +1,278 @@
+use mathlib.Core.Path.{_≡_, refl, sym, subst, _∙_}
+use Prim.Native.Nat.{ℕ, _+_, _-_, _*_, _<_, _≤_}
+use native.Mathlib.Omega.{arith}
+use lib.ListN.{length}
+use Rattle.chip.specs.Part.{m95512}
+use Rattle.split.specs.Split.{count, splitAddress}
+use Rattle.split.specs.Pieces.{piece}
+use Rattle.split.proofs.Numbers.{parts-asked}
+use Rattle.frames.specs.Play.{Device, acted}
+use Rattle.driver.specs.Sequence.{wrdi}
+use Rattle.driver.proofs.Ready.{Ready, device-of, ready-played}
+use Rattle.driver.proofs.Joined.{acts-most}
+use Rattle.driver.proofs.Seen.{seen-wip, seen-wel}
+use Rattle.driver.proofs.Runs.{partActs, afterPart, Rest, ended-of, rest-first, rest-next, rest-late, rest-untaken, rest-done, parts-few}
+use Rattle.driver.proofs.pages.write_parts.Statement.{statement}
+use Rattle.driver.proofs.pages.write_parts.Tie as tie
+use Rattle.driver.proofs.pages.write_parts.Reads as reads
+use Rattle.driver.proofs.pages.write_parts.Lts as lts
+use Rattle.driver.proofs.pages.wel.Reads as wel-reads
+use Rattle.driver.proofs.pages.wip.Reads as wip-reads
+use Rattle.driver.proofs.pages.write_part.Reads as write-part-reads
+use Rattle.driver.proofs.sending.send.Reads as send-reads
+use Rattle.split.proofs.cartvesper_split_parts.Reads as cartvesper-split-parts-reads
+
+abbrev Inv-loop : tie.InvT-loop
+Inv-loop memory₀ address bytes interval limit sent parts next₀ frames₀ k₀ memory next frames k =
+    (k ≤ parts)
+    × ((frames ≤ 5001 + 5003 * k)
+    × ((parts ≡ count 65536 128 address (length bytes))
+    × (Ready (record { core = next; memory = memory })
+    × Rest m95512 interval limit address bytes parts sent (record { core = next₀; memory = memory₀ }) k frames (record { core = next; memory = memory }))))
+
+abbrev μ-loop : tie.MeasureT-loop
+μ-loop memory₀ address bytes interval limit sent parts next₀ frames₀ k₀ memory next frames k = parts - k
+
+-- src/pages.rt:86:9
+cartvesper-split-parts-requires : tie.Need-cartvesper-split-parts-requires Inv-loop μ-loop
+cartvesper-split-parts-requires c κs = tt
+
+-- src/pages.rt:90:5
+loop-holds : tie.Need-loop-holds Inv-loop μ-loop
+loop-holds c =
+    let start = c .before .before .before in
+    let parts = c .cartvesper-split-parts .ensures ∙ parts-asked 65536 128 (start .args .address) (length (start .args .bytes .now)) in
+    (omega arith, (omega arith, (parts, (record { whole = start .pre .0; ranges = start .pre .1 .0 }, rest-first m95512 _ _ _ _ _ _ _))))
+
+-- src/pages.rt:91:13
+write-part-requires : tie.Need-write-part-requires Inv-loop μ-loop
+write-part-requires c κs =
+    let start = c .before .before .before .before .before .before in
+    let a = start .args in
+    let l = c .before .before .loop in
+    let ready = l .inv .1 .1 .1 .0 in
+    (ready .whole, (ready .ranges, (start .pre .1 .1 .0, subst (λ (n : ℕ). l .k < n) (l .inv .1 .1 .0) (c .before .loop-test .taken))))
+
+-- src/pages.rt:93:9
+add-frames : tie.Need-add-frames Inv-loop μ-loop
+add-frames c =
+    let start = c .before .before .before .before .before .before .before .before .before .before .before in
+    let a = start .args in
+    let l = c .before .before .before .before .before .before .before .loop in
+    let part = c .before .before .before .before .write-part in
+    let d : Device = record { core = l .next; memory = l .memory } in
+    let x : Device = record { core = part .result .core; memory = part .last .1 .0 } in
+    let e = device-of (afterPart m95512 (a .interval) (a .limit) (a .address) (a .bytes .now) (l .k) d) (part .ensures .0) (part .ensures .1 .1 .1) in
+    let most = acts-most m95512 (a .interval) (a .limit) (splitAddress 65536 128 (a .address) (length (a .bytes .now)) (l .k)) (piece 65536 128 (a .address) (a .bytes .now) (l .k)) d (start .pre .1 .1 .0 .0) in
+    let few = parts-few (a .address) (length (a .bytes .now)) in
+    let all = l .inv .1 .1 .0 in
+    let below = c .before .before .before .before .before .before .loop-test .taken in
+    let counts = part .ensures .1 .1 .0 in
+    omega (arith, l .inv .1 .0)
+
+-- src/pages.rt:94:12
+wip-requires : tie.Need-wip-requires Inv-loop μ-loop
+wip-requires c κs = tt
+
+-- src/pages.rt:96:56
+cast-t20 : tie.Need-cast-t20 Inv-loop μ-loop
+cast-t20 c =
+    let start = c .before .before .before .before .before .before .before .before .before .before .before .before .before in
+    let a = start .args in
+    let l = c .before .before .before .before .before .before .before .before .before .loop in
+    let few = parts-few (a .address) (length (a .bytes .now)) in
+    let all = l .inv .1 .1 .0 in
+    omega (arith, l .inv .0)
+
+-- src/pages.rt:95:13
+same-length : tie.Need-same-length Inv-loop μ-loop
+same-length c =
+    let start = c .before .before .before .before .before .before .before .before .before .before .before .before .before in
+    let a = start .args in
+    let l = c .before .before .before .before .before .before .before .before .before .loop in
+    let part = c .before .before .before .before .before .before .write-part in
+    let d : Device = record { core = l .next; memory = l .memory } in
+    let x : Device = record { core = part .result .core; memory = part .last .1 .0 } in
+    let e = device-of (afterPart m95512 (a .interval) (a .limit) (a .address) (a .bytes .now) (l .k) d) (part .ensures .0) (part .ensures .1 .1 .1) in
+    let ready : Ready x = subst Ready (sym e) (ready-played (partActs m95512 (a .interval) (a .limit) (a .address) (a .bytes .now) (l .k) d) d (l .inv .1 .1 .1 .0)) in
+    ready .whole ∙ sym (start .pre .0)
+
+-- src/pages.rt:95:13
+returns : tie.Need-returns Inv-loop μ-loop
+returns c =
+    let start = c .before .before .before .before .before .before .before .before .before .before .before .before .before in
+    let a = start .args in
+    let l = c .before .before .before .before .before .before .before .before .before .loop in
+    let part = c .before .before .before .before .before .before .write-part in
+    let d : Device = record { core = l .next; memory = l .memory } in
+    let x : Device = record { core = part .result .core; memory = part .last .1 .0 } in
+    let e = device-of (afterPart m95512 (a .interval) (a .limit) (a .address) (a .bytes .now) (l .k) d) (part .ensures .0) (part .ensures .1 .1 .1) in
+    ended-of m95512 (a .interval) (a .limit) (a .address) (a .bytes .now) (c .before .before .before .before .before .before .before .before .before .before .cartvesper-split-parts .result) _ (a .sent) (record { core = a .core; memory = a .memory .now }) (l .inv .1 .1 .0)
+    (rest-late m95512 (a .interval) (a .limit) (a .address) (a .bytes .now) (c .before .before .before .before .before .before .before .before .before .before .cartvesper-split-parts .result) (a .sent) _ (l .k) (l .frames) (part .result .frames) d x (c .before .before .before .before .before .before .before .before .loop-test .taken) e (part .ensures .1 .1 .0) (sym (seen-wip (part .result .status) (x .core) (part .ensures .1 .0)) ∙ sym (c .before .wip .ensures) ∙ c .if1 .taken) (l .inv .1 .1 .1 .1))
+
+-- src/pages.rt:100:12
+wel-requires : tie.Need-wel-requires Inv-loop μ-loop
+wel-requires c κs = tt
+
+-- src/pages.rt:103:56
+cast-t24 : tie.Need-cast-t24 Inv-loop μ-loop
+cast-t24 c =
+    let start = c .before .before .before .before .before .before .before .before .before .before .before .before .before .before .before in
+    let a = start .args in
+    let l = c .before .before .before .before .before .before .before .before .before .before .before .loop in
+    let few = parts-few (a .address) (length (a .bytes .now)) in
+    let all = l .inv .1 .1 .0 in
+    omega (arith, l .inv .0)
+
+-- src/pages.rt:103:74
+add-t25 : tie.Need-add-t25 Inv-loop μ-loop
+add-t25 c =
+    let start = c .before .before .before .before .before .before .before .before .before .before .before .before .before .before .before in
+    let a = start .args in
+    let l = c .before .before .before .before .before .before .before .before .before .before .before .loop in
+    let part = c .before .before .before .before .before .before .before .before .write-part in
+    let d : Device = record { core = l .next; memory = l .memory } in
+    let x : Device = record { core = part .result .core; memory = part .last .1 .0 } in
+    let e = device-of (afterPart m95512 (a .interval) (a .limit) (a .address) (a .bytes .now) (l .k) d) (part .ensures .0) (part .ensures .1 .1 .1) in
+    let most = acts-most m95512 (a .interval) (a .limit) (splitAddress 65536 128 (a .address) (length (a .bytes .now)) (l .k)) (piece 65536 128 (a .address) (a .bytes .now) (l .k)) d (start .pre .1 .1 .0 .0) in
+    let few = parts-few (a .address) (length (a .bytes .now)) in
+    let all = l .inv .1 .1 .0 in
+    let below = c .before .before .before .before .before .before .before .before .before .before .loop-test .taken in
+    let counts = part .ensures .1 .1 .0 in
+    omega (arith, l .inv .1 .0)
+
+-- src/pages.rt:104:42
+slice-aggregate-send : tie.Need-slice-aggregate-send Inv-loop μ-loop
+slice-aggregate-send c = refl
+
+-- src/pages.rt:104:23
+send-requires : tie.Need-send-requires Inv-loop μ-loop
+send-requires c κs =
+    let start = c .before .before .before .before .before .before .before .before .before .before .before .before .before .before .before .before .before in
+    let a = start .args in
+    let l = c .before .before .before .before .before .before .before .before .before .before .before .before .before .loop in
+    let part = c .before .before .before .before .before .before .before .before .before .before .write-part in
+    let d : Device = record { core = l .next; memory = l .memory } in
+    let x : Device = record { core = part .result .core; memory = part .last .1 .0 } in
+    let e = device-of (afterPart m95512 (a .interval) (a .limit) (a .address) (a .bytes .now) (l .k) d) (part .ensures .0) (part .ensures .1 .1 .1) in
+    let ready : Ready x = subst Ready (sym e) (ready-played (partActs m95512 (a .interval) (a .limit) (a .address) (a .bytes .now) (l .k) d) d (l .inv .1 .1 .1 .0)) in
+    (ready .whole, (ready .ranges, omega arith))
+
+-- src/pages.rt:102:13
+same-length-2 : tie.Need-same-length-2 Inv-loop μ-loop
+same-length-2 c =
+    let start = c .before .before .before .before .before .before .before .before .before .before .before .before .before .before .before .before .before .before in
+    let a = start .args in
+    let l = c .before .before .before .before .before .before .before .before .before .before .before .before .before .before .loop in
+    let part = c .before .before .before .before .before .before .before .before .before .before .before .write-part in
+    let d : Device = record { core = l .next; memory = l .memory } in
+    let x : Device = record { core = part .result .core; memory = part .last .1 .0 } in
+    let e = device-of (afterPart m95512 (a .interval) (a .limit) (a .address) (a .bytes .now) (l .k) d) (part .ensures .0) (part .ensures .1 .1 .1) in
+    let ready : Ready x = subst Ready (sym e) (ready-played (partActs m95512 (a .interval) (a .limit) (a .address) (a .bytes .now) (l .k) d) d (l .inv .1 .1 .1 .0)) in
+    ready .whole ∙ sym (start .pre .0)
+
+-- src/pages.rt:102:13
+returns-2 : tie.Need-returns-2 Inv-loop μ-loop
+returns-2 c =
+    let start = c .before .before .before .before .before .before .before .before .before .before .before .before .before .before .before .before .before .before in
+    let a = start .args in
+    let l = c .before .before .before .before .before .before .before .before .before .before .before .before .before .before .loop in
+    let part = c .before .before .before .before .before .before .before .before .before .before .before .write-part in
+    let d : Device = record { core = l .next; memory = l .memory } in
+    let x : Device = record { core = part .result .core; memory = part .last .1 .0 } in
+    let e = device-of (afterPart m95512 (a .interval) (a .limit) (a .address) (a .bytes .now) (l .k) d) (part .ensures .0) (part .ensures .1 .1 .1) in
+    let y : Device = record { core = c .send .result; memory = part .last .1 .0 } in
+    ended-of m95512 (a .interval) (a .limit) (a .address) (a .bytes .now) (c .before .before .before .before .before .before .before .before .before .before .before .before .before .before .before .cartvesper-split-parts .result) _ (a .sent) (record { core = a .core; memory = a .memory .now }) (l .inv .1 .1 .0)
+    (rest-untaken m95512 (a .interval) (a .limit) (a .address) (a .bytes .now) (c .before .before .before .before .before .before .before .before .before .before .before .before .before .before .before .cartvesper-split-parts .result) (a .sent) _ (l .k) (l .frames) (part .result .frames) d x y (c .before .before .before .before .before .before .before .before .before .before .before .before .before .loop-test .taken) e (part .ensures .1 .1 .0) (sym (seen-wip (part .result .status) (x .core) (part .ensures .1 .0)) ∙ sym (c .before .before .before .before .before .before .wip .ensures) ∙ c .before .before .before .before .before .if1 .left) (sym (seen-wel (part .result .status) (x .core) (part .ensures .1 .0)) ∙ sym (c .before .before .before .before .wel .ensures) ∙ c .before .before .before .if2 .taken) (device-of (acted m95512 wrdi x) (c .send .ensures) refl) (l .inv .1 .1 .1 .1))
+
+-- src/pages.rt:107:9
+add-k : tie.Need-add-k Inv-loop μ-loop
+add-k c =
+    let start = c .before .before .before .before .before .before .before .before .before .before .before .before .before .before .before in
+    let a = start .args in
+    let l = c .before .before .before .before .before .before .before .before .before .before .before .loop in
+    let few = parts-few (a .address) (length (a .bytes .now)) in
+    let all = l .inv .1 .1 .0 in
+    let below = c .before .before .before .before .before .before .before .before .before .before .loop-test .taken in
+    omega arith
+
+-- src/pages.rt:90:5
+loop-less : tie.Need-loop-less Inv-loop μ-loop
+loop-less c =
+    let start = c .before .before .before .before .before .before .before .before .before .before .before .before .before .before .before in
+    let a = start .args in
+    let l = c .before .before .before .before .before .before .before .before .before .before .before .loop in
+    let below = c .before .before .before .before .before .before .before .before .before .before .loop-test .taken in
+    omega arith
+
+-- src/pages.rt:90:5
+loop-again : tie.Need-loop-again Inv-loop μ-loop
+loop-again c =
+    let start = c .before .before .before .before .before .before .before .before .before .before .before .before .before .before .before in
+    let a = start .args in
+    let l = c .before .before .before .before .before .before .before .before .before .before .before .loop in
+    let part = c .before .before .before .before .before .before .before .before .write-part in
+    let d : Device = record { core = l .next; memory = l .memory } in
+    let x : Device = record { core = part .result .core; memory = part .last .1 .0 } in
+    let e = device-of (afterPart m95512 (a .interval) (a .limit) (a .address) (a .bytes .now) (l .k) d) (part .ensures .0) (part .ensures .1 .1 .1) in
+    let most = acts-most m95512 (a .interval) (a .limit) (splitAddress 65536 128 (a .address) (length (a .bytes .now)) (l .k)) (piece 65536 128 (a .address) (a .bytes .now) (l .k)) d (start .pre .1 .1 .0 .0) in
+    let ready : Ready x = subst Ready (sym e) (ready-played (partActs m95512 (a .interval) (a .limit) (a .address) (a .bytes .now) (l .k) d) d (l .inv .1 .1 .1 .0)) in
+    let below = c .before .before .before .before .before .before .before .before .before .before .loop-test .taken in
+    let counts = part .ensures .1 .1 .0 in
+    (omega arith, (omega (arith, l .inv .1 .0), (l .inv .1 .1 .0, (ready, rest-next m95512 (a .interval) (a .limit) (a .address) (a .bytes .now) (c .before .before .before .before .before .before .before .before .before .before .before .before .cartvesper-split-parts .result) (a .sent) _ (l .k) (l .frames) (part .result .frames) d x below e counts (sym (seen-wip (part .result .status) (x .core) (part .ensures .1 .0)) ∙ sym (c .before .before .before .wip .ensures) ∙ c .before .before .if1 .left) (sym (seen-wel (part .result .status) (x .core) (part .ensures .1 .0)) ∙ sym (c .before .wel .ensures) ∙ c .if2 .left) (l .inv .1 .1 .1 .1)))))
+
+-- src/pages.rt:110:44
+cast-t33 : tie.Need-cast-t33 Inv-loop μ-loop
+cast-t33 c =
+    let start = c .before .before .before .before .before in
+    let a = start .args in
+    let l = c .before .loop in
+    let few = parts-few (a .address) (length (a .bytes .now)) in
+    let all = l .inv .1 .1 .0 in
+    omega (arith, l .inv .0)
+
+-- src/pages.rt:78:1
+same-length-3 : tie.Need-same-length-3 Inv-loop μ-loop
+same-length-3 c =
+    let start = c .before .before .before .before .before in
+    let a = start .args in
+    let l = c .before .loop in
+    l .inv .1 .1 .1 .0 .whole ∙ sym (start .pre .0)
+
+-- src/pages.rt:78:1
+returns-3 : tie.Need-returns-3 Inv-loop μ-loop
+returns-3 c =
+    let start = c .before .before .before .before .before in
+    let a = start .args in
+    let l = c .before .loop in
+    let d : Device = record { core = l .next; memory = l .memory } in
+    ended-of m95512 (a .interval) (a .limit) (a .address) (a .bytes .now) (c .before .before .cartvesper-split-parts .result) _ (a .sent) (record { core = a .core; memory = a .memory .now }) (l .inv .1 .1 .0)
+    (rest-done m95512 (a .interval) (a .limit) (a .address) (a .bytes .now) (c .before .before .cartvesper-split-parts .result) (a .sent) _ (l .k) (l .frames) d (c .loop-test .left) (l .inv .1 .1 .1 .1))
+
+pub write-parts-spec : {M : Type 1} → statement M
+write-parts-spec =
+    tie.close
+    (tie.spec
+    Inv-loop
+    μ-loop
+    cartvesper-split-parts-requires
+    loop-holds
+    write-part-requires
+    add-frames
+    wip-requires
+    cast-t20
+    same-length
+    returns
+    wel-requires
+    cast-t24
+    add-t25
+    slice-aggregate-send
+    send-requires
+    same-length-2
+    returns-2
+    add-k
+    loop-less
+    loop-again
+    cast-t33
+    same-length-3
+    returns-3)

@@ -1,0 +1,129 @@
+use mathlib.Core.Path.{_≡_, ap, sym, _∙_}
+use Prim.Native.Nat.{ℕ, _+_, _-_, _*_}
+use native.Mathlib.Omega.{arith}
+use mathlib.Core.Bool.{true}
+use mathlib.Core.List.{List}
+use lib.ListN.{length}
+use Rattle.laws.specs.Spliced.{spliced}
+use Rattle.chip.specs.Part.{m95512}
+use Rattle.chip.specs.Records.{running}
+use Rattle.frames.specs.After.{after}
+use Rattle.driver.proofs.Frames.{headed, head-length, frame-room, frame-bytes}
+use borrow.Author.Needs.{needs}
+use Rattle.driver.proofs.sending.send_write.Statement.{statement}
+use Rattle.driver.proofs.sending.send_write.Tie as tie
+use Rattle.driver.proofs.sending.send_write.Reads as reads
+use Rattle.driver.proofs.sending.send_write.Lts as lts
+use Rattle.bytes.proofs.copy.Reads as copy-reads
+use Rattle.driver.proofs.sending.room.Reads as room-reads
+use Rattle.driver.proofs.sending.send.Reads as send-reads
+
+-- src/sending.rt:68:21
+room-requires : tie.Need-room-requires
+room-requires c κs = search needs
+
+-- src/sending.rt:69:15
+add-end : tie.Need-add-end
+add-end c = search needs
+
+-- src/sending.rt:70:5
+array-write-frame : tie.Need-array-write-frame
+array-write-frame c = search needs
+
+-- src/sending.rt:71:16
+cast-frame : tie.Need-cast-frame
+cast-frame c = search needs
+
+-- src/sending.rt:71:5
+array-write-frame-2 : tie.Need-array-write-frame-2
+array-write-frame-2 c = search needs
+
+-- src/sending.rt:72:16
+cast-frame-2 : tie.Need-cast-frame-2
+cast-frame-2 c = search needs
+
+-- src/sending.rt:72:5
+array-write-frame-3 : tie.Need-array-write-frame-3
+array-write-frame-3 c = search needs
+
+-- src/sending.rt:73:24
+sub-copy : tie.Need-sub-copy
+sub-copy c = search needs
+
+-- src/sending.rt:73:24
+part-frame-start : tie.Need-part-frame-start
+part-frame-start c = search needs
+
+-- src/sending.rt:73:24
+part-frame-end : tie.Need-part-frame-end
+part-frame-end c =
+    let a = c .before .before .before .args in
+    let long : length (headed (c .room .result) (a .address)) ≡ length (c .room .result) = head-length (c .room .result) (a .address) in
+    omega arith
+
+-- src/sending.rt:73:5
+copy-requires : tie.Need-copy-requires
+copy-requires c κs = search needs
+
+-- src/sending.rt:74:24
+sub-send : tie.Need-sub-send
+sub-send c = search needs
+
+-- src/sending.rt:74:24
+part-send-start : tie.Need-part-send-start
+part-send-start c = search needs
+
+-- src/sending.rt:74:24
+part-send-end : tie.Need-part-send-end
+part-send-end c =
+    let start = c .before .before .before .before .before .before .before in
+    let room = c .before .before .before .before .room in
+    let copy = c .before .before .copy in
+    let a = start .args in
+    let n = length (a .bytes .now) in
+    let long : length (spliced (headed (room .result) (a .address)) (copy .last .1 .0) 3 (n + 3 - 3)) ≡ length (room .result) =
+    frame-room (room .result) (a .bytes .now) (copy .last .1 .0) (a .address) (n + 3 - 3) (start .pre .1 .1 .0) (omega arith) (omega arith) (copy .ensures .1) in
+    omega arith
+
+-- src/sending.rt:74:5
+send-requires : tie.Need-send-requires
+send-requires c κs =
+    let start = c .before .before .before .before .before .before .before .before in
+    let room = c .before .before .before .before .before .room in
+    let copy = c .before .before .before .copy in
+    let a = start .args in
+    let n = length (a .bytes .now) in
+    let built = frame-bytes (room .result) (a .bytes .now) (copy .last .1 .0) (a .address) (n + 3 - 3) (start .pre .1 .1 .0) (omega arith) (omega arith) (copy .ensures .1) (n + 3 - 0) (omega arith) in
+    (start .pre .0, (start .pre .1 .0, rw built (omega arith)))
+
+-- src/sending.rt:61:1
+returns : tie.Need-returns
+returns c =
+    let start = c .before .before .before .before .before .before .before .before .before in
+    let room = c .before .before .before .before .before .before .room in
+    let copy = c .before .before .before .before .copy in
+    let a = start .args in
+    let n = length (a .bytes .now) in
+    let built = frame-bytes (room .result) (a .bytes .now) (copy .last .1 .0) (a .address) (n + 3 - 3) (start .pre .1 .1 .0) (omega arith) (omega arith) (copy .ensures .1) (n + 3 - 0) (omega arith) in
+    c .send .ensures ∙ ap (λ (s : List ℕ). after m95512 (running (a .core)) true (a .core) s (8 * length s)) built
+
+pub send-write-spec : {M : Type 1} → statement M
+send-write-spec =
+    tie.close
+    (tie.spec
+    room-requires
+    add-end
+    array-write-frame
+    cast-frame
+    array-write-frame-2
+    cast-frame-2
+    array-write-frame-3
+    sub-copy
+    part-frame-start
+    part-frame-end
+    copy-requires
+    sub-send
+    part-send-start
+    part-send-end
+    send-requires
+    returns)

@@ -1,0 +1,60 @@
+use mathlib.Core.Path.{refl, ap, sym, _∙_}
+use Prim.Native.Nat.{_-_}
+use native.Mathlib.Omega.{arith}
+use Rattle.chip.specs.Part.{m95512}
+use Rattle.chip.specs.Ranges.{inRanges}
+use Rattle.chip.specs.Records.{status}
+use Rattle.frames.specs.Play.{Device}
+use Rattle.driver.proofs.Ready.{device-of}
+use Rattle.driver.proofs.Waits.{sent-most}
+use Rattle.driver.proofs.Joined.{told, first-wait}
+use borrow.Author.Needs.{needs}
+use Rattle.driver.proofs.waiting.first_wait.Statement.{statement}
+use Rattle.driver.proofs.waiting.first_wait.Tie as tie
+use Rattle.driver.proofs.waiting.first_wait.Reads as reads
+use Rattle.driver.proofs.waiting.first_wait.Lts as lts
+use Rattle.driver.proofs.sending.poll.Reads as poll-reads
+use Rattle.driver.proofs.waiting.Waited.and_sent.Reads as and-sent-reads
+use Rattle.driver.proofs.waiting.poll_on.Reads as poll-on-reads
+
+-- src/waiting.rt:81:9
+poll-requires : tie.Need-poll-requires
+poll-requires c κs = search needs
+
+-- src/waiting.rt:82:37
+sub-poll-on : tie.Need-sub-poll-on
+sub-poll-on c = search needs
+
+-- src/waiting.rt:82:5
+poll-on-requires : tie.Need-poll-on-requires
+poll-on-requires c κs =
+    let start = c .before .before .before .before in
+    let poll = c .before .poll in
+    (start .pre .0, (ap (inRanges m95512) (poll .ensures .1) ∙ start .pre .1 .0, poll .ensures .0 ∙ ap status (sym (poll .ensures .1))))
+
+-- src/waiting.rt:82:5
+and-sent-requires : tie.Need-and-sent-requires
+and-sent-requires c κs =
+    let start = c .before .before .before .before .before .before .before in
+    let wait = c .before .before .poll-on in
+    let x : Device = record { core = c .before .before .before .before .poll .result .core; memory = start .args .memory .now } in
+    omega (arith, wait .ensures .1 .1 .0, sent-most m95512 (start .args .interval) (start .args .limit - 1) x)
+
+-- src/waiting.rt:72:1
+same-length : tie.Need-same-length
+same-length c = search needs
+
+-- src/waiting.rt:72:1
+returns : tie.Need-returns
+returns c =
+    let start = c .before .before .before .before .before .before .before .before in
+    let poll = c .before .before .before .before .before .poll in
+    let wait = c .before .before .before .poll-on in
+    let d : Device = record { core = start .args .core; memory = start .args .memory .now } in
+    let x : Device = record { core = poll .result .core; memory = start .args .memory .now } in
+    told m95512 _ d _ x 1 (first-wait (start .args .interval) (start .args .limit) d x (device-of d (poll .ensures .1) refl)) (wait .result) (c .and-sent .result) (wait .last .1 .0) (wait .ensures) (c .and-sent .ensures)
+
+pub first-wait-spec : {M : Type 1} → statement M
+first-wait-spec =
+    tie.close
+    (tie.spec poll-requires sub-poll-on poll-on-requires and-sent-requires same-length returns)

@@ -1,0 +1,71 @@
+use mathlib.Core.Path.{ap, _∙_}
+use Prim.Native.Nat.{_-_}
+use native.Mathlib.Omega.{arith}
+use lib.ListN.{length}
+use Rattle.chip.specs.Part.{m95512}
+use Rattle.chip.specs.Ranges.{inRanges}
+use Rattle.frames.specs.Play.{Device, played}
+use Rattle.driver.specs.Sequence.{latePoll}
+use Rattle.driver.proofs.Ready.{device-of, ready-played}
+use Rattle.driver.proofs.Waits.{sent-most}
+use Rattle.driver.proofs.Joined.{told, page-wait}
+use borrow.Author.Needs.{needs}
+use Rattle.driver.proofs.waiting.page_wait.Statement.{statement}
+use Rattle.driver.proofs.waiting.page_wait.Tie as tie
+use Rattle.driver.proofs.waiting.page_wait.Reads as reads
+use Rattle.driver.proofs.waiting.page_wait.Lts as lts
+use Rattle.driver.proofs.waiting.Waited.and_sent.Reads as and-sent-reads
+use Rattle.driver.proofs.waiting.late_poll.Reads as late-poll-reads
+use Rattle.driver.proofs.waiting.poll_on.Reads as poll-on-reads
+
+-- src/waiting.rt:95:9
+late-poll-requires : tie.Need-late-poll-requires
+late-poll-requires c κs = search needs
+
+-- src/waiting.rt:96:37
+sub-poll-on : tie.Need-sub-poll-on
+sub-poll-on c = search needs
+
+-- src/waiting.rt:96:5
+poll-on-requires : tie.Need-poll-on-requires
+poll-on-requires c κs =
+    let start = c .before .before .before .before .before .before in
+    let poll = c .before .before .before .late-poll in
+    let d : Device = record { core = start .args .core; memory = start .args .memory .now } in
+    let ready = ready-played (latePoll (start .args .interval) d) d (record { whole = start .pre .0; ranges = start .pre .1 .0 }) in
+    (ap length (poll .ensures .1 .1) ∙ ready .whole, (ap (inRanges m95512) (poll .ensures .0) ∙ ready .ranges, poll .ensures .1 .0))
+
+-- src/waiting.rt:96:5
+and-sent-requires : tie.Need-and-sent-requires
+and-sent-requires c κs =
+    let start = c .before .before .before .before .before .before .before .before .before in
+    let poll = c .before .before .before .before .before .before .late-poll in
+    let wait = c .before .before .poll-on in
+    let x : Device = record { core = poll .result .core; memory = poll .last .1 .0 } in
+    omega (arith, wait .ensures .1 .1 .0, sent-most m95512 (start .args .interval) (start .args .limit - 1) x)
+
+-- src/waiting.rt:86:1
+same-length : tie.Need-same-length
+same-length c = search needs
+
+-- src/waiting.rt:86:1
+returns : tie.Need-returns
+returns c =
+    let start = c .before .before .before .before .before .before .before .before .before .before in
+    let poll = c .before .before .before .before .before .before .before .late-poll in
+    let wait = c .before .before .before .poll-on in
+    let d : Device = record { core = start .args .core; memory = start .args .memory .now } in
+    let x : Device = record { core = poll .result .core; memory = poll .last .1 .0 } in
+    let e = device-of (played m95512 (latePoll (start .args .interval) d) d) (poll .ensures .0) (poll .ensures .1 .1) in
+    told m95512 _ d _ x 1 (page-wait (start .args .interval) (start .args .limit) d x e) (wait .result) (c .and-sent .result) (wait .last .1 .0) (wait .ensures) (c .and-sent .ensures)
+
+pub page-wait-spec : {M : Type 1} → statement M
+page-wait-spec =
+    tie.close
+    (tie.spec
+    late-poll-requires
+    sub-poll-on
+    poll-on-requires
+    and-sent-requires
+    same-length
+    returns)

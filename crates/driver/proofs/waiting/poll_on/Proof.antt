@@ -1,0 +1,96 @@
+use mathlib.Core.Path.{_≡_, ap, sym, subst, _∙_}
+use Prim.Native.Nat.{_-_, _≤_}
+use native.Mathlib.Omega.{arith}
+use Rattle.chip.specs.Part.{m95512}
+use Rattle.chip.specs.Records.{status}
+use Rattle.frames.specs.Play.{Device, played}
+use Rattle.driver.specs.Sequence.{latePoll}
+use Rattle.driver.proofs.Ready.{Ready, device-of, ready-played}
+use Rattle.driver.proofs.Waits.{goes-on, is-over, Onward, onward-first, onward-next, onward-last}
+use borrow.Author.Needs.{needs}
+use Rattle.driver.proofs.waiting.poll_on.Statement.{statement}
+use Rattle.driver.proofs.waiting.poll_on.Tie as tie
+use Rattle.driver.proofs.waiting.poll_on.Reads as reads
+use Rattle.driver.proofs.waiting.poll_on.Lts as lts
+use Rattle.driver.proofs.waiting.late_poll.Reads as late-poll-reads
+
+abbrev Inv-loop : tie.InvT-loop
+Inv-loop memory₀ interval left polled₀ polls₀ memory polled polls =
+    (polls ≤ left)
+    × ((polled .status ≡ status (polled .core))
+    × (Ready (record { core = polled .core; memory = memory })
+    × Onward m95512 interval left (record { core = polled₀ .core; memory = memory₀ }) polls (record { core = polled .core; memory = memory })))
+
+abbrev μ-loop : tie.MeasureT-loop
+μ-loop memory₀ interval left polled₀ polls₀ memory polled polls = left - polls
+
+-- src/waiting.rt:47:5
+loop-holds : tie.Need-loop-holds Inv-loop μ-loop
+loop-holds c =
+    let start = c .before in
+    (omega arith, (start .pre .1 .1, (record { whole = start .pre .0; ranges = start .pre .1 .0 }, onward-first m95512 _ _ _)))
+
+-- src/waiting.rt:48:9
+late-poll-requires : tie.Need-late-poll-requires Inv-loop μ-loop
+late-poll-requires c κs =
+    let inv = c .before .before .before .loop .inv in
+    (inv .1 .1 .0 .whole, inv .1 .1 .0 .ranges)
+
+-- src/waiting.rt:49:9
+add-polls : tie.Need-add-polls Inv-loop μ-loop
+add-polls c =
+    let l = c .before .before .before .before .before .before .loop in
+    let a = c .before .before .before .before .before .before .before .before .args in
+    let on = goes-on (l .polls) (a .left) (l .polled .status) (l .polled .core) (l .inv .1 .0) (c .before .before .before .before .if1 .taken) in
+    let most = c .before .before .before .before .before .before .before .before .good in
+    omega (arith, on .0)
+
+-- src/waiting.rt:47:5
+loop-less : tie.Need-loop-less Inv-loop μ-loop
+loop-less c =
+    let l = c .before .before .before .before .before .before .loop in
+    let a = c .before .before .before .before .before .before .before .before .args in
+    let on = goes-on (l .polls) (a .left) (l .polled .status) (l .polled .core) (l .inv .1 .0) (c .before .before .before .before .if1 .taken) in
+    omega (arith, on .0)
+
+-- src/waiting.rt:47:5
+loop-again : tie.Need-loop-again Inv-loop μ-loop
+loop-again c =
+    let l = c .before .before .before .before .before .before .loop in
+    let start = c .before .before .before .before .before .before .before .before in
+    let a = start .args in
+    let poll = c .before .before .late-poll in
+    let on = goes-on (l .polls) (a .left) (l .polled .status) (l .polled .core) (l .inv .1 .0) (c .before .before .before .before .if1 .taken) in
+    let d : Device = record { core = l .polled .core; memory = l .memory } in
+    let e = device-of (played m95512 (latePoll (a .interval) d) d) (poll .ensures .0) (poll .ensures .1 .1) in
+    (omega (arith, on .0), (poll .ensures .1 .0, (subst Ready (sym e) (ready-played (latePoll (a .interval) d) d (l .inv .1 .1 .0)), onward-next m95512 (a .interval) (a .left) _ (l .polls) d _ e (on .0) (on .1) (l .inv .1 .1 .1))))
+
+-- src/waiting.rt:36:1
+same-length : tie.Need-same-length Inv-loop μ-loop
+same-length c =
+    let start = c .before .before .before .before .before in
+    c .before .before .before .loop .inv .1 .1 .0 .whole ∙ sym (start .pre .0)
+
+-- src/waiting.rt:36:1
+returns : tie.Need-returns Inv-loop μ-loop
+returns c =
+    let l = c .before .before .before .loop in
+    let a = c .before .before .before .before .before .args in
+    let d : Device = record { core = l .polled .core; memory = l .memory } in
+    let none = is-over m95512 (a .interval) (l .polls) (a .left) (l .polled .status) d (l .inv .1 .0) (c .before .if1 .left) in
+    let last = onward-last m95512 (a .interval) (a .left) _ (l .polls) d none (l .inv .1 .1 .1) in
+    (ap (λ (x : Device). x .core) (last .0), (l .inv .1 .0, (last .1, ap (λ (x : Device). x .memory) (last .0))))
+
+pub poll-on-spec : {M : Type 1} → statement M
+poll-on-spec =
+    tie.close
+    (tie.spec
+    Inv-loop
+    μ-loop
+    loop-holds
+    late-poll-requires
+    add-polls
+    loop-less
+    loop-again
+    same-length
+    returns)

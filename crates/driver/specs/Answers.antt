@@ -1,0 +1,103 @@
+-- The public call, for every input: the refusals in their order, the answer with its counts, the record and the memory.
+use Prim.Native.Nat.{ℕ, _+_}
+use mathlib.Core.Bool.{Bool, _&&_}
+use mathlib.Core.List.{List}
+use lib.ListN.{length}
+use lib.Dec.{eqb, leb}
+use Rattle.laws.specs.Pick.{pick}
+use Rattle.chip.specs.Part.{Part}
+use Rattle.chip.specs.Ranges.{inRanges}
+use Rattle.chip.specs.Refusals.{refusalNumber, isDone}
+use Rattle.chip.specs.declared.Core.{Core}
+use Rattle.chip.specs.declared.Refusal.{Refusal}
+use Rattle.chip.specs.declared.Refusal.the-variants.{MemoryLength, RecordRange, AddressRange, PollRange}
+use Rattle.chip.specs.declared.Outcome.{Outcome}
+use Rattle.chip.specs.declared.Outcome.the-variants as outcome
+use Rattle.frames.specs.Play.{Device, played}
+use Rattle.driver.specs.declared.Sent.{Sent}
+use Rattle.driver.specs.declared.Answer.{Answer}
+use Rattle.driver.specs.declared.Answer.the-variants.{Done, TimedOut, NotTaken, Refused}
+use Rattle.driver.specs.declared.Driven.{Driven}
+use Rattle.driver.specs.Sequence.{sent, Ending, allDone, timedOut, notTaken, Run, run}
+
+-- ---- the answer
+
+-- its number in document 01
+abbrev pub answerNumber : Answer → ℕ
+answerNumber (Done s) = 0
+answerNumber (TimedOut s) = 9
+answerNumber (NotTaken s) = 10
+answerNumber (Refused r) = refusalNumber r
+
+-- pages done, and frames sent: every count is 0 in a refusal
+abbrev pub answerPages : Answer → ℕ
+answerPages (Done s) = s .pages
+answerPages (TimedOut s) = s .pages
+answerPages (NotTaken s) = s .pages
+answerPages (Refused r) = 0
+
+abbrev pub answerFrames : Answer → ℕ
+answerFrames (Done s) = s .frames
+answerFrames (TimedOut s) = s .frames
+answerFrames (NotTaken s) = s .frames
+answerFrames (Refused r) = 0
+
+-- of a run, by its ending
+abbrev pub endingAnswer : Ending → Sent → Answer
+endingAnswer allDone s = Done s
+endingAnswer timedOut s = TimedOut s
+endingAnswer notTaken s = NotTaken s
+
+-- the page parts of one, after so many frames
+abbrev pub partsAnswer : ℕ → Run → Answer
+partsAnswer before r = endingAnswer (r .ending) (record { pages = r .pages; frames = before + sent (r .acts) })
+
+abbrev pub runAnswer : Run → Answer
+runAnswer r = endingAnswer (r .ending) (record { pages = r .pages; frames = sent (r .acts) })
+
+-- ---- the refusals: 1, 2, 7, 8 in that order, also with no data
+
+-- the interval, 1 to the longest cycle; the limit, 1 to one more
+abbrev pub pollsFit : Part → ℕ → ℕ → Bool
+pollsFit P interval limit = leb 1 interval && leb interval (P .longest) && leb 1 limit && leb limit (P .longest + 1)
+
+abbrev pub driveOutcome : Part → Core → ℕ → ℕ → ℕ → ℕ → ℕ → Outcome
+driveOutcome P c size a len interval limit =
+    pick (eqb size (P .size))
+    (pick (inRanges P c)
+    (pick (leb (a + len) (P .size))
+    (pick (pollsFit P interval limit) outcome.Done (outcome.Refused PollRange))
+    (outcome.Refused AddressRange))
+    (outcome.Refused RecordRange))
+    (outcome.Refused MemoryLength)
+
+-- the number of the answer
+abbrev pub endingNumber : Ending → ℕ
+endingNumber allDone = 0
+endingNumber timedOut = 9
+endingNumber notTaken = 10
+
+abbrev pub driveNumber : Part → Core → ℕ → ℕ → ℕ → ℕ → ℕ → Ending → ℕ
+driveNumber P c size a len interval limit e =
+    pick (eqb size (P .size)) (pick (inRanges P c) (pick (leb (a + len) (P .size)) (pick (pollsFit P interval limit) (endingNumber e) 8) 7) 2) 1
+
+-- ---- what is handed back, and what is left in the memory
+
+abbrev pub answered : Outcome → Run → Answer
+answered outcome.Done r = runAnswer r
+answered (outcome.Refused e) r = Refused e
+
+abbrev pub leaves : Part → Run → Core → List ℕ → Device
+leaves P r c m = played P (r .acts) (record { core = c; memory = m })
+
+unfoldable pub driven : Part → Core → List ℕ → ℕ → List ℕ → ℕ → ℕ → Driven
+driven P c m a bytes interval limit =
+    let o = driveOutcome P c (length m) a (length bytes) interval limit in
+    let r = run P interval limit a bytes (record { core = c; memory = m }) in
+    record { answer = answered o r; core = pick (isDone o) (leaves P r c m .core) c }
+
+unfoldable pub drivenMemory : Part → Core → List ℕ → ℕ → List ℕ → ℕ → ℕ → List ℕ
+drivenMemory P c m a bytes interval limit =
+    let o = driveOutcome P c (length m) a (length bytes) interval limit in
+    let r = run P interval limit a bytes (record { core = c; memory = m }) in
+    pick (isDone o) (leaves P r c m .memory) m

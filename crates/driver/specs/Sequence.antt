@@ -1,0 +1,134 @@
+-- What the driver sends: a list of frames and clock readings. Each wait takes its limit as the most polls that it may make; the state along the
+-- way is that of the frame definitions played over the list, and nothing here counts but `sent`, over the list itself.
+use Prim.Native.Nat.{ℕ, zero, suc, _+_, _-_, _*_, _/_, _%_, _^_}
+use mathlib.Core.Bool.{Bool, true, false}
+use mathlib.Core.List.{List, [], _∷_, _++_}
+use lib.ListN.{length}
+use lib.Dec.{eqb}
+use Rattle.laws.specs.Pick.{pick}
+use Rattle.chip.specs.Part.{Part}
+use Rattle.chip.specs.Status.{on}
+use Rattle.chip.specs.Records.{running}
+use Rattle.chip.specs.declared.Core.{Core}
+use Rattle.frames.specs.Play.{Act, frame, reading, Device, acted, played}
+use Rattle.split.specs.Split.{count, splitAddress}
+use Rattle.split.specs.Pieces.{piece}
+
+-- ---- the frames. W does not matter to any of them
+
+-- all bits of the bytes
+abbrev pub whole : List ℕ → Act
+whole s = frame true s (8 * length s)
+
+abbrev pub wren : Act
+wren = whole (0x06 ∷ [])
+
+abbrev pub wrdi : Act
+wrdi = whole (0x04 ∷ [])
+
+-- the code, and a byte in which the status shows
+abbrev pub rdsr : Act
+rdsr = whole (0x05 ∷ 0x00 ∷ [])
+
+-- the low k bytes of an address, high byte first
+abbrev pub addressBytes : ℕ → ℕ → List ℕ
+addressBytes zero a = []
+addressBytes (suc k) a = (a / 256 ^ k % 256) ∷ addressBytes k a
+
+abbrev pub writeBytes : Part → ℕ → List ℕ → List ℕ
+writeBytes P a bytes = 0x02 ∷ addressBytes (P .addressBytes) a ++ bytes
+
+abbrev pub write : Part → ℕ → List ℕ → Act
+write P a bytes = whole (writeBytes P a bytes)
+
+-- how many frames a list has
+abbrev pub sent : List Act → ℕ
+sent [] = 0
+sent (frame w s n ∷ acts) = suc (sent acts)
+sent (reading t ∷ acts) = sent acts
+
+-- a device made of its record and memory, and what acts that depend on it leave
+abbrev pub device : Core → List ℕ → Device
+device c m = record { core = c; memory = m }
+
+abbrev pub through : Part → (Device → List Act) → Core → List ℕ → Device
+through P acts c m = played P (acts (device c m)) (device c m)
+
+-- ---- a wait
+
+-- the clock moved by the interval; the counter wraps
+abbrev pub moved : ℕ → Device → Act
+moved interval d = reading ((d .core .last + interval) % 2 ^ 32)
+
+-- a poll after moving the clock
+abbrev pub latePoll : ℕ → Device → List Act
+latePoll interval d = moved interval d ∷ rdsr ∷ []
+
+-- polls while WIP is 1 and some are left
+unfoldable pub more : Part → ℕ → ℕ → Device → List Act
+more P interval zero d = []
+more P interval (suc left) d =
+    pick (running (d .core)) (latePoll interval d ++ more P interval left (played P (latePoll interval d) d)) []
+
+-- the first wait polls without moving the clock ..
+unfoldable pub firstWait : Part → ℕ → ℕ → Device → List Act
+firstWait P interval limit d = rdsr ∷ more P interval (limit - 1) (acted P rdsr d)
+
+-- .. and that of a page moves it before each poll
+unfoldable pub pageWait : Part → ℕ → ℕ → Device → List Act
+pageWait P interval limit d = latePoll interval d ++ more P interval (limit - 1) (played P (latePoll interval d) d)
+
+-- ---- a page: WREN and WRITE without moving the clock, then its wait
+
+abbrev pub page : Part → ℕ → List ℕ → List Act
+page P a bytes = wren ∷ write P a bytes ∷ []
+
+unfoldable pub pageActs : Part → ℕ → ℕ → ℕ → List ℕ → Device → List Act
+pageActs P interval limit a bytes d = page P a bytes ++ pageWait P interval limit (played P (page P a bytes) d)
+
+-- ---- a run
+
+-- how it ends: all pages done, a wait that used its limit, a page that was not taken
+pub data Ending : Type 0 where
+  allDone : Ending
+  timedOut : Ending
+  notTaken : Ending
+
+pub record Run : Type 0 where
+  pub acts : List Act
+  -- pages done
+  pub pages : ℕ
+  pub ending : Ending
+
+abbrev pub stopped : List Act → Ending → Run
+stopped acts e = record { acts = acts; pages = 0; ending = e }
+
+-- a run after other acts, and after those of a page done
+abbrev pub begun : List Act → Run → Run
+begun acts r = record { acts = acts ++ r .acts; pages = r .pages; ending = r .ending }
+
+abbrev pub pageDone : List Act → Run → Run
+pageDone acts r = record { acts = acts ++ r .acts; pages = suc (r .pages); ending = r .ending }
+
+-- n page parts from part k on, in rising address order. WIP 0 and WEL 1 after a page's WRITE mean that it was not taken
+unfoldable pub pagesFrom : Part → ℕ → ℕ → ℕ → List ℕ → ℕ → ℕ → Device → Run
+pagesFrom P interval limit a bytes zero k d = stopped [] allDone
+pagesFrom P interval limit a bytes (suc n) k d =
+    let acts = pageActs P interval limit (splitAddress (P .size) (P .page) a (length bytes) k) (piece (P .size) (P .page) a bytes k) d in
+    let next = played P acts d in
+    pick (running (next .core)) (stopped acts timedOut)
+    (pick (on (next .core .wel)) (stopped (acts ++ (wrdi ∷ [])) notTaken)
+    (pageDone acts (pagesFrom P interval limit a bytes n (suc k) next)))
+
+-- all of them
+abbrev pub allParts : Part → ℕ → ℕ → ℕ → List ℕ → Device → Run
+allParts P interval limit a bytes d = pagesFrom P interval limit a bytes (count (P .size) (P .page) a (length bytes)) 0 d
+
+-- the whole run: nothing for no data, else the first wait, in which WEL is not looked at, and the page parts
+unfoldable pub run : Part → ℕ → ℕ → ℕ → List ℕ → Device → Run
+run P interval limit a bytes d =
+    let first = firstWait P interval limit d in
+    let next = played P first d in
+    pick (eqb (length bytes) 0) (stopped [] allDone)
+    (pick (running (next .core)) (stopped first timedOut)
+    (begun first (allParts P interval limit a bytes next)))

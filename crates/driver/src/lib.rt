@@ -1,0 +1,103 @@
+// The driver: writes any run of bytes as page writes, over the quick model and by its promises alone.
+//
+// It waits until no cycle runs, then sends WREN and WRITE for each page part and waits for the end of its cycle; it sees a page that was not
+// taken, and says exactly what it did. Public call, for every input: write.
+ghost use mathlib.Core.Path.{_≡_};
+ghost use mathlib.Core.Bool.{true};
+ghost use Prim.Native.Nat.{_≤_};
+ghost use lib.ListN.{length};
+ghost use Rattle.chip.specs.Part.{m95512};
+ghost use Rattle.chip.specs.Ranges.{inRanges};
+ghost use Rattle.driver.specs.Sequence.{device, through, run};
+ghost use Rattle.driver.specs.Answers.{answerNumber, runAnswer, driveNumber, driven, drivenMemory};
+use chip::Core;
+use chip::Outcome;
+use chip::Refusal;
+
+mod answers;
+mod pages;
+mod refused;
+mod sending;
+mod waiting;
+
+// Pages done and frames sent.
+pub struct Sent {
+    pub pages: u32,
+    pub frames: u32,
+}
+
+// How a run ended, with its counts, or the refusal.
+pub enum Answer {
+    Done(Sent),
+    TimedOut(Sent),
+    NotTaken(Sent),
+    Refused(Refusal),
+}
+
+pub struct Driven {
+    pub answer: Answer,
+    pub core: Core,
+}
+
+// The run of an input that is not refused: nothing for no data, else the first wait and the page parts.
+fn drive(
+    core: Core,
+    memory: &mut [u8],
+    address: u64,
+    bytes: &[u8],
+    interval: u32,
+    limit: u32,
+) -> Driven
+    requires { ⌜ length (now memory) ≡ 65536 ⌝ }
+    requires { ⌜ inRanges m95512 core ≡ true ⌝ }
+    requires { ⌜ (1 ≤ limit) × (limit ≤ 5001) ⌝ }
+    ensures { λ r. ⌜ r ≡ record { answer = runAnswer (run m95512 interval limit address (now (bytes .entry)) (device core (now (memory .entry)))); core = through m95512 (λ d. run m95512 interval limit address (now (bytes .entry)) d .acts) core (now (memory .entry)) .core } ⌝ }
+    ensures { λ _. ⌜ now (memory .exit) ≡ through m95512 (λ d. run m95512 interval limit address (now (bytes .entry)) d .acts) core (now (memory .entry)) .memory ⌝ }
+{
+    if bytes.len() == 0 {
+        return Driven {
+            answer: Answer::Done(Sent {
+                pages: 0,
+                frames: 0,
+            }),
+            core: core,
+        };
+    }
+    let first = waiting::first_wait(core, memory, interval, limit);
+    let next = first.core;
+    let frames = first.frames;
+    if pages::wip(first.status) {
+        return Driven {
+            answer: Answer::TimedOut(Sent {
+                pages: 0,
+                frames: frames,
+            }),
+            core: next,
+        };
+    }
+    pages::write_parts(next, memory, address, bytes, interval, limit, frames)
+}
+
+// Writes the bytes from an address on, with polls at an interval of microseconds and a limit of polls for each wait. Refusals 1, 2, 7 and 8 in
+// that order leave the record and the memory as they were; else the answer is 0, 9 for a wait that used its limit or 10 for a page that was not
+// taken, with the pages done and the frames sent.
+pub fn write(
+    core: Core,
+    memory: &mut [u8],
+    address: u64,
+    bytes: &[u8],
+    interval: u32,
+    limit: u32,
+) -> Driven
+    ensures { λ r. ⌜ r ≡ driven m95512 core (now (memory .entry)) address (now (bytes .entry)) interval limit ⌝ }
+    ensures { λ r. ⌜ answerNumber (r .answer) ≡ driveNumber m95512 core (length (now (memory .entry))) address (length (now (bytes .entry))) interval limit (run m95512 interval limit address (now (bytes .entry)) (device core (now (memory .entry))) .ending) ⌝ }
+    ensures { λ _. ⌜ now (memory .exit) ≡ drivenMemory m95512 core (now (memory .entry)) address (now (bytes .entry)) interval limit ⌝ }
+{
+    match refused::outcome(core, memory.len(), address, bytes.len(), interval, limit) {
+        Outcome::Done => drive(core, memory, address, bytes, interval, limit),
+        Outcome::Refused(r) => Driven {
+            answer: Answer::Refused(r),
+            core: core,
+        },
+    }
+}

@@ -1,0 +1,152 @@
+// Page parts: WREN and WRITE for each, its wait, and what its last poll says.
+ghost use mathlib.Core.Path.{_≡_};
+ghost use mathlib.Core.Bool.{true};
+ghost use Prim.Native.Nat.{_+_, _≤_, _<_};
+ghost use lib.ListN.{length};
+ghost use Rattle.chip.specs.Part.{m95512};
+ghost use Rattle.chip.specs.Ranges.{inRanges};
+ghost use Rattle.chip.specs.Records.{status};
+ghost use Rattle.chip.specs.Status.{on, bitOf};
+ghost use Rattle.split.specs.Split.{count, splitAddress};
+ghost use Rattle.split.specs.Pieces.{piece};
+ghost use Rattle.driver.specs.Sequence.{sent, device, through, pageActs, allParts};
+ghost use Rattle.driver.specs.Answers.{partsAnswer};
+use crate::Answer;
+use crate::Driven;
+use crate::Sent;
+use crate::sending::send;
+use crate::sending::send_write;
+use crate::waiting::Waited;
+use crate::waiting::page_wait;
+use chip::Core;
+use chip::WRDI;
+use chip::WREN;
+use split::cartvesper_split_address;
+use split::cartvesper_split_length;
+use split::cartvesper_split_parts;
+
+// One page: WREN and WRITE without moving the clock, then its wait.
+fn write_page(
+    core: Core,
+    memory: &mut [u8],
+    address: usize,
+    bytes: &[u8],
+    interval: u32,
+    limit: u32,
+) -> Waited
+    requires { ⌜ length (now memory) ≡ 65536 ⌝ }
+    requires { ⌜ inRanges m95512 core ≡ true ⌝ }
+    requires { ⌜ address < 65536 ⌝ }
+    requires { ⌜ length (now bytes) ≤ 128 ⌝ }
+    requires { ⌜ (1 ≤ limit) × (limit ≤ 5001) ⌝ }
+    ensures { λ r. ⌜ r .core ≡ through m95512 (pageActs m95512 interval limit address (now (bytes .entry))) core (now (memory .entry)) .core ⌝ }
+    ensures { λ r. ⌜ r .status ≡ status (r .core) ⌝ }
+    ensures { λ r. ⌜ r .frames ≡ sent (pageActs m95512 interval limit address (now (bytes .entry)) (device core (now (memory .entry)))) ⌝ }
+    ensures { λ _. ⌜ now (memory .exit) ≡ through m95512 (pageActs m95512 interval limit address (now (bytes .entry))) core (now (memory .entry)) .memory ⌝ }
+{
+    let wren = [WREN];
+    let enabled = send(core, memory, &wren);
+    let begun = send_write(enabled, memory, address, bytes);
+    page_wait(begun, memory, interval, limit).and_sent(2)
+}
+
+// Part k of the run: its bytes are lent on, not copied.
+fn write_part(
+    core: Core,
+    memory: &mut [u8],
+    address: u64,
+    bytes: &[u8],
+    k: u64,
+    interval: u32,
+    limit: u32,
+) -> Waited
+    requires { ⌜ length (now memory) ≡ 65536 ⌝ }
+    requires { ⌜ inRanges m95512 core ≡ true ⌝ }
+    requires { ⌜ (1 ≤ limit) × (limit ≤ 5001) ⌝ }
+    requires { ⌜ k < count 65536 128 address (length (now bytes)) ⌝ }
+    ensures { λ r. ⌜ r .core ≡ through m95512 (pageActs m95512 interval limit (splitAddress 65536 128 address (length (now (bytes .entry))) k) (piece 65536 128 address (now (bytes .entry)) k)) core (now (memory .entry)) .core ⌝ }
+    ensures { λ r. ⌜ r .status ≡ status (r .core) ⌝ }
+    ensures { λ r. ⌜ r .frames ≡ sent (pageActs m95512 interval limit (splitAddress 65536 128 address (length (now (bytes .entry))) k) (piece 65536 128 address (now (bytes .entry)) k) (device core (now (memory .entry)))) ⌝ }
+    ensures { λ _. ⌜ now (memory .exit) ≡ through m95512 (pageActs m95512 interval limit (splitAddress 65536 128 address (length (now (bytes .entry))) k) (piece 65536 128 address (now (bytes .entry)) k)) core (now (memory .entry)) .memory ⌝ }
+{
+    let n = bytes.len() as u64;
+    let start = cartvesper_split_address(address, n, k);
+    let from = (start - address) as usize;
+    let end = from + cartvesper_split_length(address, n, k) as usize;
+    write_page(
+        core,
+        memory,
+        start as usize,
+        &bytes[from..end],
+        interval,
+        limit,
+    )
+}
+
+// WIP, and WEL, in the status byte that a poll saw.
+pub(crate) fn wip(status: u8) -> bool
+    ensures { λ r. ⌜ r ≡ on (bitOf 0 status) ⌝ }
+{
+    status & 1 == 1
+}
+
+fn wel(status: u8) -> bool
+    ensures { λ r. ⌜ r ≡ on (bitOf 1 status) ⌝ }
+{
+    status >> 1 & 1 == 1
+}
+
+// All parts, in rising address order, after `sent` frames. WIP 0 and WEL 1 after a page's WRITE mean that the page was not taken.
+pub(crate) fn write_parts(
+    core: Core,
+    memory: &mut [u8],
+    address: u64,
+    bytes: &[u8],
+    interval: u32,
+    limit: u32,
+    sent: u32,
+) -> Driven
+    requires { ⌜ length (now memory) ≡ 65536 ⌝ }
+    requires { ⌜ inRanges m95512 core ≡ true ⌝ }
+    requires { ⌜ (1 ≤ limit) × (limit ≤ 5001) ⌝ }
+    requires { ⌜ sent ≤ 5001 ⌝ }
+    ensures { λ r. ⌜ r ≡ record { answer = partsAnswer sent (allParts m95512 interval limit address (now (bytes .entry)) (device core (now (memory .entry)))); core = through m95512 (λ d. allParts m95512 interval limit address (now (bytes .entry)) d .acts) core (now (memory .entry)) .core } ⌝ }
+    ensures { λ _. ⌜ now (memory .exit) ≡ through m95512 (λ d. allParts m95512 interval limit address (now (bytes .entry)) d .acts) core (now (memory .entry)) .memory ⌝ }
+{
+    let parts = cartvesper_split_parts(address, bytes.len() as u64, 0);
+    let mut next = core;
+    let mut frames = sent;
+    let mut k: u64 = 0;
+    while k < parts {
+        let page = write_part(next, memory, address, bytes, k, interval, limit);
+        next = page.core;
+        frames += page.frames;
+        if wip(page.status) {
+            return Driven {
+                answer: Answer::TimedOut(Sent {
+                    pages: k as u32,
+                    frames: frames,
+                }),
+                core: next,
+            };
+        }
+        if wel(page.status) {
+            let wrdi = [WRDI];
+            return Driven {
+                answer: Answer::NotTaken(Sent {
+                    pages: k as u32,
+                    frames: frames + 1,
+                }),
+                core: send(next, memory, &wrdi),
+            };
+        }
+        k += 1;
+    }
+    Driven {
+        answer: Answer::Done(Sent {
+            pages: k as u32,
+            frames: frames,
+        }),
+        core: next,
+    }
+}

@@ -1,0 +1,50 @@
+// The refusals of the driver, in their order.
+ghost use mathlib.Core.Path.{_≡_};
+ghost use Prim.Native.Nat.{_+_};
+ghost use lib.Dec.{leb};
+ghost use Rattle.chip.specs.Part.{m95512};
+ghost use Rattle.driver.specs.Answers.{pollsFit, driveOutcome};
+use chip::Core;
+use chip::Outcome;
+use chip::Refusal;
+
+// The run lies in the memory. The sum of address and length is never made before it is known to fit.
+fn run_fits(address: u64, len: usize) -> bool
+    ensures { λ r. ⌜ r ≡ leb (address + len) 65536 ⌝ }
+{
+    if len <= 65536 {
+        return address <= 65536 - len as u64;
+    }
+    false
+}
+
+fn polls_fit(interval: u32, limit: u32) -> bool
+    ensures { λ r. ⌜ r ≡ pollsFit m95512 interval limit ⌝ }
+{
+    (1 <= interval) & (interval <= 5000) & (1 <= limit) & (limit <= 5001)
+}
+
+pub(crate) fn outcome(
+    core: Core,
+    size: usize,
+    address: u64,
+    len: usize,
+    interval: u32,
+    limit: u32,
+) -> Outcome
+    ensures { λ r. ⌜ r ≡ driveOutcome m95512 core size address len interval limit ⌝ }
+{
+    if size == 65536 {
+        if core.in_ranges() {
+            if run_fits(address, len) {
+                if polls_fit(interval, limit) {
+                    return Outcome::Done;
+                }
+                return Outcome::Refused(Refusal::PollRange);
+            }
+            return Outcome::Refused(Refusal::AddressRange);
+        }
+        return Outcome::Refused(Refusal::RecordRange);
+    }
+    Outcome::Refused(Refusal::MemoryLength)
+}

@@ -1,0 +1,74 @@
+// Frames sent through the quick model's public call: whole bytes, W high. A frame of these lengths, from a record inside its ranges, is not refused.
+ghost use mathlib.Core.Path.{_≡_};
+ghost use mathlib.Core.Bool.{true};
+ghost use Prim.Native.Nat.{_*_, _≤_, _<_};
+ghost use lib.ListN.{length};
+ghost use Rattle.chip.specs.Part.{m95512};
+ghost use Rattle.chip.specs.Ranges.{inRanges};
+ghost use Rattle.chip.specs.Records.{running, status};
+ghost use Rattle.frames.specs.After.{after};
+ghost use Rattle.driver.specs.Sequence.{writeBytes};
+use chip::Core;
+use chip::RDSR;
+use chip::WRITE;
+
+// The longest frame sent: the code, two address bytes and a page.
+const LONGEST: usize = 131;
+
+// What a poll sees, and the record that the frame hands back.
+pub(crate) struct Polled {
+    pub(crate) status: u8,
+    pub(crate) core: Core,
+}
+
+pub(crate) fn send(core: Core, memory: &[u8], bytes: &[u8]) -> Core
+    requires { ⌜ length (now memory) ≡ 65536 ⌝ }
+    requires { ⌜ inRanges m95512 core ≡ true ⌝ }
+    requires { ⌜ length (now bytes) ≤ 131 ⌝ }
+    ensures { λ r. ⌜ r ≡ after m95512 (running core) true core (now (bytes .entry)) (8 * length (now (bytes .entry))) ⌝ }
+{
+    let mut out = room();
+    let n = bytes.len();
+    let framed = frames::frame(core, memory, true, bytes, 8 * n, &mut out[0..n]);
+    framed.core
+}
+
+// RDSR, and the status byte that it shows.
+pub(crate) fn poll(core: Core, memory: &[u8]) -> Polled
+    requires { ⌜ length (now memory) ≡ 65536 ⌝ }
+    requires { ⌜ inRanges m95512 core ≡ true ⌝ }
+    ensures { λ r. ⌜ (r .status ≡ status core) × (r .core ≡ core) ⌝ }
+{
+    let bytes = [RDSR, 0];
+    let mut out = [0u8; 2];
+    let framed = frames::frame(core, memory, true, &bytes, 16, &mut out);
+    let next = framed.core;
+    Polled {
+        status: out[1],
+        core: next,
+    }
+}
+
+// Room for the longest frame.
+fn room() -> [u8; LONGEST]
+    ensures { λ r. ⌜ length r ≡ 131 ⌝ }
+{
+    [0; LONGEST]
+}
+
+// WRITE of a page part: the code, the address, high byte first, and the bytes.
+pub(crate) fn send_write(core: Core, memory: &[u8], address: usize, bytes: &[u8]) -> Core
+    requires { ⌜ length (now memory) ≡ 65536 ⌝ }
+    requires { ⌜ inRanges m95512 core ≡ true ⌝ }
+    requires { ⌜ address < 65536 ⌝ }
+    requires { ⌜ length (now bytes) ≤ 128 ⌝ }
+    ensures { λ r. ⌜ r ≡ after m95512 (running core) true core (writeBytes m95512 address (now (bytes .entry))) (8 * length (writeBytes m95512 address (now (bytes .entry)))) ⌝ }
+{
+    let mut frame = room();
+    let end = bytes.len() + 3;
+    frame[0] = WRITE;
+    frame[1] = (address / 256) as u8;
+    frame[2] = (address % 256) as u8;
+    bytes::copy(bytes, &mut frame[3..end]);
+    send(core, memory, &frame[0..end])
+}

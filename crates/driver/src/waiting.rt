@@ -1,0 +1,97 @@
+// A wait: polls until WIP is 0, at most as many as its limit.
+ghost use mathlib.Core.Path.{_≡_};
+ghost use mathlib.Core.Bool.{true};
+ghost use Prim.Native.Nat.{_+_, _≤_};
+ghost use lib.ListN.{length};
+ghost use Rattle.chip.specs.Part.{m95512};
+ghost use Rattle.chip.specs.Ranges.{inRanges};
+ghost use Rattle.chip.specs.Records.{status};
+ghost use Rattle.driver.specs.Sequence.{sent, device, through, latePoll, more, firstWait, pageWait};
+use crate::sending::Polled;
+use crate::sending::poll;
+use chip::Core;
+
+// What a wait saw last, the record after it, and the frames sent.
+pub(crate) struct Waited {
+    pub(crate) status: u8,
+    pub(crate) core: Core,
+    pub(crate) frames: u32,
+}
+
+impl Waited {
+    // Beside other frames.
+    pub(crate) fn and_sent(mut self, more: u32) -> Waited
+        requires { ⌜ self .frames + more ≤ 6000 ⌝ }
+        ensures { λ r. ⌜ r ≡ record { status = self .status; core = self .core; frames = self .frames + more } ⌝ }
+    {
+        self.frames += more;
+        self
+    }
+}
+
+// A poll after moving the clock by the interval. The counter wraps.
+fn late_poll(core: Core, memory: &mut [u8], interval: u32) -> Polled
+    requires { ⌜ length (now memory) ≡ 65536 ⌝ }
+    requires { ⌜ inRanges m95512 core ≡ true ⌝ }
+    ensures { λ r. ⌜ r .core ≡ through m95512 (latePoll interval) core (now (memory .entry)) .core ⌝ }
+    ensures { λ r. ⌜ r .status ≡ status (r .core) ⌝ }
+    ensures { λ _. ⌜ now (memory .exit) ≡ through m95512 (latePoll interval) core (now (memory .entry)) .memory ⌝ }
+{
+    let reading = std::num::wrapping_add_u32(core.last, interval);
+    let timed = chip::clock_reading(core, reading, memory);
+    let next = timed.core;
+    poll(next, memory)
+}
+
+// Polls while WIP is 1 and some are left.
+fn poll_on(seen: Polled, memory: &mut [u8], interval: u32, left: u32) -> Waited
+    requires { ⌜ length (now memory) ≡ 65536 ⌝ }
+    requires { ⌜ inRanges m95512 (seen .core) ≡ true ⌝ }
+    requires { ⌜ seen .status ≡ status (seen .core) ⌝ }
+    ensures { λ r. ⌜ r .core ≡ through m95512 (more m95512 interval left) (seen .core) (now (memory .entry)) .core ⌝ }
+    ensures { λ r. ⌜ r .status ≡ status (r .core) ⌝ }
+    ensures { λ r. ⌜ r .frames ≡ sent (more m95512 interval left (device (seen .core) (now (memory .entry)))) ⌝ }
+    ensures { λ _. ⌜ now (memory .exit) ≡ through m95512 (more m95512 interval left) (seen .core) (now (memory .entry)) .memory ⌝ }
+{
+    let mut polled = seen;
+    let mut polls: u32 = 0;
+    while (polls < left) & (polled.status & 1 == 1) {
+        polled = late_poll(polled.core, memory, interval);
+        polls += 1;
+    }
+    let status = polled.status;
+    let core = polled.core;
+    Waited {
+        status: status,
+        core: core,
+        frames: polls,
+    }
+}
+
+// The first wait: its first poll is made without moving the clock.
+pub(crate) fn first_wait(core: Core, memory: &mut [u8], interval: u32, limit: u32) -> Waited
+    requires { ⌜ length (now memory) ≡ 65536 ⌝ }
+    requires { ⌜ inRanges m95512 core ≡ true ⌝ }
+    requires { ⌜ (1 ≤ limit) × (limit ≤ 5001) ⌝ }
+    ensures { λ r. ⌜ r .core ≡ through m95512 (firstWait m95512 interval limit) core (now (memory .entry)) .core ⌝ }
+    ensures { λ r. ⌜ r .status ≡ status (r .core) ⌝ }
+    ensures { λ r. ⌜ r .frames ≡ sent (firstWait m95512 interval limit (device core (now (memory .entry)))) ⌝ }
+    ensures { λ _. ⌜ now (memory .exit) ≡ through m95512 (firstWait m95512 interval limit) core (now (memory .entry)) .memory ⌝ }
+{
+    let seen = poll(core, memory);
+    poll_on(seen, memory, interval, limit - 1).and_sent(1)
+}
+
+// The wait of a page: each poll after moving the clock.
+pub(crate) fn page_wait(core: Core, memory: &mut [u8], interval: u32, limit: u32) -> Waited
+    requires { ⌜ length (now memory) ≡ 65536 ⌝ }
+    requires { ⌜ inRanges m95512 core ≡ true ⌝ }
+    requires { ⌜ (1 ≤ limit) × (limit ≤ 5001) ⌝ }
+    ensures { λ r. ⌜ r .core ≡ through m95512 (pageWait m95512 interval limit) core (now (memory .entry)) .core ⌝ }
+    ensures { λ r. ⌜ r .status ≡ status (r .core) ⌝ }
+    ensures { λ r. ⌜ r .frames ≡ sent (pageWait m95512 interval limit (device core (now (memory .entry)))) ⌝ }
+    ensures { λ _. ⌜ now (memory .exit) ≡ through m95512 (pageWait m95512 interval limit) core (now (memory .entry)) .memory ⌝ }
+{
+    let seen = late_poll(core, memory, interval);
+    poll_on(seen, memory, interval, limit - 1).and_sent(1)
+}
