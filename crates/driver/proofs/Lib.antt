@@ -8,5 +8,10 @@ pub mod Seen
 pub mod Runs
 pub mod Drives
 pub mod Outcomes
+pub mod Polls
+pub mod Writing
+pub mod Stored
+pub mod Leaves
+pub mod Results
 pub mod Cases
 pub mod Ones
