@@ -6,14 +6,16 @@ use chip::power_up;
 use frames::frame;
 use libc::STDOUT_FILENO;
 
-fn say(what: &[u8], number: u32) {
+mod driven;
+
+pub(crate) fn say(what: &[u8], number: u32) {
     io::write_all(STDOUT_FILENO, what);
     io::write_all(STDOUT_FILENO, b"\t");
     io::print_decimal(STDOUT_FILENO, number as u64);
     io::write_all(STDOUT_FILENO, b"\n");
 }
 
-fn wide(byte: u8) -> u32 {
+pub(crate) fn wide(byte: u8) -> u32 {
     byte as u32
 }
 
@@ -253,4 +255,5 @@ fn main() {
     bad_count();
     bad_output();
     too_long();
+    driven::all();
 }

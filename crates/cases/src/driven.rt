@@ -1,0 +1,236 @@
+// Cases of the driver: g, h and l, a running cycle, a protected block in the middle of a run, and what is refused.
+use crate::say;
+use crate::wide;
+use chip::Core;
+use chip::power_up;
+
+// 300 bytes that differ at their ends.
+fn bytes_300() -> [u8; 300] {
+    let mut bytes = [0x55u8; 300];
+    bytes[0] = 0x11;
+    bytes[16] = 0x22;
+    bytes[299] = 0x33;
+    bytes
+}
+
+// A run: the number, pages done, frames sent, and the record that it leaves.
+fn run(
+    what: &[u8],
+    core: Core,
+    memory: &mut [u8],
+    address: u64,
+    bytes: &[u8],
+    interval: u32,
+    limit: u32,
+) -> Core {
+    let driven = driver::write(core, memory, address, bytes, interval, limit);
+    let answer = driven.answer;
+    let next = driven.core;
+    say(what, answer.number());
+    say(b"  pages done", answer.pages());
+    say(b"  frames sent", answer.frames());
+    say(b"  its status byte", wide(next.status()));
+    say(b"  time left", next.left);
+    say(b"  its last reading", next.last);
+    next
+}
+
+// 300 bytes from address 100 on, and the cells at their edges.
+fn run_300(what: &[u8], core: Core, interval: u32, limit: u32) {
+    let mut memory = io::large_buffer();
+    let bytes = bytes_300();
+    run(what, core, &mut memory, 100, &bytes, interval, limit);
+    say(b"  cell 100", wide(memory[100]));
+    say(b"  cell 101", wide(memory[101]));
+    say(b"  cell 399", wide(memory[399]));
+    say(b"  cell 400", wide(memory[400]));
+}
+
+fn whole_runs() {
+    let fresh = Core::delivered();
+    run_300(b"h: 300 bytes at 100, interval 1000", fresh, 1000, 5001);
+    run_300(b"h: interval 700", fresh, 700, 5001);
+    run_300(b"interval 1000, limit 5", fresh, 1000, 5);
+    run_300(b"l: interval 1000, limit 4", fresh, 1000, 4);
+    let late = power_up(5000, false, false, false, 4294967290).core;
+    run_300(b"the counter wraps", late, 5000, 1);
+}
+
+// A cycle of another page runs when the driver comes: 11h waits for cell 0.
+fn busy() -> Core {
+    let memory = io::large_buffer();
+    let mut out = [0u8; 4];
+    let enabled = Core::delivered().with_wel(1);
+    let framed = frames::frame(enabled, &memory, true, b"\x02\x00\x00\x11", 32, &mut out);
+    framed.core
+}
+
+fn running_cycle() {
+    run_300(b"a running cycle, interval 1000", busy(), 1000, 6);
+    run_300(b"a running cycle, limit 5", busy(), 1000, 5);
+}
+
+fn protected_block() {
+    let mut memory = io::large_buffer();
+    let upper = power_up(5000, false, false, true, 0).core;
+    let bytes = bytes_300();
+    run(
+        b"32 bytes at BFF0h, BP 01",
+        upper,
+        &mut memory,
+        0xbff0,
+        &bytes[0..32],
+        5000,
+        1,
+    );
+    say(b"  cell BFFFh", wide(memory[0xbfff]));
+    say(b"  cell C000h", wide(memory[0xc000]));
+}
+
+fn nothing_to_write() {
+    let mut memory = io::large_buffer();
+    let fresh = Core::delivered();
+    run(b"no data at 65536", fresh, &mut memory, 65536, b"", 1, 1);
+    run(
+        b"one byte at 65535",
+        fresh,
+        &mut memory,
+        65535,
+        b"\x77",
+        5000,
+        1,
+    );
+    say(b"  cell FFFFh", wide(memory[0xffff]));
+}
+
+fn refused(
+    what: &[u8],
+    core: Core,
+    memory: &mut [u8],
+    address: u64,
+    bytes: &[u8],
+    interval: u32,
+    limit: u32,
+) {
+    let answer = driver::write(core, memory, address, bytes, interval, limit).answer;
+    say(what, answer.number());
+}
+
+fn with_left() -> Core {
+    let mut core = Core::delivered();
+    core.left = 1;
+    core
+}
+
+// Refusals 1, 2, 7 and 8, also with no data, and the first in the order where several apply.
+fn bad_address() {
+    let mut memory = io::large_buffer();
+    let fresh = Core::delivered();
+    refused(
+        b"one byte at 65536",
+        fresh,
+        &mut memory,
+        65536,
+        b"\x77",
+        1,
+        1,
+    );
+    refused(b"no data at 65537", fresh, &mut memory, 65537, b"", 1, 1);
+    refused(
+        b"a sum past 2^64",
+        fresh,
+        &mut memory,
+        18446744073709551615,
+        b"\x77",
+        1,
+        1,
+    );
+    refused(
+        b"a sum past 2^32",
+        fresh,
+        &mut memory,
+        4294967295,
+        b"\x77",
+        1,
+        1,
+    );
+}
+
+fn bad_polls() {
+    let mut memory = io::large_buffer();
+    let fresh = Core::delivered();
+    refused(b"interval 0", fresh, &mut memory, 0, b"", 0, 1);
+    refused(b"interval 5001", fresh, &mut memory, 0, b"", 5001, 1);
+    refused(b"limit 0", fresh, &mut memory, 0, b"", 1, 0);
+    refused(b"limit 5002", fresh, &mut memory, 0, b"", 1, 5002);
+}
+
+fn bad_record() {
+    let mut memory = io::large_buffer();
+    let fresh = Core::delivered();
+    refused(
+        b"time left and nothing waiting",
+        with_left(),
+        &mut memory,
+        0,
+        b"",
+        1,
+        1,
+    );
+    refused(
+        b"that and all that follow",
+        with_left(),
+        &mut memory,
+        65536,
+        b"\x77",
+        0,
+        0,
+    );
+    refused(
+        b"address and interval",
+        fresh,
+        &mut memory,
+        65536,
+        b"\x77",
+        0,
+        0,
+    );
+}
+
+fn bad_memory() {
+    let mut memory = io::large_buffer();
+    refused(
+        b"a memory one short",
+        Core::delivered(),
+        &mut memory[0..65535],
+        0,
+        b"\x77",
+        1,
+        1,
+    );
+}
+
+fn all_at_once() {
+    let mut memory = io::large_buffer();
+    refused(
+        b"all at once",
+        with_left(),
+        &mut memory[0..65535],
+        65536,
+        b"\x77",
+        0,
+        0,
+    );
+}
+
+pub(crate) fn all() {
+    whole_runs();
+    running_cycle();
+    protected_block();
+    nothing_to_write();
+    bad_address();
+    bad_polls();
+    bad_record();
+    bad_memory();
+    all_at_once();
+}
