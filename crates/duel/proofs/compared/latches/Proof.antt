@@ -1,0 +1,86 @@
+-- The invariant: i is within the page.
+use borrow.Author.Needs.{needs}
+use Prim.Native.Nat.{_≤_, _-_}
+use Rattle.duel.proofs.compared.latches.Statement.{statement}
+use Rattle.duel.proofs.compared.latches.Tie as tie
+
+abbrev Inv-loop : tie.InvT-loop
+Inv-loop tally₀ quick slow i₀ t7 t8 tally i = i ≤ 128
+
+abbrev μ-loop : tie.MeasureT-loop
+μ-loop tally₀ quick slow i₀ t7 t8 tally i = 128 - i
+
+loop-holds : tie.Need-loop-holds Inv-loop μ-loop
+loop-holds c = search needs
+
+slice-aggregate-same-at : tie.Need-slice-aggregate-same-at Inv-loop μ-loop
+slice-aggregate-same-at c = search needs
+
+element-copy-out-wide : tie.Need-element-copy-out-wide Inv-loop μ-loop
+element-copy-out-wide c = search needs
+
+wide-requires : tie.Need-wide-requires Inv-loop μ-loop
+wide-requires c κs = search needs
+
+element-copy-out-wide-2 : tie.Need-element-copy-out-wide-2 Inv-loop μ-loop
+element-copy-out-wide-2 c = search needs
+
+wide-requires-2 : tie.Need-wide-requires-2 Inv-loop μ-loop
+wide-requires-2 c κs = search needs
+
+same-at-requires : tie.Need-same-at-requires Inv-loop μ-loop
+same-at-requires c κs = search needs
+
+slice-aggregate-same-at-2 : tie.Need-slice-aggregate-same-at-2 Inv-loop μ-loop
+slice-aggregate-same-at-2 c = search needs
+
+element-copy-out-wide-3 : tie.Need-element-copy-out-wide-3 Inv-loop μ-loop
+element-copy-out-wide-3 c = search needs
+
+wide-requires-3 : tie.Need-wide-requires-3 Inv-loop μ-loop
+wide-requires-3 c κs = search needs
+
+element-copy-out-wide-4 : tie.Need-element-copy-out-wide-4 Inv-loop μ-loop
+element-copy-out-wide-4 c = search needs
+
+wide-requires-4 : tie.Need-wide-requires-4 Inv-loop μ-loop
+wide-requires-4 c κs = search needs
+
+same-at-requires-2 : tie.Need-same-at-requires-2 Inv-loop μ-loop
+same-at-requires-2 c κs = search needs
+
+add-i : tie.Need-add-i Inv-loop μ-loop
+add-i c = search needs
+
+loop-less : tie.Need-loop-less Inv-loop μ-loop
+loop-less c = search needs
+
+loop-again : tie.Need-loop-again Inv-loop μ-loop
+loop-again c = search needs
+
+returns : tie.Need-returns Inv-loop μ-loop
+returns c = search needs
+
+pub latches-spec : {M : Type 1} → statement M
+latches-spec =
+    tie.close
+    (tie.spec
+    Inv-loop
+    μ-loop
+    loop-holds
+    slice-aggregate-same-at
+    element-copy-out-wide
+    wide-requires
+    element-copy-out-wide-2
+    wide-requires-2
+    same-at-requires
+    slice-aggregate-same-at-2
+    element-copy-out-wide-3
+    wide-requires-3
+    element-copy-out-wide-4
+    wide-requires-4
+    same-at-requires-2
+    add-i
+    loop-less
+    loop-again
+    returns)
