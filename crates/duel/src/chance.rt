@@ -1,5 +1,7 @@
-// Chance that is the same in every run: a xorshift generator, whose state the caller lends.
+// Chance that is the same in every run: a xorshift generator, whose state is among the run's numbers.
 ghost use Prim.Native.Nat.{_-_, _≤_};
+use crate::run::CHANCE;
+use crate::run::Run;
 
 fn turned(state: u64) -> u64 {
     let a = state ^ (state << 13);
@@ -8,25 +10,25 @@ fn turned(state: u64) -> u64 {
 }
 
 // A number below n; 0 for n = 0.
-pub fn below(chance: &mut u64, n: u64) -> u64
+pub fn below(n: u64, run: &mut Run) -> u64
     ensures { λ r. ⌜ r ≤ n - 1 ⌝ }
 {
-    let next = turned(*chance);
-    *chance = next;
+    let next = turned(run[CHANCE]);
+    run[CHANCE] = next;
     if n == 0 {
         return 0;
     }
     (next >> 11) % n
 }
 
-pub fn percent(chance: &mut u64, part: u64) -> bool {
-    below(chance, 100) < part
+pub fn percent(part: u64, run: &mut Run) -> bool {
+    below(100, run) < part
 }
 
-pub fn byte(chance: &mut u64) -> u8 {
-    below(chance, 256) as u8
+pub fn byte(run: &mut Run) -> u8 {
+    below(256, run) as u8
 }
 
-pub fn word(chance: &mut u64) -> u32 {
-    below(chance, 4294967296) as u32
+pub fn word(run: &mut Run) -> u32 {
+    below(4294967296, run) as u32
 }

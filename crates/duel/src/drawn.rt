@@ -5,12 +5,12 @@ use crate::chance::below;
 use crate::chance::percent;
 use crate::compared::bit_at;
 use crate::compared::clock;
-use crate::compared::wide32;
-use crate::tally::EVENTS;
-use crate::tally::PAUSES;
-use crate::tally::Tally;
-use crate::tally::add;
-use crate::tally::same;
+use crate::run::CHANGES;
+use crate::run::LIVELY;
+use crate::run::PAUSES;
+use crate::run::Run;
+use crate::run::count;
+use crate::run::same;
 use pins::Device;
 use pins::Stepped;
 
@@ -35,18 +35,12 @@ fn changed(device: Device, pin: u64, high: bool, memory: &Memory) -> Stepped {
 }
 
 // One pin change, which a device inside its ranges does not refuse.
-pub fn set(device: Device, pin: u64, high: bool, memory: &Memory, tally: &mut Tally) -> Device {
+pub fn set(device: Device, pin: u64, high: bool, memory: &Memory, run: &mut Run) -> Device {
     let stepped = changed(device, pin, high, memory);
     let outcome = stepped.outcome;
-    same(
-        b"number of a pin change",
-        0,
-        wide32(outcome.number()),
-        tally,
-    );
-    add(tally, EVENTS, 1);
-    let next = stepped.device;
-    next
+    same(b"number of a pin change", 0, outcome.number(), run);
+    count(CHANGES, run);
+    stepped.device
 }
 
 fn level(device: Device, pin: u64) -> bool {
@@ -60,97 +54,66 @@ fn level(device: Device, pin: u64) -> bool {
 }
 
 // A pin set to the level it has, or D, and C where it is free, to any.
-fn move_one(
-    device: Device,
-    free: bool,
-    memory: &Memory,
-    chance: &mut u64,
-    tally: &mut Tally,
-) -> Device {
-    let pin = below(chance, 5);
-    let high = percent(chance, 50);
-    if pin == D {
-        return set(device, D, high, memory, tally);
+fn move_one(device: Device, free: bool, memory: &Memory, run: &mut Run) -> Device {
+    let pin = below(5, run);
+    let high = percent(50, run);
+    if (pin == D) | (free & (pin == C)) {
+        return set(device, pin, high, memory, run);
     }
-    if free & (pin == C) {
-        return set(device, C, high, memory, tally);
-    }
-    let stays = level(device, pin);
-    set(device, pin, stays, memory, tally)
+    set(device, pin, level(device, pin), memory, run)
 }
 
-fn move_some(
-    device: Device,
-    free: bool,
-    moves: u64,
-    memory: &Memory,
-    chance: &mut u64,
-    tally: &mut Tally,
-) -> Device {
+fn move_some(device: Device, free: bool, moves: u64, memory: &Memory, run: &mut Run) -> Device {
     let mut next = device;
     let mut left = moves;
     while left > 0 {
-        next = move_one(next, free, memory, chance, tally);
+        next = move_one(next, free, memory, run);
         left -= 1;
     }
     next
 }
 
-// In so many of a hundred places, up to five moves.
-fn stray(
-    device: Device,
-    free: bool,
-    lively: u64,
-    memory: &Memory,
-    chance: &mut u64,
-    tally: &mut Tally,
-) -> Device {
-    if percent(chance, lively) {
-        let moves = below(chance, 6);
-        return move_some(device, free, moves, memory, chance, tally);
+// Here and there, up to five moves.
+fn stray(device: Device, free: bool, memory: &Memory, run: &mut Run) -> Device {
+    if percent(run[LIVELY], run) {
+        return move_some(device, free, below(6, run), memory, run);
     }
     device
 }
 
-// In so many of a hundred places, a pause.
-fn pause(
-    device: Device,
-    lively: u64,
-    memory: &Memory,
-    chance: &mut u64,
-    tally: &mut Tally,
-) -> Device {
-    if percent(chance, lively) {
-        add(tally, PAUSES, 1);
-        let begun = set(device, HOLD, false, memory, tally);
-        let moves = below(chance, 9);
-        let moved = move_some(begun, true, moves, memory, chance, tally);
-        let low = set(moved, C, false, memory, tally);
-        return set(low, HOLD, true, memory, tally);
+// Here and there, a pause.
+fn pause(device: Device, memory: &Memory, run: &mut Run) -> Device {
+    if percent(run[LIVELY], run) {
+        count(PAUSES, run);
+        let begun = set(device, HOLD, false, memory, run);
+        let moved = move_some(begun, true, below(9, run), memory, run);
+        let low = set(moved, C, false, memory, run);
+        return set(low, HOLD, true, memory, run);
     }
     device
 }
 
-// One bit: C low, D at the bit, Q compared, C high.
+// C low, with room for a pause, then D at the bit.
+fn ready(device: Device, high: bool, memory: &Memory, run: &mut Run) -> Device {
+    let low = set(device, C, false, memory, run);
+    let strayed = stray(low, false, memory, run);
+    let rested = pause(strayed, memory, run);
+    set(rested, D, high, memory, run)
+}
+
+// Bit k: Q is compared just before C rises.
 fn draw_bit(
     device: Device,
     bytes: &[u8],
     out: &[u8],
     k: usize,
-    undriven: usize,
-    lively: u64,
     memory: &Memory,
-    chance: &mut u64,
-    tally: &mut Tally,
+    run: &mut Run,
 ) -> Device {
-    let low = set(device, C, false, memory, tally);
-    let strayed = stray(low, false, lively, memory, chance, tally);
-    let rested = pause(strayed, lively, memory, chance, tally);
-    let high = bit_at(bytes, k) == 1;
-    let ready = set(rested, D, high, memory, tally);
-    clock(ready, out, k, undriven, tally);
-    let risen = set(ready, C, true, memory, tally);
-    stray(risen, false, lively, memory, chance, tally)
+    let low = ready(device, bit_at(bytes, k) == 1, memory, run);
+    clock(low.q().value(), bit_at(out, k), k, run);
+    let risen = set(low, C, true, memory, run);
+    stray(risen, false, memory, run)
 }
 
 fn draw_bits(
@@ -158,50 +121,33 @@ fn draw_bits(
     bytes: &[u8],
     out: &[u8],
     bits: usize,
-    undriven: usize,
-    lively: u64,
     memory: &Memory,
-    chance: &mut u64,
-    tally: &mut Tally,
+    run: &mut Run,
 ) -> Device {
     let mut next = device;
     let mut k: usize = 0;
     while k < bits {
-        next = draw_bit(next, bytes, out, k, undriven, lively, memory, chance, tally);
+        next = draw_bit(next, bytes, out, k, memory, run);
         k += 1;
     }
     next
 }
 
 // C free between frames, then at the mode's rest, and S low.
-fn select(
-    device: Device,
-    mode3: bool,
-    lively: u64,
-    memory: &Memory,
-    chance: &mut u64,
-    tally: &mut Tally,
-) -> Device {
-    let strayed = stray(device, true, lively, memory, chance, tally);
-    let resting = set(strayed, C, mode3, memory, tally);
-    set(resting, S, false, memory, tally)
+fn select(device: Device, mode3: bool, memory: &Memory, run: &mut Run) -> Device {
+    let strayed = stray(device, true, memory, run);
+    let resting = set(strayed, C, mode3, memory, run);
+    set(resting, S, false, memory, run)
 }
 
 // C at the mode's rest, and S high; in mode 0 there is room for a last pause.
-fn deselect(
-    device: Device,
-    mode3: bool,
-    lively: u64,
-    memory: &Memory,
-    chance: &mut u64,
-    tally: &mut Tally,
-) -> Device {
+fn deselect(device: Device, mode3: bool, memory: &Memory, run: &mut Run) -> Device {
     if mode3 {
-        return set(device, S, true, memory, tally);
+        return set(device, S, true, memory, run);
     }
-    let low = set(device, C, false, memory, tally);
-    let rested = pause(low, lively, memory, chance, tally);
-    set(rested, S, true, memory, tally)
+    let low = set(device, C, false, memory, run);
+    let rested = pause(low, memory, run);
+    set(rested, S, true, memory, run)
 }
 
 // The whole frame, from a device that is not selected to one that is not selected.
@@ -210,24 +156,11 @@ pub fn draw(
     bytes: &[u8],
     out: &[u8],
     bits: usize,
-    undriven: usize,
     mode3: bool,
-    lively: u64,
     memory: &Memory,
-    chance: &mut u64,
-    tally: &mut Tally,
+    run: &mut Run,
 ) -> Device {
-    let begun = select(device, mode3, lively, memory, chance, tally);
-    let clocked = draw_bits(
-        begun,
-        bytes,
-        out,
-        bits,
-        undriven,
-        lively,
-        memory,
-        chance,
-        tally,
-    );
-    deselect(clocked, mode3, lively, memory, chance, tally)
+    let begun = select(device, mode3, memory, run);
+    let clocked = draw_bits(begun, bytes, out, bits, memory, run);
+    deselect(clocked, mode3, memory, run)
 }

@@ -7,13 +7,12 @@ use crate::cells::fill;
 use crate::cells::memories;
 use crate::chance::percent;
 use crate::rounds::Pair;
+use crate::rounds::act;
 use crate::rounds::powered;
-use crate::rounds::step;
-use crate::tally::ACTS;
-use crate::tally::DIFFERENCES;
-use crate::tally::ROUNDS;
-use crate::tally::Tally;
-use crate::tally::add;
+use crate::run::DIFFERENCES;
+use crate::run::ROUNDS;
+use crate::run::Run;
+use crate::run::count;
 
 mod cells;
 mod chance;
@@ -21,61 +20,36 @@ mod compared;
 mod drawn;
 mod made;
 mod rounds;
-mod tally;
+mod run;
 
-// Random acts one after another; none after a difference.
-fn acts(
-    start: Pair,
-    quick: &mut Memory,
-    slow: &mut Memory,
-    bytes: &mut Memory,
-    out: &mut Memory,
-    chance: &mut u64,
-    tally: &mut Tally,
-) {
+// Acts one after another.
+fn acts(start: Pair, quick: &mut Memory, slow: &mut Memory, run: &mut Run) {
     let mut pair = start;
     let mut left: u64 = 48;
     while left > 0 {
-        if tally[DIFFERENCES] == 0 {
-            add(tally, ACTS, 1);
-            pair = step(pair, quick, slow, bytes, out, chance, tally);
-        }
+        pair = act(pair, quick, slow, run);
         left -= 1;
     }
 }
 
-// A round: one start for both models, then its acts, then the whole memories.
-fn round(
-    quick: &mut Memory,
-    slow: &mut Memory,
-    bytes: &mut Memory,
-    out: &mut Memory,
-    chance: &mut u64,
-    tally: &mut Tally,
-) {
-    let patterned = percent(chance, 75);
+// A round: one start for both models, then its acts, then the whole memories. None after a difference.
+fn round(quick: &mut Memory, slow: &mut Memory, run: &mut Run) {
+    if run[DIFFERENCES] > 0 {
+        return;
+    }
+    count(ROUNDS, run);
+    let patterned = percent(75, run);
     fill(quick, patterned);
     fill(slow, patterned);
-    let start = powered(chance, tally);
-    acts(start, quick, slow, bytes, out, chance, tally);
-    memories(quick, slow, tally);
-    changed(quick, patterned, tally);
+    acts(powered(run), quick, slow, run);
+    memories(quick, slow, run);
+    changed(quick, patterned, run);
 }
 
-fn duel(
-    quick: &mut Memory,
-    slow: &mut Memory,
-    bytes: &mut Memory,
-    out: &mut Memory,
-    tally: &mut Tally,
-) {
-    let mut chance: u64 = 0x9e3779b97f4a7c15;
+fn duel(quick: &mut Memory, slow: &mut Memory, run: &mut Run) {
     let mut left: u64 = 160;
     while left > 0 {
-        if tally[DIFFERENCES] == 0 {
-            add(tally, ROUNDS, 1);
-            round(quick, slow, bytes, out, &mut chance, tally);
-        }
+        round(quick, slow, run);
         left -= 1;
     }
 }
@@ -83,9 +57,7 @@ fn duel(
 fn main() {
     let mut quick = io::large_buffer();
     let mut slow = io::large_buffer();
-    let mut bytes = io::large_buffer();
-    let mut out = io::large_buffer();
-    let mut tally = tally::none();
-    duel(&mut quick, &mut slow, &mut bytes, &mut out, &mut tally);
-    tally::summary(&tally);
+    let mut run = run::begun();
+    duel(&mut quick, &mut slow, &mut run);
+    run::summary(&run);
 }

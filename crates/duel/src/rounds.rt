@@ -1,4 +1,5 @@
-// A round: one start for both models, then one act after another on both, each compared.
+// A round's acts: each is made on both models, and then they are compared.
+ghost use Prim.Native.Nat.{_≤_};
 use crate::cells::Memory;
 use crate::cells::memories;
 use crate::chance::below;
@@ -6,27 +7,32 @@ use crate::chance::percent;
 use crate::chance::word;
 use crate::compared::padding;
 use crate::compared::records;
-use crate::compared::wide32;
 use crate::drawn::W;
 use crate::drawn::draw;
 use crate::drawn::set;
 use crate::made;
-use crate::tally::ENDED;
-use crate::tally::FRAMES;
-use crate::tally::LEVELS;
-use crate::tally::LONG;
-use crate::tally::MODE_3;
-use crate::tally::PARTIAL;
-use crate::tally::READINGS;
-use crate::tally::STATUSES;
-use crate::tally::Tally;
-use crate::tally::WRITES;
-use crate::tally::add;
-use crate::tally::same;
+use crate::run::ACTS;
+use crate::run::DIFFERENCES;
+use crate::run::ENDED;
+use crate::run::FRAMES;
+use crate::run::LEVELS;
+use crate::run::LIVELY;
+use crate::run::LONG;
+use crate::run::MODE_3;
+use crate::run::PAGES;
+use crate::run::PARTIAL;
+use crate::run::READINGS;
+use crate::run::Run;
+use crate::run::STATUSES;
+use crate::run::UNDRIVEN;
+use crate::run::count;
+use crate::run::same;
 use chip::Core;
+use chip::Timed;
 use frames::Framed;
 use frames::frame;
 use pins::Device;
+use pins::Stepped;
 
 // Both models: the quick one's record with its level of W, the slow one's device.
 pub struct Pair {
@@ -35,42 +41,29 @@ pub struct Pair {
     pub device: Device,
 }
 
-// A cycle length, often one of the shortest or the longest.
-fn cycle(chance: &mut u64) -> u32 {
-    let r = below(chance, 10);
-    if r == 0 {
-        return 1;
-    }
-    if r == 1 {
-        return 5000;
-    }
-    (1 + below(chance, 5000)) as u32
-}
+// ---- the start
 
-fn same_numbers(quick: chip::Outcome, slow: chip::Outcome, tally: &mut Tally) {
-    same(
-        b"number of an answer",
-        wide32(quick.number()),
-        wide32(slow.number()),
-        tally,
-    );
+// A cycle length: any, often the shortest or the longest.
+fn cycle(run: &mut Run) -> u32 {
+    let r = below(10, run);
+    let any = 1 + below(5000, run);
+    match r {
+        0 => 1,
+        1 => 5000,
+        _ => any as u32,
+    }
 }
 
 // Both powered up alike.
-pub fn powered(chance: &mut u64, tally: &mut Tally) -> Pair {
-    let cycle = cycle(chance);
-    let srwd = percent(chance, 30);
-    let bp1 = percent(chance, 20);
-    let bp0 = percent(chance, 30);
-    let reading = word(chance);
-    let quick = chip::power_up(cycle, srwd, bp1, bp0, reading);
-    let slow = pins::power_up(cycle, srwd, bp1, bp0, reading);
-    let a = quick.outcome;
-    let b = slow.outcome;
-    same_numbers(a, b, tally);
-    let core = quick.core;
-    let device = slow.device;
-    records(core, device, tally);
+pub fn powered(run: &mut Run) -> Pair {
+    let cycle = cycle(run);
+    let srwd = percent(30, run);
+    let bp1 = percent(20, run);
+    let bp0 = percent(30, run);
+    let reading = word(run);
+    let core = chip::power_up(cycle, srwd, bp1, bp0, reading).core;
+    let device = pins::power_up(cycle, srwd, bp1, bp0, reading).device;
+    records(core, device, run);
     Pair {
         core: core,
         w: true,
@@ -78,116 +71,119 @@ pub fn powered(chance: &mut u64, tally: &mut Tally) -> Pair {
     }
 }
 
-// How far the clock goes: mostly a part of a cycle, often to the end of the one that runs or just short of it, sometimes round.
-fn passing(cycle: u32, left: u32, chance: &mut u64) -> u32 {
-    let r = below(chance, 100);
-    if r < 45 {
-        return word(chance) % (cycle / 2 + 1);
+// ---- clock readings
+
+// How far the clock goes: a part of a cycle, to the end of the one that runs or half of the way, a whole one, one reading back, or anywhere.
+fn passing(cycle: u32, left: u32, run: &mut Run) -> u32 {
+    let r = below(100, run);
+    let any = word(run);
+    match r {
+        0..=44 => any % (cycle / 2 + 1),
+        45..=74 => left,
+        75..=82 => left / 2,
+        83..=91 => cycle,
+        92..=95 => 4294967295,
+        _ => any,
     }
-    if r < 75 {
-        return left;
+}
+
+// The answers to one reading.
+fn met(quick: Timed, slow: Stepped, w: bool, run: &mut Run) -> Pair {
+    let core = quick.core;
+    let device = slow.device;
+    let a = quick.outcome;
+    let b = slow.outcome;
+    same(b"number of a reading", a.number(), b.number(), run);
+    records(core, device, run);
+    Pair {
+        core: core,
+        w: w,
+        device: device,
     }
-    if r < 83 {
-        return left / 2;
-    }
-    if r < 92 {
-        return cycle;
-    }
-    if r < 96 {
-        return 4294967295;
-    }
-    word(chance)
+}
+
+fn pass(pair: Pair, reading: u32, quick: &mut Memory, slow: &mut Memory, run: &mut Run) -> Pair {
+    let timed = chip::clock_reading(pair.core, reading, quick);
+    let stepped = pair.device.read_clock(reading, slow);
+    met(timed, stepped, pair.w, run)
 }
 
 // A clock reading for both; where it ends a cycle the memories are compared whole.
-fn read(
-    pair: Pair,
-    quick: &mut Memory,
-    slow: &mut Memory,
-    chance: &mut u64,
-    tally: &mut Tally,
-) -> Pair {
+fn read(pair: Pair, quick: &mut Memory, slow: &mut Memory, run: &mut Run) -> Pair {
     let core = pair.core;
-    let device = pair.device;
-    let reading = std::num::wrapping_add_u32(core.last, passing(core.cycle, core.left, chance));
-    let timed = chip::clock_reading(core, reading, quick);
-    let stepped = device.read_clock(reading, slow);
-    let next = timed.core;
-    let moved = stepped.device;
-    let a = timed.outcome;
-    let b = stepped.outcome;
-    same_numbers(a, b, tally);
-    records(next, moved, tally);
-    add(tally, READINGS, 1);
-    if core.left > next.left {
-        if next.left == 0 {
-            add(tally, ENDED, 1);
-            memories(quick, slow, tally);
-        }
+    let reading = std::num::wrapping_add_u32(core.last, passing(core.cycle, core.left, run));
+    let next = pass(pair, reading, quick, slow, run);
+    count(READINGS, run);
+    if (core.left > 0) & (next.core.left == 0) {
+        count(ENDED, run);
+        memories(quick, slow, run);
     }
-    Pair {
-        core: next,
-        w: pair.w,
-        device: moved,
-    }
+    next
 }
 
-// A level of W for both.
-fn protect(pair: Pair, slow: &Memory, chance: &mut u64, tally: &mut Tally) -> Pair {
+// ---- levels of W
+
+fn protect(pair: Pair, slow: &mut Memory, run: &mut Run) -> Pair {
+    let high = percent(60, run);
+    count(LEVELS, run);
     let core = pair.core;
-    let device = pair.device;
-    let high = percent(chance, 60);
-    let moved = set(device, W, high, slow, tally);
-    add(tally, LEVELS, 1);
     Pair {
         core: core,
         w: high,
-        device: moved,
+        device: set(pair.device, W, high, slow, run),
     }
 }
 
-fn count_frame(bits: usize, mode3: bool, tally: &mut Tally) {
-    add(tally, FRAMES, 1);
+// ---- frames
+
+fn count_frame(bits: usize, mode3: bool, run: &mut Run) {
+    count(FRAMES, run);
     if mode3 {
-        add(tally, MODE_3, 1);
+        count(MODE_3, run);
     }
     if bits % 8 != 0 {
-        add(tally, PARTIAL, 1);
+        count(PARTIAL, run);
     }
     if bits > 1048 {
-        add(tally, LONG, 1);
+        count(LONG, run);
     }
 }
 
-fn count_begun(before: Core, after: Core, tally: &mut Tally) {
+fn count_begun(before: Core, after: Core, run: &mut Run) {
     let kind = after.waits.kind;
     if before.left > 0 {
         return;
     }
     if kind == 2 {
-        add(tally, WRITES, 1);
+        count(PAGES, run);
     }
     if kind == 1 {
-        add(tally, STATUSES, 1);
+        count(STATUSES, run);
     }
 }
 
-// How often pin changes stray: in half of the frames never.
-fn liveliness(bits: usize, chance: &mut u64) -> u64 {
+// In how many of a hundred places pin changes stray: in half of the frames none.
+fn liveliness(bits: usize, run: &mut Run) -> u64 {
+    let r = below(60, run);
     if bits > 1600 {
-        return below(chance, 3);
+        return r % 3;
     }
-    if percent(chance, 50) {
-        return 0;
-    }
-    below(chance, 30)
+    if r < 30 { 0 } else { r - 30 }
+}
+
+// The numbers of the frame in hand.
+fn begin(bits: usize, mode3: bool, undriven: usize, run: &mut Run) {
+    let lively = liveliness(bits, run);
+    run[LIVELY] = lively;
+    run[UNDRIVEN] = undriven as u64;
+    count_frame(bits, mode3, run);
 }
 
 // The quick model's answer to the first n bytes; bytes or an output too few are refused.
 fn ask(
     core: Core,
-    quick: &Memory,
     w: bool,
+    quick: &Memory,
     bytes: &[u8],
     n: usize,
     bits: usize,
@@ -202,7 +198,7 @@ fn ask(
     frame(core, quick, w, &bytes[..n], bits, &mut out[..n])
 }
 
-// The slow model's frame, with the quick model's answer and output, which are compared with Q at each counted clock.
+// The slow model's frame against the quick model's answer and output.
 fn meet(
     pair: Pair,
     framed: Framed,
@@ -210,77 +206,72 @@ fn meet(
     bytes: &[u8],
     bits: usize,
     out: &[u8],
-    chance: &mut u64,
-    tally: &mut Tally,
+    run: &mut Run,
 ) -> Pair {
-    let device = pair.device;
-    let w = pair.w;
     let answer = framed.answer;
     let core = framed.core;
-    let mode3 = percent(chance, 50);
-    let lively = liveliness(bits, chance);
-    same(b"number of a frame", wide32(answer.number()), 0, tally);
-    padding(out, bits, tally);
-    count_frame(bits, mode3, tally);
-    let undriven = answer.undriven();
-    let moved = draw(
-        device,
-        bytes,
-        out,
-        bits,
-        undriven,
-        mode3,
-        lively,
-        slow,
-        chance,
-        tally,
-    );
-    records(core, moved, tally);
+    let mode3 = percent(50, run);
+    same(b"number of a frame", answer.number(), 0, run);
+    begin(bits, mode3, answer.undriven(), run);
+    padding(out, bits, run);
+    let device = draw(pair.device, bytes, out, bits, mode3, slow, run);
+    records(core, device, run);
     Pair {
         core: core,
-        w: w,
-        device: moved,
+        w: pair.w,
+        device: device,
     }
 }
 
-// A random frame for both.
-fn send(
+// A frame of n bytes for both.
+fn send_bytes(
     pair: Pair,
     quick: &Memory,
     slow: &Memory,
-    bytes: &mut Memory,
+    bytes: &Memory,
+    n: usize,
     out: &mut Memory,
-    chance: &mut u64,
-    tally: &mut Tally,
-) -> Pair {
+    run: &mut Run,
+) -> Pair
+    requires { ⌜ n ≤ 65536 ⌝ }
+{
     let core = pair.core;
-    let code = made::code(core.wel == 1, chance);
-    let n = made::length(code, chance) as usize;
-    let bits = made::bits(n, chance);
-    made::compose(code, bytes, n, chance);
-    let framed = ask(core, quick, pair.w, bytes, n, bits, out);
+    let bits = made::bits(n, run);
+    let framed = ask(core, pair.w, quick, bytes, n, bits, out);
     let next = framed.core;
-    count_begun(core, next, tally);
-    meet(pair, framed, slow, bytes, bits, out, chance, tally)
+    count_begun(core, next, run);
+    meet(pair, framed, slow, bytes, bits, out, run)
 }
 
-// One act: where a cycle runs, every second is a clock reading.
-pub fn step(
-    pair: Pair,
-    quick: &mut Memory,
-    slow: &mut Memory,
-    bytes: &mut Memory,
-    out: &mut Memory,
-    chance: &mut u64,
-    tally: &mut Tally,
-) -> Pair {
-    let core = pair.core;
-    let readings = if core.left > 0 { 50 } else { 10 };
-    if percent(chance, readings) {
-        return read(pair, quick, slow, chance, tally);
+// A random frame.
+fn send(pair: Pair, quick: &mut Memory, slow: &mut Memory, run: &mut Run) -> Pair {
+    let mut bytes = io::large_buffer();
+    let mut out = io::large_buffer();
+    let n = made::compose(pair.core.wel == 1, &mut bytes, run);
+    send_bytes(pair, quick, slow, &bytes, n, &mut out, run)
+}
+
+// What comes next: a clock reading, every second time where a cycle runs; seldom a level of W; else a frame. Nothing after a difference.
+fn kind(running: bool, run: &mut Run) -> u64 {
+    if run[DIFFERENCES] > 0 {
+        return 3;
     }
-    if percent(chance, 6) {
-        return protect(pair, slow, chance, tally);
+    count(ACTS, run);
+    let r = below(100, run);
+    if r < 10 {
+        return 0;
     }
-    send(pair, quick, slow, bytes, out, chance, tally)
+    if running & (r < 50) {
+        return 0;
+    }
+    if r < 95 { 2 } else { 1 }
+}
+
+pub fn act(pair: Pair, quick: &mut Memory, slow: &mut Memory, run: &mut Run) -> Pair {
+    match kind(pair.core.left > 0, run) {
+        0 => read(pair, quick, slow, run),
+        1 => protect(pair, slow, run),
+        2 => send(pair, quick, slow, run),
+        _ => pair,
+    }
 }

@@ -4,22 +4,16 @@ use Rattle.duel.proofs.acts.Statement.{statement}
 use Rattle.duel.proofs.acts.Tie as tie
 
 abbrev Inv-loop : tie.InvT-loop
-Inv-loop quick₀ slow₀ bytes₀ out₀ chance₀ tally₀ pair₀ left₀ quick slow bytes out chance tally pair left = Unit {0}
+Inv-loop quick₀ slow₀ run₀ pair₀ left₀ quick slow run pair left = Unit {0}
 
 abbrev μ-loop : tie.MeasureT-loop
-μ-loop quick₀ slow₀ bytes₀ out₀ chance₀ tally₀ pair₀ left₀ quick slow bytes out chance tally pair left = left
+μ-loop quick₀ slow₀ run₀ pair₀ left₀ quick slow run pair left = left
 
 loop-holds : tie.Need-loop-holds Inv-loop μ-loop
 loop-holds c = search needs
 
-element-copy-out-if1 : tie.Need-element-copy-out-if1 Inv-loop μ-loop
-element-copy-out-if1 c = search needs
-
-add-requires : tie.Need-add-requires Inv-loop μ-loop
-add-requires c κs = search needs
-
-step-requires : tie.Need-step-requires Inv-loop μ-loop
-step-requires c κs = search needs
+act-requires : tie.Need-act-requires Inv-loop μ-loop
+act-requires c κs = search needs
 
 sub-left : tie.Need-sub-left Inv-loop μ-loop
 sub-left c = search needs
@@ -36,14 +30,4 @@ returns c = search needs
 pub acts-spec : {M : Type 1} → statement M
 acts-spec =
     tie.close
-    (tie.spec
-    Inv-loop
-    μ-loop
-    loop-holds
-    element-copy-out-if1
-    add-requires
-    step-requires
-    sub-left
-    loop-less
-    loop-again
-    returns)
+    (tie.spec Inv-loop μ-loop loop-holds act-requires sub-left loop-less loop-again returns)

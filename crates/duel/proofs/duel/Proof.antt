@@ -4,19 +4,13 @@ use Rattle.duel.proofs.duel.Statement.{statement}
 use Rattle.duel.proofs.duel.Tie as tie
 
 abbrev Inv-loop : tie.InvT-loop
-Inv-loop quick₀ slow₀ bytes₀ out₀ tally₀ chance₀ left₀ quick slow bytes out tally chance left = Unit {0}
+Inv-loop quick₀ slow₀ run₀ left₀ quick slow run left = Unit {0}
 
 abbrev μ-loop : tie.MeasureT-loop
-μ-loop quick₀ slow₀ bytes₀ out₀ tally₀ chance₀ left₀ quick slow bytes out tally chance left = left
+μ-loop quick₀ slow₀ run₀ left₀ quick slow run left = left
 
 loop-holds : tie.Need-loop-holds Inv-loop μ-loop
 loop-holds c = search needs
-
-element-copy-out-if1 : tie.Need-element-copy-out-if1 Inv-loop μ-loop
-element-copy-out-if1 c = search needs
-
-add-requires : tie.Need-add-requires Inv-loop μ-loop
-add-requires c κs = search needs
 
 round-requires : tie.Need-round-requires Inv-loop μ-loop
 round-requires c κs = search needs
@@ -36,14 +30,4 @@ returns c = search needs
 pub duel-spec : {M : Type 1} → statement M
 duel-spec =
     tie.close
-    (tie.spec
-    Inv-loop
-    μ-loop
-    loop-holds
-    element-copy-out-if1
-    add-requires
-    round-requires
-    sub-left
-    loop-less
-    loop-again
-    returns)
+    (tie.spec Inv-loop μ-loop loop-holds round-requires sub-left loop-less loop-again returns)

@@ -5,10 +5,10 @@ use Rattle.duel.proofs.cells.changed.Statement.{statement}
 use Rattle.duel.proofs.cells.changed.Tie as tie
 
 abbrev Inv-loop : tie.InvT-loop
-Inv-loop memory patterned tally₀ i₀ tally i = i ≤ 65536
+Inv-loop memory patterned run₀ i₀ run i = i ≤ 65536
 
 abbrev μ-loop : tie.MeasureT-loop
-μ-loop memory patterned tally₀ i₀ tally i = 65536 - i
+μ-loop memory patterned run₀ i₀ run i = 65536 - i
 
 loop-holds : tie.Need-loop-holds Inv-loop μ-loop
 loop-holds c = search needs
@@ -19,8 +19,8 @@ element-copy-out-if1 c = search needs
 filling-requires : tie.Need-filling-requires Inv-loop μ-loop
 filling-requires c κs = search needs
 
-add-requires : tie.Need-add-requires Inv-loop μ-loop
-add-requires c κs = search needs
+count-requires : tie.Need-count-requires Inv-loop μ-loop
+count-requires c κs = search needs
 
 add-i : tie.Need-add-i Inv-loop μ-loop
 add-i c = search needs
@@ -43,7 +43,7 @@ changed-spec =
     loop-holds
     element-copy-out-if1
     filling-requires
-    add-requires
+    count-requires
     add-i
     loop-less
     loop-again

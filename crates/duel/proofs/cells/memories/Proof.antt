@@ -5,10 +5,10 @@ use Rattle.duel.proofs.cells.memories.Statement.{statement}
 use Rattle.duel.proofs.cells.memories.Tie as tie
 
 abbrev Inv-loop : tie.InvT-loop
-Inv-loop quick slow tally₀ i₀ t5 tally i = i ≤ 65536
+Inv-loop quick slow run₀ i₀ t5 run i = i ≤ 65536
 
 abbrev μ-loop : tie.MeasureT-loop
-μ-loop quick slow tally₀ i₀ t5 tally i = 65536 - i
+μ-loop quick slow run₀ i₀ t5 run i = 65536 - i
 
 loop-holds : tie.Need-loop-holds Inv-loop μ-loop
 loop-holds c = search needs
@@ -16,17 +16,11 @@ loop-holds c = search needs
 slice-aggregate-same-at : tie.Need-slice-aggregate-same-at Inv-loop μ-loop
 slice-aggregate-same-at c = search needs
 
-element-copy-out-wide : tie.Need-element-copy-out-wide Inv-loop μ-loop
-element-copy-out-wide c = search needs
+element-copy-out-same-at : tie.Need-element-copy-out-same-at Inv-loop μ-loop
+element-copy-out-same-at c = search needs
 
-wide-requires : tie.Need-wide-requires Inv-loop μ-loop
-wide-requires c κs = search needs
-
-element-copy-out-wide-2 : tie.Need-element-copy-out-wide-2 Inv-loop μ-loop
-element-copy-out-wide-2 c = search needs
-
-wide-requires-2 : tie.Need-wide-requires-2 Inv-loop μ-loop
-wide-requires-2 c κs = search needs
+element-copy-out-same-at-2 : tie.Need-element-copy-out-same-at-2 Inv-loop μ-loop
+element-copy-out-same-at-2 c = search needs
 
 same-at-requires : tie.Need-same-at-requires Inv-loop μ-loop
 same-at-requires c κs = search needs
@@ -51,10 +45,8 @@ memories-spec =
     μ-loop
     loop-holds
     slice-aggregate-same-at
-    element-copy-out-wide
-    wide-requires
-    element-copy-out-wide-2
-    wide-requires-2
+    element-copy-out-same-at
+    element-copy-out-same-at-2
     same-at-requires
     add-i
     loop-less

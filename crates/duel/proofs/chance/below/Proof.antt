@@ -9,8 +9,14 @@ use Rattle.duel.proofs.chance.below.Tie as tie
 remainder : (x n : ℕ) → 0 < n → x % n ≤ n - 1
 remainder x n h = let l : x % n < n = mod-lt x h in omega arith
 
+element-copy-out-turned : tie.Need-element-copy-out-turned
+element-copy-out-turned c = search needs
+
 turned-requires : tie.Need-turned-requires
 turned-requires c κs = search needs
+
+element-write-run : tie.Need-element-write-run
+element-write-run c = search needs
 
 returns : tie.Need-returns
 returns c = search needs
@@ -22,4 +28,12 @@ returns-2 : tie.Need-returns-2
 returns-2 c = remainder _ _ (search needs)
 
 pub below-spec : {M : Type 1} → statement M
-below-spec = tie.close (tie.spec turned-requires returns rem-result returns-2)
+below-spec =
+    tie.close
+    (tie.spec
+    element-copy-out-turned
+    turned-requires
+    element-write-run
+    returns
+    rem-result
+    returns-2)

@@ -5,10 +5,10 @@ use Rattle.duel.proofs.compared.latches.Statement.{statement}
 use Rattle.duel.proofs.compared.latches.Tie as tie
 
 abbrev Inv-loop : tie.InvT-loop
-Inv-loop tally₀ quick slow i₀ t7 t8 tally i = i ≤ 128
+Inv-loop run₀ quick slow i₀ t7 t8 run i = i ≤ 128
 
 abbrev μ-loop : tie.MeasureT-loop
-μ-loop tally₀ quick slow i₀ t7 t8 tally i = 128 - i
+μ-loop run₀ quick slow i₀ t7 t8 run i = 128 - i
 
 loop-holds : tie.Need-loop-holds Inv-loop μ-loop
 loop-holds c = search needs
@@ -16,17 +16,11 @@ loop-holds c = search needs
 slice-aggregate-same-at : tie.Need-slice-aggregate-same-at Inv-loop μ-loop
 slice-aggregate-same-at c = search needs
 
-element-copy-out-wide : tie.Need-element-copy-out-wide Inv-loop μ-loop
-element-copy-out-wide c = search needs
+element-copy-out-same-at : tie.Need-element-copy-out-same-at Inv-loop μ-loop
+element-copy-out-same-at c = search needs
 
-wide-requires : tie.Need-wide-requires Inv-loop μ-loop
-wide-requires c κs = search needs
-
-element-copy-out-wide-2 : tie.Need-element-copy-out-wide-2 Inv-loop μ-loop
-element-copy-out-wide-2 c = search needs
-
-wide-requires-2 : tie.Need-wide-requires-2 Inv-loop μ-loop
-wide-requires-2 c κs = search needs
+element-copy-out-same-at-2 : tie.Need-element-copy-out-same-at-2 Inv-loop μ-loop
+element-copy-out-same-at-2 c = search needs
 
 same-at-requires : tie.Need-same-at-requires Inv-loop μ-loop
 same-at-requires c κs = search needs
@@ -34,17 +28,11 @@ same-at-requires c κs = search needs
 slice-aggregate-same-at-2 : tie.Need-slice-aggregate-same-at-2 Inv-loop μ-loop
 slice-aggregate-same-at-2 c = search needs
 
-element-copy-out-wide-3 : tie.Need-element-copy-out-wide-3 Inv-loop μ-loop
-element-copy-out-wide-3 c = search needs
+element-copy-out-same-at-3 : tie.Need-element-copy-out-same-at-3 Inv-loop μ-loop
+element-copy-out-same-at-3 c = search needs
 
-wide-requires-3 : tie.Need-wide-requires-3 Inv-loop μ-loop
-wide-requires-3 c κs = search needs
-
-element-copy-out-wide-4 : tie.Need-element-copy-out-wide-4 Inv-loop μ-loop
-element-copy-out-wide-4 c = search needs
-
-wide-requires-4 : tie.Need-wide-requires-4 Inv-loop μ-loop
-wide-requires-4 c κs = search needs
+element-copy-out-same-at-4 : tie.Need-element-copy-out-same-at-4 Inv-loop μ-loop
+element-copy-out-same-at-4 c = search needs
 
 same-at-requires-2 : tie.Need-same-at-requires-2 Inv-loop μ-loop
 same-at-requires-2 c κs = search needs
@@ -69,16 +57,12 @@ latches-spec =
     μ-loop
     loop-holds
     slice-aggregate-same-at
-    element-copy-out-wide
-    wide-requires
-    element-copy-out-wide-2
-    wide-requires-2
+    element-copy-out-same-at
+    element-copy-out-same-at-2
     same-at-requires
     slice-aggregate-same-at-2
-    element-copy-out-wide-3
-    wide-requires-3
-    element-copy-out-wide-4
-    wide-requires-4
+    element-copy-out-same-at-3
+    element-copy-out-same-at-4
     same-at-requires-2
     add-i
     loop-less

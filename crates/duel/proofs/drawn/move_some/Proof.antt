@@ -4,10 +4,10 @@ use Rattle.duel.proofs.drawn.move_some.Statement.{statement}
 use Rattle.duel.proofs.drawn.move_some.Tie as tie
 
 abbrev Inv-loop : tie.InvT-loop
-Inv-loop free moves memory chance₀ tally₀ next₀ left₀ chance tally next left = Unit {0}
+Inv-loop free moves memory run₀ next₀ left₀ run next left = Unit {0}
 
 abbrev μ-loop : tie.MeasureT-loop
-μ-loop free moves memory chance₀ tally₀ next₀ left₀ chance tally next left = left
+μ-loop free moves memory run₀ next₀ left₀ run next left = left
 
 loop-holds : tie.Need-loop-holds Inv-loop μ-loop
 loop-holds c = search needs

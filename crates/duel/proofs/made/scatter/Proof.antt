@@ -5,10 +5,10 @@ use Rattle.duel.proofs.made.scatter.Statement.{statement}
 use Rattle.duel.proofs.made.scatter.Tie as tie
 
 abbrev Inv-loop : tie.InvT-loop
-Inv-loop bytes₀ n chance₀ i₀ bytes chance i = i ≤ n
+Inv-loop bytes₀ n run₀ i₀ bytes run i = i ≤ n
 
 abbrev μ-loop : tie.MeasureT-loop
-μ-loop bytes₀ n chance₀ i₀ bytes chance i = n - i
+μ-loop bytes₀ n run₀ i₀ bytes run i = n - i
 
 loop-holds : tie.Need-loop-holds Inv-loop μ-loop
 loop-holds c = search needs
