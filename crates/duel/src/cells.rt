@@ -1,0 +1,44 @@
+// The memories: how a round fills them, and whether they are the same.
+use crate::run::CELLS;
+use crate::run::Run;
+use crate::run::count;
+use crate::run::same_at;
+
+pub type Memory = [u8; 65536];
+
+// What a cell holds at the start: FFh as delivered, or a pattern.
+fn filling(patterned: bool, cell: usize) -> u8 {
+    if patterned {
+        let n = cell % 65536;
+        return ((37 * n + 11 * (n / 128)) % 256) as u8;
+    }
+    255
+}
+
+pub fn fill(memory: &mut Memory, patterned: bool) {
+    let mut i: usize = 0;
+    while i < 65536 {
+        memory[i] = filling(patterned, i);
+        i += 1;
+    }
+}
+
+// The whole memories.
+pub fn memories(quick: &mut Memory, slow: &mut Memory, run: &mut Run) {
+    let mut i: usize = 0;
+    while i < 65536 {
+        same_at(b"cell", i, quick[i], slow[i], run);
+        i += 1;
+    }
+}
+
+// The cells that are not as the round filled them.
+pub fn changed(memory: &mut Memory, patterned: bool, run: &mut Run) {
+    let mut i: usize = 0;
+    while i < 65536 {
+        if memory[i] != filling(patterned, i) {
+            count(CELLS, run);
+        }
+        i += 1;
+    }
+}

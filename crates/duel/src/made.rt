@@ -1,0 +1,121 @@
+// Random frames: mostly one of the six instructions, with the count of bits that it asks.
+ghost use Prim.Native.Nat.{_≤_};
+use crate::cells::Memory;
+use crate::chance::below;
+use crate::chance::byte;
+use crate::chance::percent;
+use crate::run::Run;
+use chip::RDSR;
+use chip::READ;
+use chip::WRDI;
+use chip::WREN;
+use chip::WRITE;
+use chip::WRSR;
+
+// One of the six, or sometimes any byte.
+fn any_code(run: &mut Run) -> u8 {
+    let r = below(20, run);
+    match r {
+        0..=2 => WREN,
+        3 => WRDI,
+        4..=6 => RDSR,
+        7..=8 => WRSR,
+        9..=13 => READ,
+        14..=17 => WRITE,
+        _ => byte(run),
+    }
+}
+
+// Often what brings a write on: WREN where WEL is 0, else WRITE or WRSR.
+fn code(wel: bool, run: &mut Run) -> u8 {
+    let r = below(20, run);
+    if r < 10 {
+        return any_code(run);
+    }
+    if !wel {
+        return WREN;
+    }
+    if r < 18 { WRITE } else { WRSR }
+}
+
+// As many bytes as the instruction asks.
+fn asked(code: u8, run: &mut Run) -> u64
+    ensures { λ r. ⌜ r ≤ 12 ⌝ }
+{
+    match code {
+        WREN => 1,
+        WRDI => 1,
+        WRSR => 2,
+        _ => 4 + below(9, run),
+    }
+}
+
+// How many bytes: as asked, any few, a page and more, rarely many.
+fn length(code: u8, run: &mut Run) -> usize
+    ensures { λ r. ⌜ r ≤ 65536 ⌝ }
+{
+    let r = below(1000, run);
+    if r < 820 {
+        return asked(code, run) as usize;
+    }
+    let any = below(65536, run) as usize;
+    match r {
+        820..=929 => any % 13,
+        930..=996 => 120 + any % 40,
+        997..=998 => any % 2000,
+        _ => any % 30000,
+    }
+}
+
+// The count of bits: the last byte mostly whole.
+pub fn bits(length: usize, run: &mut Run) -> usize
+    requires { ⌜ length ≤ 65536 ⌝ }
+{
+    if length == 0 {
+        return 0;
+    }
+    if percent(80, run) {
+        return 8 * length;
+    }
+    8 * length - below(8, run) as usize
+}
+
+// Often around the edge of a page, a quarter or the memory, or in one of a few pages, so that reads meet writes.
+fn address(run: &mut Run) -> u64
+    ensures { λ r. ⌜ r ≤ 65535 ⌝ }
+{
+    let r = below(10, run);
+    let near = 65532 + below(8, run);
+    let any = below(65536, run);
+    match r {
+        0..=2 => (any / 16384 * 16384 + near) % 65536,
+        3..=5 => (any / 128 * 128 + near) % 65536,
+        6..=7 => any % 512,
+        _ => any,
+    }
+}
+
+// The first n cells get random bytes.
+fn scatter(bytes: &mut Memory, n: usize, run: &mut Run)
+    requires { ⌜ n ≤ 65536 ⌝ }
+{
+    let mut i: usize = 0;
+    while i < n {
+        bytes[i] = byte(run);
+        i += 1;
+    }
+}
+
+// A frame's bytes, and how many: the instruction byte, an address, then any.
+pub fn compose(wel: bool, bytes: &mut Memory, run: &mut Run) -> usize
+    ensures { λ r. ⌜ r ≤ 65536 ⌝ }
+{
+    let code = code(wel, run);
+    let n = length(code, run);
+    scatter(bytes, n, run);
+    let to = address(run);
+    bytes[0] = code;
+    bytes[1] = (to / 256) as u8;
+    bytes[2] = (to % 256) as u8;
+    n
+}

@@ -1,0 +1,63 @@
+// The two proved models against each other on random lists of frames, clock readings and levels of Write Protect: the quick one takes whole
+// frames, the slow one the same frames drawn as single pin changes. The gate compares the summary with the file stdout; the first difference
+// would stand before it, with its round and act, and end the run.
+use crate::cells::Memory;
+use crate::cells::changed;
+use crate::cells::fill;
+use crate::cells::memories;
+use crate::chance::percent;
+use crate::rounds::Pair;
+use crate::rounds::act;
+use crate::rounds::powered;
+use crate::run::DIFFERENCES;
+use crate::run::ROUNDS;
+use crate::run::Run;
+use crate::run::count;
+
+mod cells;
+mod chance;
+mod compared;
+mod drawn;
+mod made;
+mod rounds;
+mod run;
+
+// Acts one after another.
+fn acts(start: Pair, quick: &mut Memory, slow: &mut Memory, run: &mut Run) {
+    let mut pair = start;
+    let mut left: u64 = 48;
+    while left > 0 {
+        pair = act(pair, quick, slow, run);
+        left -= 1;
+    }
+}
+
+// A round: one start for both models, then its acts, then the whole memories. None after a difference.
+fn round(quick: &mut Memory, slow: &mut Memory, run: &mut Run) {
+    if run[DIFFERENCES] > 0 {
+        return;
+    }
+    count(ROUNDS, run);
+    let patterned = percent(75, run);
+    fill(quick, patterned);
+    fill(slow, patterned);
+    acts(powered(run), quick, slow, run);
+    memories(quick, slow, run);
+    changed(quick, patterned, run);
+}
+
+fn duel(quick: &mut Memory, slow: &mut Memory, run: &mut Run) {
+    let mut left: u64 = 160;
+    while left > 0 {
+        round(quick, slow, run);
+        left -= 1;
+    }
+}
+
+fn main() {
+    let mut quick = io::large_buffer();
+    let mut slow = io::large_buffer();
+    let mut run = run::begun();
+    duel(&mut quick, &mut slow, &mut run);
+    run::summary(&run);
+}

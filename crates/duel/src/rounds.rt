@@ -1,0 +1,277 @@
+// A round's acts: each is made on both models, and then they are compared.
+ghost use Prim.Native.Nat.{_≤_};
+use crate::cells::Memory;
+use crate::cells::memories;
+use crate::chance::below;
+use crate::chance::percent;
+use crate::chance::word;
+use crate::compared::padding;
+use crate::compared::records;
+use crate::drawn::W;
+use crate::drawn::draw;
+use crate::drawn::set;
+use crate::made;
+use crate::run::ACTS;
+use crate::run::DIFFERENCES;
+use crate::run::ENDED;
+use crate::run::FRAMES;
+use crate::run::LEVELS;
+use crate::run::LIVELY;
+use crate::run::LONG;
+use crate::run::MODE_3;
+use crate::run::PAGES;
+use crate::run::PARTIAL;
+use crate::run::READINGS;
+use crate::run::Run;
+use crate::run::STATUSES;
+use crate::run::UNDRIVEN;
+use crate::run::count;
+use crate::run::same;
+use chip::Core;
+use chip::Timed;
+use frames::Framed;
+use frames::frame;
+use pins::Device;
+use pins::Stepped;
+
+// Both models: the quick one's record with its level of W, the slow one's device.
+pub struct Pair {
+    pub core: Core,
+    pub w: bool,
+    pub device: Device,
+}
+
+// ---- the start
+
+// A cycle length: any, often the shortest or the longest.
+fn cycle(run: &mut Run) -> u32 {
+    let r = below(10, run);
+    let any = 1 + below(5000, run);
+    match r {
+        0 => 1,
+        1 => 5000,
+        _ => any as u32,
+    }
+}
+
+// Both powered up alike.
+pub fn powered(run: &mut Run) -> Pair {
+    let cycle = cycle(run);
+    let srwd = percent(30, run);
+    let bp1 = percent(20, run);
+    let bp0 = percent(30, run);
+    let reading = word(run);
+    let core = chip::power_up(cycle, srwd, bp1, bp0, reading).core;
+    let device = pins::power_up(cycle, srwd, bp1, bp0, reading).device;
+    records(core, device, run);
+    Pair {
+        core: core,
+        w: true,
+        device: device,
+    }
+}
+
+// ---- clock readings
+
+// How far the clock goes: a part of a cycle, to the end of the one that runs or half of the way, a whole one, one reading back, or anywhere.
+fn passing(cycle: u32, left: u32, run: &mut Run) -> u32 {
+    let r = below(100, run);
+    let any = word(run);
+    match r {
+        0..=44 => any % (cycle / 2 + 1),
+        45..=74 => left,
+        75..=82 => left / 2,
+        83..=91 => cycle,
+        92..=95 => 4294967295,
+        _ => any,
+    }
+}
+
+// The answers to one reading.
+fn met(quick: Timed, slow: Stepped, w: bool, run: &mut Run) -> Pair {
+    let core = quick.core;
+    let device = slow.device;
+    let a = quick.outcome;
+    let b = slow.outcome;
+    same(b"number of a reading", a.number(), b.number(), run);
+    records(core, device, run);
+    Pair {
+        core: core,
+        w: w,
+        device: device,
+    }
+}
+
+fn pass(pair: Pair, reading: u32, quick: &mut Memory, slow: &mut Memory, run: &mut Run) -> Pair {
+    let timed = chip::clock_reading(pair.core, reading, quick);
+    let stepped = pair.device.read_clock(reading, slow);
+    met(timed, stepped, pair.w, run)
+}
+
+// A clock reading for both; where it ends a cycle the memories are compared whole.
+fn read(pair: Pair, quick: &mut Memory, slow: &mut Memory, run: &mut Run) -> Pair {
+    let core = pair.core;
+    let reading = std::num::wrapping_add_u32(core.last, passing(core.cycle, core.left, run));
+    let next = pass(pair, reading, quick, slow, run);
+    count(READINGS, run);
+    if (core.left > 0) & (next.core.left == 0) {
+        count(ENDED, run);
+        memories(quick, slow, run);
+    }
+    next
+}
+
+// ---- levels of W
+
+fn protect(pair: Pair, slow: &mut Memory, run: &mut Run) -> Pair {
+    let high = percent(60, run);
+    count(LEVELS, run);
+    let core = pair.core;
+    Pair {
+        core: core,
+        w: high,
+        device: set(pair.device, W, high, slow, run),
+    }
+}
+
+// ---- frames
+
+fn count_frame(bits: usize, mode3: bool, run: &mut Run) {
+    count(FRAMES, run);
+    if mode3 {
+        count(MODE_3, run);
+    }
+    if bits % 8 != 0 {
+        count(PARTIAL, run);
+    }
+    if bits > 1048 {
+        count(LONG, run);
+    }
+}
+
+fn count_begun(before: Core, after: Core, run: &mut Run) {
+    let kind = after.waits.kind;
+    if before.left > 0 {
+        return;
+    }
+    if kind == 2 {
+        count(PAGES, run);
+    }
+    if kind == 1 {
+        count(STATUSES, run);
+    }
+}
+
+// In how many of a hundred places pin changes stray: in half of the frames none.
+fn liveliness(bits: usize, run: &mut Run) -> u64 {
+    let r = below(60, run);
+    if bits > 1600 {
+        return r % 3;
+    }
+    if r < 30 { 0 } else { r - 30 }
+}
+
+// The numbers of the frame in hand.
+fn begin(bits: usize, mode3: bool, undriven: usize, run: &mut Run) {
+    let lively = liveliness(bits, run);
+    run[LIVELY] = lively;
+    run[UNDRIVEN] = undriven as u64;
+    count_frame(bits, mode3, run);
+}
+
+// The quick model's answer to the first n bytes; bytes or an output too few are refused.
+fn ask(
+    core: Core,
+    w: bool,
+    quick: &Memory,
+    bytes: &[u8],
+    n: usize,
+    bits: usize,
+    out: &mut [u8],
+) -> Framed {
+    if n > bytes.len() {
+        return frame(core, quick, w, bytes, bits, out);
+    }
+    if n > out.len() {
+        return frame(core, quick, w, bytes, bits, out);
+    }
+    frame(core, quick, w, &bytes[..n], bits, &mut out[..n])
+}
+
+// The slow model's frame against the quick model's answer and output.
+fn meet(
+    pair: Pair,
+    framed: Framed,
+    slow: &Memory,
+    bytes: &[u8],
+    bits: usize,
+    out: &[u8],
+    run: &mut Run,
+) -> Pair {
+    let answer = framed.answer;
+    let core = framed.core;
+    let mode3 = percent(50, run);
+    same(b"number of a frame", answer.number(), 0, run);
+    begin(bits, mode3, answer.undriven(), run);
+    padding(out, bits, run);
+    let device = draw(pair.device, bytes, out, bits, mode3, slow, run);
+    records(core, device, run);
+    Pair {
+        core: core,
+        w: pair.w,
+        device: device,
+    }
+}
+
+// A frame of n bytes for both.
+fn send_bytes(
+    pair: Pair,
+    quick: &Memory,
+    slow: &Memory,
+    bytes: &Memory,
+    n: usize,
+    out: &mut Memory,
+    run: &mut Run,
+) -> Pair
+    requires { ⌜ n ≤ 65536 ⌝ }
+{
+    let core = pair.core;
+    let bits = made::bits(n, run);
+    let framed = ask(core, pair.w, quick, bytes, n, bits, out);
+    let next = framed.core;
+    count_begun(core, next, run);
+    meet(pair, framed, slow, bytes, bits, out, run)
+}
+
+// A random frame.
+fn send(pair: Pair, quick: &mut Memory, slow: &mut Memory, run: &mut Run) -> Pair {
+    let mut bytes = io::large_buffer();
+    let mut out = io::large_buffer();
+    let n = made::compose(pair.core.wel == 1, &mut bytes, run);
+    send_bytes(pair, quick, slow, &bytes, n, &mut out, run)
+}
+
+// What comes next: a clock reading, every second time where a cycle runs; seldom a level of W; else a frame. Nothing after a difference.
+fn kind(running: bool, run: &mut Run) -> u64 {
+    if run[DIFFERENCES] > 0 {
+        return 3;
+    }
+    count(ACTS, run);
+    let r = below(100, run);
+    if r < 10 {
+        return 0;
+    }
+    if running & (r < 50) {
+        return 0;
+    }
+    if r < 95 { 2 } else { 1 }
+}
+
+pub fn act(pair: Pair, quick: &mut Memory, slow: &mut Memory, run: &mut Run) -> Pair {
+    match kind(pair.core.left > 0, run) {
+        0 => read(pair, quick, slow, run),
+        1 => protect(pair, slow, run),
+        2 => send(pair, quick, slow, run),
+        _ => pair,
+    }
+}

@@ -1,0 +1,142 @@
+// The numbers of a run, in one array that every function is lent: the generator's state, the frame in hand and the counts. Also the first
+// difference, and the summary.
+use libc::STDOUT_FILENO;
+
+// the counts, in the summary's order
+pub const ROUNDS: usize = 0;
+
+pub const ACTS: usize = 1;
+
+pub const FRAMES: usize = 2;
+
+pub const READINGS: usize = 3;
+
+pub const LEVELS: usize = 4;
+
+pub const MODE_3: usize = 5;
+
+pub const PARTIAL: usize = 6;
+
+pub const LONG: usize = 7;
+
+pub const PAUSES: usize = 8;
+
+pub const CHANGES: usize = 9;
+
+pub const CLOCKS: usize = 10;
+
+pub const DRIVEN: usize = 11;
+
+pub const PAGES: usize = 12;
+
+pub const STATUSES: usize = 13;
+
+pub const ENDED: usize = 14;
+
+pub const CELLS: usize = 15;
+
+pub const DIFFERENCES: usize = 16;
+
+// the generator's state
+pub const CHANCE: usize = 17;
+
+// of the frame in hand: in how many of a hundred places pin changes stray, and how many leading bits the quick model left undriven
+pub const LIVELY: usize = 18;
+
+pub const UNDRIVEN: usize = 19;
+
+pub type Run = [u64; 20];
+
+pub fn begun() -> Run {
+    let mut run: Run = [0; 20];
+    run[CHANCE] = 0x9e3779b97f4a7c15;
+    run
+}
+
+pub fn count(what: usize, run: &mut Run) {
+    let at = what % 20;
+    let sum = std::num::wrapping_add_u64(run[at], 1);
+    run[at] = sum;
+}
+
+fn say(what: &[u8], number: u64) {
+    io::write_all(STDOUT_FILENO, what);
+    io::write_all(STDOUT_FILENO, b"\t");
+    io::print_decimal(STDOUT_FILENO, number);
+    io::write_all(STDOUT_FILENO, b"\n");
+}
+
+fn say_where(round: u64, act: u64) {
+    say(b"difference in round", round);
+    say(b"act", act);
+}
+
+fn say_what(what: &[u8], at: u64, quick: u64, slow: u64) {
+    say(what, at);
+    say(b"the quick model's", quick);
+    say(b"the slow model's", slow);
+}
+
+// The first difference is printed.
+fn differ(what: &[u8], at: u64, quick: u64, slow: u64, run: &mut Run) {
+    if run[DIFFERENCES] == 0 {
+        say_where(run[ROUNDS], run[ACTS]);
+        say_what(what, at, quick, slow);
+    }
+    count(DIFFERENCES, run);
+}
+
+// A bit or a byte of each model; `at` says which clock or cell it is.
+pub fn same_at(what: &[u8], at: usize, quick: u8, slow: u8, run: &mut Run) {
+    if quick != slow {
+        differ(what, at as u64, quick as u64, slow as u64, run);
+    }
+}
+
+// A number of each model.
+pub fn same(what: &[u8], quick: u32, slow: u32, run: &mut Run) {
+    if quick != slow {
+        differ(what, 0, quick as u64, slow as u64, run);
+    }
+}
+
+// Row i of up to eight: its label has 20 characters.
+fn row(labels: &[u8], i: usize, number: u64) {
+    let from = 20 * (i % 8);
+    let to = from + 20;
+    if to <= labels.len() {
+        say(&labels[from..to], number);
+    }
+}
+
+// As many rows as there are labels, with the counts from `first` on.
+fn rows(labels: &[u8], first: usize, run: &Run) {
+    let mut i: usize = 0;
+    while i < 8 {
+        row(labels, i, run[(first % 20 + i) % 20]);
+        i += 1;
+    }
+}
+
+pub fn summary(run: &Run) {
+    rows(
+        b"rounds              acts                frames              clock readings      levels of W         ",
+        ROUNDS,
+        run,
+    );
+    rows(
+        b"frames in mode 3    with part of a byte with over a page    pauses              ",
+        MODE_3,
+        run,
+    );
+    rows(
+        b"pin changes         counted clocks      driven bits         ",
+        CHANGES,
+        run,
+    );
+    rows(
+        b"page cycles begun   status cycles begun cycles ended        cells changed       differences         ",
+        PAGES,
+        run,
+    );
+}
