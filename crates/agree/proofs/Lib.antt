@@ -10,3 +10,4 @@ pub mod Pad
 pub mod Agree
 pub mod Drawn
 pub mod Shown
+pub mod Starred
