@@ -79,7 +79,7 @@ impl Frame {
     }
 }
 
-fn one_more(taken: u8) -> u8
+pub(crate) fn one_more(taken: u8) -> u8
     ensures { λ r. ⌜ r ≡ min 4 (taken + 1) ⌝ }
 {
     if taken < 4 { taken + 1 } else { 4 }
