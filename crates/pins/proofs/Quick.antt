@@ -1,7 +1,7 @@
 -- An edge of C that moves a few numbers of the device: which, and that this is what the edge does.
 use mathlib.Core.Path.{_≡_, refl, ap, sym, _∙_}
 use mathlib.Core.List.{List}
-use mathlib.Core.Bool.{Bool, true, false, not, _&&_}
+use mathlib.Core.Bool.{Bool, true, false, not, _&&_, true≢false}
 use Prim.Native.Nat.{ℕ, _+_, _%_, _<_, _≤_, min}
 use lib.Dec.{leb, ltb}
 use lib.ListN.{getD}
@@ -22,7 +22,7 @@ use Rattle.pins.specs.declared.Event.{Event}
 use Rattle.pins.specs.declared.Way.{Way}
 use Rattle.pins.specs.declared.Way.the-variants.{Data, Set, Rise, Fall, Whole}
 use Rattle.pins.specs.Events.{renewed, onC, steppedMemory}
-use Rattle.pins.specs.Ways.{afterMemory}
+use Rattle.pins.specs.Ways.{isWhole, afterMemory}
 
 -- ---- the frame over a counted rising edge
 
@@ -85,3 +85,18 @@ memory-kept P e x m (Set v hold held) h = h
 memory-kept P e x m (Rise n b v) h = h
 memory-kept P e x m (Fall held v n a) h = h
 memory-kept P e x m Whole h = refl
+
+-- a way that is not the whole event
+pub way-memory : (P : Part) (e : Event) (x : Device) (m : List ℕ) (w : Way) → isWhole w ≡ false → m ≡ afterMemory P e w x m
+way-memory P e x m (Data d) h = refl
+way-memory P e x m (Set v hold held) h = refl
+way-memory P e x m (Rise n b v) h = refl
+way-memory P e x m (Fall held v n a) h = refl
+way-memory P e x m Whole h = absurd (true≢false h)
+
+pub whole-way : (w : Way) → isWhole w ≡ true → w ≡ Whole
+whole-way (Data d) h = absurd (true≢false (sym h))
+whole-way (Set v hold held) h = absurd (true≢false (sym h))
+whole-way (Rise n b v) h = absurd (true≢false (sym h))
+whole-way (Fall held v n a) h = absurd (true≢false (sym h))
+whole-way Whole h = refl

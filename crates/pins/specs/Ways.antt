@@ -1,5 +1,6 @@
 -- What a list of events does at each: most events move a few numbers of the device, and these are moved where they stand.
 use Prim.Native.Nat.{ℕ}
+use mathlib.Core.Bool.{Bool, true, false}
 use mathlib.Core.List.{List}
 use Rattle.chip.specs.Part.{Part}
 use Rattle.pins.specs.declared.Device.{Device}
@@ -8,6 +9,13 @@ use Rattle.pins.specs.declared.Way.{Way}
 use Rattle.pins.specs.declared.Way.the-variants.{Data, Set, Rise, Fall, Whole}
 use Rattle.pins.specs.Devices.{withC, withD, withW, withHold, withPins, withFrame, withTaken, withBits, withOut, withAddress, heldAt}
 use Rattle.pins.specs.Events.{stepped, steppedMemory}
+
+abbrev pub isWhole : Way → Bool
+isWhole (Data d) = false
+isWhole (Set w hold held) = false
+isWhole (Rise n b v) = false
+isWhole (Fall held v n a) = false
+isWhole Whole = true
 
 -- the device after a way was gone; `Whole` is the event itself
 abbrev pub after : Part → List ℕ → Event → Way → Device → Device

@@ -9,11 +9,12 @@ ghost use Rattle.chip.specs.declared.Latch.{Latch};
 ghost use Rattle.chip.specs.declared.Core.{Core};
 ghost use Rattle.chip.specs.declared.Instruction.the-variants.{Read};
 ghost use Rattle.pins.specs.declared.Frame.{Frame};
+ghost use Rattle.pins.specs.declared.Event.{Event};
 ghost use Rattle.pins.specs.declared.Event.the-variants.{C, Hold};
 ghost use Rattle.pins.specs.Devices.{frontOf, whole};
 ghost use Rattle.pins.specs.Rising.{taking};
 ghost use Rattle.pins.specs.Events.{onC, onHold, stepped, steppedMemory};
-ghost use Rattle.pins.specs.Ways.{after, afterMemory};
+ghost use Rattle.pins.specs.Ways.{isWhole, after, afterMemory};
 use crate::Device;
 use crate::Event;
 use crate::Frame;
@@ -234,6 +235,72 @@ impl Front {
             }
             Event::Hold(level) => self.pausing(level),
             Event::Time(_) => Way::Whole,
+        }
+    }
+
+    // The front after a way, which is not the whole event.
+    pub(crate) fn moved(mut self, way: Way) -> Front
+        ensures { λ r. ⌜ ((m : List ℕ) (e : Event) (l : Latch) (k : Core) → isWhole way ≡ false → whole r l k ≡ after m95512 m e way (whole self l k)) ⌝ }
+    {
+        match way {
+            Way::Data(level) => {
+                self.d = level;
+                self
+            }
+            Way::Set { w, hold, held } => {
+                self.w = w;
+                self.hold = hold;
+                self.held = held;
+                self
+            }
+            Way::Rise { taken, bits, part } => {
+                self.c = 1;
+                self.taken = taken;
+                self.bits = bits;
+                self.part = part;
+                self
+            }
+            Way::Fall {
+                held,
+                out,
+                shown,
+                address,
+            } => {
+                self.c = 0;
+                self.held = held;
+                self.out = out;
+                self.shown = shown;
+                self.address = address;
+                self
+            }
+            Way::Whole => self,
+        }
+    }
+}
+
+impl Way {
+    pub(crate) fn is_whole(self) -> bool
+        ensures { λ r. ⌜ r ≡ isWhole self ⌝ }
+    {
+        match self {
+            Way::Data(_) => false,
+            Way::Set {
+                w: _,
+                hold: _,
+                held: _,
+            } => false,
+            Way::Rise {
+                taken: _,
+                bits: _,
+                part: _,
+            } => false,
+            Way::Fall {
+                held: _,
+                out: _,
+                shown: _,
+                address: _,
+            } => false,
+            Way::Whole => true,
         }
     }
 }

@@ -7,7 +7,6 @@ ghost use Rattle.laws.specs.Pick.{pick};
 ghost use Rattle.pins.specs.Answers.{answer, answerMemory, playOutcome, playNumber, played, playedQ};
 use crate::Device;
 use crate::Stepped;
-use crate::Way;
 use crate::events::event_of;
 use crate::falling::level_of;
 use chip::Outcome;
@@ -28,40 +27,14 @@ fn play_all(device: Device, memory: &mut [u8], events: &[u64], out: &mut [u8]) -
     while i < events.len() {
         let event = event_of(events[i]);
         let way = front.quick(event, memory);
-        match way {
-            Way::Data(level) => {
-                front.d = level;
-            }
-            Way::Set { w, hold, held } => {
-                front.w = w;
-                front.hold = hold;
-                front.held = held;
-            }
-            Way::Rise { taken, bits, part } => {
-                front.c = 1;
-                front.taken = taken;
-                front.bits = bits;
-                front.part = part;
-            }
-            Way::Fall {
-                held,
-                out,
-                shown,
-                address,
-            } => {
-                front.c = 0;
-                front.held = held;
-                front.out = out;
-                front.shown = shown;
-                front.address = address;
-            }
-            Way::Whole => {
-                let next = front.whole(latch, core).stepped(event, memory);
-                let frame = next.frame;
-                front = next.front();
-                latch = frame.latch;
-                core = next.core;
-            }
+        if way.is_whole() {
+            let next = front.whole(latch, core).stepped(event, memory);
+            let frame = next.frame;
+            front = next.front();
+            latch = frame.latch;
+            core = next.core;
+        } else {
+            front = front.moved(way);
         }
         out[i] = level_of(front.s, front.held, front.shown, front.out).number();
         i += 1;

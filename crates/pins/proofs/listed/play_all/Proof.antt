@@ -19,14 +19,18 @@ use Rattle.pins.specs.declared.Device.{Device}
 use Rattle.pins.specs.declared.Event.{Event}
 use Rattle.pins.specs.declared.Front.{Front}
 use Rattle.pins.specs.declared.Way.{Way}
+use Rattle.pins.proofs.Quick.{way-memory, whole-way}
 use Rattle.pins.proofs.Playing.{played-none, played-more, q-length, q-at}
 use borrow.Author.Needs.{needs}
 use Rattle.pins.proofs.listed.play_all.Statement.{statement}
 use Rattle.pins.proofs.listed.play_all.Tie as tie
 
+abbrev bench : Device → List ℕ → Bench
+bench x m = record { device = x; memory = m }
+
 -- the device in its three parts, and the memory
 abbrev apart : Front → Latch → Core → List ℕ → Bench
-apart f l k m = record { device = whole f l k; memory = m }
+apart f l k m = bench (whole f l k) m
 
 abbrev Inv-loop : tie.InvT-loop
 Inv-loop memory₀ events out₀ front₀ latch₀ core₀ i₀ memory out front latch core i = (i ≤ length events) × (length out ≡ length out₀) × (length memory ≡ length memory₀) × (apart front latch core memory ≡ played m95512 (take i events) (apart front₀ latch₀ core₀ memory₀)) × (out ≡ filled out₀ (playedQ m95512 events (apart front₀ latch₀ core₀ memory₀)) i)
@@ -52,20 +56,8 @@ event-of-requires c κs = search needs
 quick-requires : tie.Need-quick-requires Inv-loop μ-loop
 quick-requires c κs = search needs
 
-enum-known-way : tie.Need-enum-known-way Inv-loop μ-loop
-enum-known-way c = search needs
-
-enum-known-way-2 : tie.Need-enum-known-way-2 Inv-loop μ-loop
-enum-known-way-2 c = search needs
-
-enum-known-way-3 : tie.Need-enum-known-way-3 Inv-loop μ-loop
-enum-known-way-3 c = search needs
-
-enum-known-way-4 : tie.Need-enum-known-way-4 Inv-loop μ-loop
-enum-known-way-4 c = search needs
-
-enum-told : tie.Need-enum-told Inv-loop μ-loop
-enum-told c = search needs
+is-whole-requires : tie.Need-is-whole-requires Inv-loop μ-loop
+is-whole-requires c κs = search needs
 
 whole-requires : tie.Need-whole-requires Inv-loop μ-loop
 whole-requires c κs = search needs
@@ -75,6 +67,9 @@ stepped-requires c κs = search needs
 
 front-requires-2 : tie.Need-front-requires-2 Inv-loop μ-loop
 front-requires-2 c κs = search needs
+
+moved-requires : tie.Need-moved-requires Inv-loop μ-loop
+moved-requires c κs = search needs
 
 level-of-requires : tie.Need-level-of-requires Inv-loop μ-loop
 level-of-requires c κs = search needs
@@ -87,8 +82,8 @@ slice-write-out c = search needs
 
 add-i : tie.Need-add-i Inv-loop μ-loop
 add-i c =
-    let below = c .before .before .before .before .before .before .before .loop-test .taken in
-    let room = c .before .before .before .before .before .before .before .before .before .before .before .before .before .before .before .before .good in
+    let below = c .before .before .before .before .before .before .before .before .loop-test .taken in
+    let room = c .before .before .before .before .before .before .before .before .before .before .before .before .before .before .before .before .before .good in
     omega arith
 
 loop-less : tie.Need-loop-less Inv-loop μ-loop
@@ -96,49 +91,54 @@ loop-less c = search needs
 
 -- where a way leads from a bench
 abbrev led : Event → Way → Bench → Bench
-led e r b = record { device = after m95512 (b .memory) e r (b .device); memory = afterMemory m95512 e r (b .device) (b .memory) }
+led e w b = bench (after m95512 (b .memory) e w (b .device)) (afterMemory m95512 e w (b .device) (b .memory))
 
--- by each way: the device and the memory after it
-gone : (c : tie.At-match-came Inv-loop μ-loop) → let l = c .before .before .before .before .before .before .loop in
-    apart (c .match .front) (c .match .latch) (c .match .core) (c .match .memory) ≡ led (c .before .before .before .event-of .result) (c .before .quick .result) (apart (l .front) (l .latch) (l .core) (l .memory))
+-- by either arm: the device and the memory after the way
+gone : (c : tie.Joined1 Inv-loop μ-loop) → let l = c .before .before .before .before .before .before .before .loop in
+    apart (c .if1 .front) (c .if1 .latch) (c .if1 .core) (c .if1 .memory) ≡ led (c .before .before .before .before .event-of .result) (c .before .before .quick .result) (apart (l .front) (l .latch) (l .core) (l .memory))
 gone c =
-    ⊎-elim (λ w. rw (w .3, w .4, w .5, w .6, w .1 .given .1))
-    (⊎-elim (λ w. rw (w .3, w .4, w .5, w .6, w .1 .given .1))
-    (⊎-elim (λ w. rw (w .3, w .4, w .5, w .6, w .1 .given .1))
-    (⊎-elim (λ w. rw (w .3, w .4, w .5, w .6, w .1 .given .1))
-    (λ w. rw (w .11, w .12, w .13, w .14, w .8 .ensures, w .4 .ensures .0, w .4 .ensures .1, w .2 .ensures, w .1 .given .1)))))
-    (c .match .came)
+    let l = c .before .before .before .before .before .before .before .loop in
+    let x : Device = whole (l .front) (l .latch) (l .core) in
+    let e = c .before .before .before .before .event-of .result in
+    let way = c .before .before .quick .result in
+    let test = sym (c .before .is-whole .ensures) in
+    ⊎-elim
+    (λ w. rw (w .10, w .11, w .12, w .13, w .7 .ensures, w .3 .ensures .0, w .3 .ensures .1, w .1 .ensures, whole-way way (test ∙ w .0 .taken)))
+    (λ w. rw (w .2, w .3, w .4, w .5)
+    (ap (λ (y : Device). bench y (l .memory)) (w .1 .ensures (l .memory) e (l .latch) (l .core) (test ∙ w .0 .left))
+    ∙ ap (bench (after m95512 (l .memory) e way x)) (way-memory m95512 e x (l .memory) way (test ∙ w .0 .left))))
+    (c .if1 .came)
 
 -- and that is what the event does
-after-event : (c : tie.At-match-came Inv-loop μ-loop) → let l = c .before .before .before .before .before .before .loop in
-    apart (c .match .front) (c .match .latch) (c .match .core) (c .match .memory) ≡ afterEvent m95512 (getD (c .before .before .before .before .before .before .before .before .before .before .before .before .before .before .args .events .now) (l .i) 0) (apart (l .front) (l .latch) (l .core) (l .memory))
+after-event : (c : tie.Joined1 Inv-loop μ-loop) → let l = c .before .before .before .before .before .before .before .loop in
+    apart (c .if1 .front) (c .if1 .latch) (c .if1 .core) (c .if1 .memory) ≡ afterEvent m95512 (getD (c .before .before .before .before .before .before .before .before .before .before .before .before .before .before .before .args .events .now) (l .i) 0) (apart (l .front) (l .latch) (l .core) (l .memory))
 after-event c =
-    let l = c .before .before .before .before .before .before .loop in
+    let l = c .before .before .before .before .before .before .before .loop in
     let x : Device = whole (l .front) (l .latch) (l .core) in
-    let does = c .before .quick .ensures in
-    let way : Event → Bench = λ k. record { device = stepped m95512 (l .memory) k x; memory = steppedMemory m95512 k x (l .memory) } in
-    let told : led (c .before .before .before .event-of .result) (c .before .quick .result) (apart (l .front) (l .latch) (l .core) (l .memory)) ≡ way (c .before .before .before .event-of .result) =
+    let does = c .before .before .quick .ensures in
+    let way : Event → Bench = λ k. bench (stepped m95512 (l .memory) k x) (steppedMemory m95512 k x (l .memory)) in
+    let told : led (c .before .before .before .before .event-of .result) (c .before .before .quick .result) (apart (l .front) (l .latch) (l .core) (l .memory)) ≡ way (c .before .before .before .before .event-of .result) =
     rw (does .0 (l .latch) (l .core), does .1 (l .latch) (l .core) (l .memory)) in
-    gone c ∙ told ∙ ap way (c .before .before .before .event-of .ensures)
+    gone c ∙ told ∙ ap way (c .before .before .before .before .event-of .ensures)
 
 loop-again : tie.Need-loop-again Inv-loop μ-loop
 unfolding q
 loop-again c =
-    let l = c .before .before .before .before .before .before .before .before .loop in
-    let below = c .before .before .before .before .before .before .before .loop-test .taken in
-    let a = c .before .before .before .before .before .before .before .before .before .before .before .before .before .before .before .before .args in
+    let l = c .before .before .before .before .before .before .before .before .before .loop in
+    let below = c .before .before .before .before .before .before .before .before .loop-test .taken in
+    let a = c .before .before .before .before .before .before .before .before .before .before .before .before .before .before .before .before .before .args in
     let es = a .events .now in
-    let b : Bench = apart (c .before .before .before .before .before .before .before .before .before .before .before .front .result) (a .device .frame .latch) (a .device .core) (a .memory .now) in
-    let at = c .before .before .match in
+    let b : Bench = apart (c .before .before .before .before .before .before .before .before .before .before .before .before .front .result) (a .device .frame .latch) (a .device .core) (a .memory .now) in
+    let at = c .before .before .if1 in
     let more : apart (at .front) (at .latch) (at .core) (at .memory) ≡ played m95512 (take (suc (l .i)) es) b =
     after-event (c .before .before) ∙ ap (afterEvent m95512 (getD es (l .i) 0)) (l .inv .3) ∙ sym (played-more m95512 es (l .i) b (omega arith)) in
     let level : c .number .result ≡ getD (playedQ m95512 es b) (l .i) 0 =
     c .number .ensures ∙ ap levelNumber (c .before .level-of .ensures) ∙ ap (λ (x : Bench). levelNumber (q (x .device))) more ∙ sym (q-at m95512 es (l .i) b (omega arith)) in (
       omega arith,
       simp length-set (omega arith),
-      ⊎-elim (λ w. rw (w .3) (omega arith)) (⊎-elim (λ w. rw (w .3) (omega arith)) (⊎-elim (λ w. rw (w .3) (omega arith)) (⊎-elim (λ w. rw (w .3) (omega arith)) (λ w. rw (w .11) (omega (arith, w .5 .given)))))) (at .came),
+      ⊎-elim (λ w. rw (w .10) (omega (arith, w .4 .given))) (λ w. rw (w .2) (omega arith)) (at .came),
       rw add-one more,
-      rw (l .inv .4) (filled-more (a .out .now) (playedQ m95512 es b) 0 (l .i) (c .number .result) (sym (q-length m95512 es b ∙ sym (c .before .before .before .before .before .before .before .before .before .before .before .before .before .before .before .before .pre))) (omega arith) level),
+      rw (l .inv .4) (filled-more (a .out .now) (playedQ m95512 es b) 0 (l .i) (c .number .result) (sym (q-length m95512 es b ∙ sym (c .before .before .before .before .before .before .before .before .before .before .before .before .before .before .before .before .before .pre))) (omega arith) level),
     )
 
 whole-requires-2 : tie.Need-whole-requires-2 Inv-loop μ-loop
@@ -180,14 +180,11 @@ play-all-spec =
     shared-slice-read-event-of
     event-of-requires
     quick-requires
-    enum-known-way
-    enum-known-way-2
-    enum-known-way-3
-    enum-known-way-4
-    enum-told
+    is-whole-requires
     whole-requires
     stepped-requires
     front-requires-2
+    moved-requires
     level-of-requires
     number-requires
     slice-write-out
