@@ -2,7 +2,7 @@
 // numbers of it where they stand; the record of some 560 bytes is put together only for the others.
 ghost use mathlib.Core.Path.{_≡_};
 ghost use mathlib.Core.List.{List};
-ghost use mathlib.Core.Bool.{true, false, not, _&&_};
+ghost use mathlib.Core.Bool.{true, false};
 ghost use Prim.Native.Nat.{ℕ};
 ghost use Rattle.chip.specs.Part.{m95512};
 ghost use Rattle.chip.specs.declared.Latch.{Latch};
@@ -11,15 +11,12 @@ ghost use Rattle.chip.specs.declared.Instruction.the-variants.{Read};
 ghost use Rattle.pins.specs.declared.Frame.{Frame};
 ghost use Rattle.pins.specs.declared.Event.{Event};
 ghost use Rattle.pins.specs.declared.Event.the-variants.{C, Hold};
-ghost use Rattle.pins.specs.Devices.{frontOf, whole};
+ghost use Rattle.pins.specs.Devices.{whole};
 ghost use Rattle.pins.specs.Rising.{taking};
 ghost use Rattle.pins.specs.Events.{onC, onHold, stepped, steppedMemory};
 ghost use Rattle.pins.specs.Ways.{isWhole, after, afterMemory};
-use crate::Device;
 use crate::Event;
-use crate::Frame;
 use crate::Front;
-use crate::Pins;
 use crate::Way;
 use crate::falling::cell;
 use crate::falling::one_up;
@@ -27,33 +24,7 @@ use crate::falling::outputs;
 use crate::records::bit;
 use crate::records::one_more;
 use crate::rising::shifted_in;
-use chip::Core;
 use chip::Instruction;
-use chip::Latch;
-
-impl Device {
-    pub(crate) fn front(self) -> Front
-        ensures { λ r. ⌜ r ≡ frontOf self ⌝ }
-    {
-        Front {
-            s: self.pins.s,
-            c: self.pins.c,
-            d: self.pins.d,
-            w: self.pins.w,
-            hold: self.pins.hold,
-            held: self.held,
-            taken: self.frame.taken,
-            bits: self.frame.bits,
-            part: self.frame.part,
-            code: self.frame.code,
-            ran: self.frame.ran,
-            value: self.frame.value,
-            out: self.frame.out,
-            shown: self.frame.shown,
-            address: self.frame.address,
-        }
-    }
-}
 
 // A later whole byte that no instruction keeps: a READ's after its address, a WREN's, an RDSR's.
 fn unkept(i: Instruction, taken: u8) -> bool
@@ -81,35 +52,6 @@ fn reads(i: Instruction) -> bool
 }
 
 impl Front {
-    // The whole device again.
-    pub(crate) fn whole(self, latch: Latch, core: Core) -> Device
-        ensures { λ r. ⌜ r ≡ whole self latch core ⌝ }
-    {
-        Device {
-            pins: Pins {
-                s: self.s,
-                c: self.c,
-                d: self.d,
-                w: self.w,
-                hold: self.hold,
-            },
-            held: self.held,
-            frame: Frame {
-                taken: self.taken,
-                bits: self.bits,
-                part: self.part,
-                code: self.code,
-                ran: self.ran,
-                value: self.value,
-                out: self.out,
-                shown: self.shown,
-                address: self.address,
-                latch: latch,
-            },
-            core: core,
-        }
-    }
-
     // A rising edge: not counted, one more bit, or a byte that nothing keeps.
     fn rising(self) -> Way
         requires { ⌜ (self .c ≡ 1 → ⊥) ⌝ }
@@ -284,22 +226,9 @@ impl Way {
     {
         match self {
             Way::Data(_) => false,
-            Way::Set {
-                w: _,
-                hold: _,
-                held: _,
-            } => false,
-            Way::Rise {
-                taken: _,
-                bits: _,
-                part: _,
-            } => false,
-            Way::Fall {
-                held: _,
-                out: _,
-                shown: _,
-                address: _,
-            } => false,
+            Way::Set { .. } => false,
+            Way::Rise { .. } => false,
+            Way::Fall { .. } => false,
             Way::Whole => true,
         }
     }
