@@ -197,6 +197,17 @@ static void set_up_write_stream(void)
     }
 }
 
+/* short frames: a poll of two bytes after each clock reading */
+static void set_up_poll_stream(void)
+{
+    const uint8_t bytes[2] = {RDSR, 0};
+    event_count = 0;
+    for (uint32_t i = 0; i < 200; i++) {
+        emit(CLOCK, i);
+        draw_frame(bytes, sizeof bytes);
+    }
+}
+
 static cartvesper_device_answer lib_event(uint64_t event)
 {
     uint8_t level = event & 1;
@@ -308,6 +319,7 @@ static const speed_case cases[] = {
     {"pin event, WRITE frames, one by one", set_up_write_stream, lib_events, plain_events, call_events, 1},
     {"pin event, READ frames, as a list", set_up_read_stream, lib_play, plain_plays, call_plays, 1},
     {"pin event, WRITE frames, as a list", set_up_write_stream, lib_play, plain_plays, call_plays, 1},
+    {"pin event, RDSR polls, as a list", set_up_poll_stream, lib_play, plain_plays, call_plays, 1},
 };
 
 static double timed(void (*run)(size_t), size_t n)

@@ -1,6 +1,7 @@
 pub mod Answering
 pub mod Stills
 pub mod Playing
+pub mod Quick
 pub mod Ones
 pub mod Sound
 pub mod Parts

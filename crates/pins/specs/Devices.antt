@@ -9,6 +9,7 @@ use Rattle.chip.specs.declared.Core.{Core}
 use Rattle.pins.specs.declared.Pins.{Pins}
 use Rattle.pins.specs.declared.Frame.{Frame}
 use Rattle.pins.specs.declared.Device.{Device}
+use Rattle.pins.specs.declared.Front.{Front}
 
 -- ---- the pins
 
@@ -55,6 +56,21 @@ withBits n v f =
       taken = f .taken;
       bits = n;
       part = v;
+      code = f .code;
+      ran = f .ran;
+      value = f .value;
+      out = f .out;
+      shown = f .shown;
+      address = f .address;
+      latch = f .latch;
+    }
+
+abbrev pub withTaken : ℕ → Frame → Frame
+withTaken n f =
+    record {
+      taken = n;
+      bits = f .bits;
+      part = f .part;
       code = f .code;
       ran = f .ran;
       value = f .value;
@@ -162,6 +178,9 @@ withLatch l f =
 abbrev pub withPins : Pins → Device → Device
 withPins p x = record { pins = p; held = x .held; frame = x .frame; core = x .core }
 
+abbrev pub heldAt : ℕ → Device → Device
+heldAt v x = record { pins = x .pins; held = v; frame = x .frame; core = x .core }
+
 abbrev pub withHeld : Bool → Device → Device
 withHeld b x = record { pins = x .pins; held = bit b; frame = x .frame; core = x .core }
 
@@ -181,3 +200,46 @@ selected x = not (on (x .pins .s))
 
 abbrev pub counting : Device → Bool
 counting x = selected x && not (on (x .held))
+
+-- ---- the front: all but the bytes it latches and the core
+
+abbrev pub frontOf : Device → Front
+frontOf x =
+    record {
+      s = x .pins .s;
+      c = x .pins .c;
+      d = x .pins .d;
+      w = x .pins .w;
+      hold = x .pins .hold;
+      held = x .held;
+      taken = x .frame .taken;
+      bits = x .frame .bits;
+      part = x .frame .part;
+      code = x .frame .code;
+      ran = x .frame .ran;
+      value = x .frame .value;
+      out = x .frame .out;
+      shown = x .frame .shown;
+      address = x .frame .address;
+    }
+
+abbrev pub whole : Front → Latch → Core → Device
+whole f l k =
+    record {
+      pins = record { s = f .s; c = f .c; d = f .d; w = f .w; hold = f .hold };
+      held = f .held;
+      frame =
+          record {
+            taken = f .taken;
+            bits = f .bits;
+            part = f .part;
+            code = f .code;
+            ran = f .ran;
+            value = f .value;
+            out = f .out;
+            shown = f .shown;
+            address = f .address;
+            latch = l;
+          };
+      core = k;
+    }

@@ -3,5 +3,6 @@ pub mod Devices
 pub mod Rising
 pub mod Falling
 pub mod Events
+pub mod Ways
 pub mod Ranges
 pub mod Answers

@@ -29,7 +29,7 @@ pub(crate) fn outputs(i: Instruction, taken: u8, ran: bool) -> bool
     }
 }
 
-fn cell(memory: &[u8], address: u32) -> u8
+pub(crate) fn cell(memory: &[u8], address: u32) -> u8
     ensures { λ r. ⌜ r ≡ getD (now (memory .entry)) address 0 ⌝ }
 {
     let at = address as usize;
@@ -39,7 +39,7 @@ fn cell(memory: &[u8], address: u32) -> u8
     0
 }
 
-fn one_up(address: u32) -> u32
+pub(crate) fn one_up(address: u32) -> u32
     ensures { λ r. ⌜ r ≡ (address + 1) % 65536 ⌝ }
 {
     (address % 65536 + 1) % 65536

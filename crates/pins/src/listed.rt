@@ -6,35 +6,40 @@ ghost use Rattle.chip.specs.Refusals.{isDone, number};
 ghost use Rattle.laws.specs.Pick.{pick};
 ghost use Rattle.pins.specs.Answers.{answer, answerMemory, playOutcome, playNumber, played, playedQ};
 use crate::Device;
-use crate::Event;
 use crate::Stepped;
 use crate::events::event_of;
 use crate::falling::level_of;
-use crate::records::bit;
 use chip::Outcome;
 use chip::Refusal;
 
-// The events one after another, and Q after each. A move of D, the most frequent event beside C's, is made in place: the record is not copied for it.
+// The events one after another, and Q after each. The front is held apart, so that most events move numbers and copy no record.
 fn play_all(device: Device, memory: &mut [u8], events: &[u64], out: &mut [u8]) -> Device
     requires { ⌜ length (now out) ≡ length (now events) ⌝ }
     ensures { λ r. ⌜ r ≡ played m95512 (now (events .entry)) (record { device = device; memory = now (memory .entry) }) .device ⌝ }
     ensures { λ _. ⌜ now (memory .exit) ≡ played m95512 (now (events .entry)) (record { device = device; memory = now (memory .entry) }) .memory ⌝ }
     ensures { λ _. ⌜ now (out .exit) ≡ playedQ m95512 (now (events .entry)) (record { device = device; memory = now (memory .entry) }) ⌝ }
 {
-    let mut next = device;
+    let frame = device.frame;
+    let mut front = device.front();
+    let mut latch = frame.latch;
+    let mut core = device.core;
     let mut i: usize = 0;
     while i < events.len() {
         let event = event_of(events[i]);
-        if let Event::D(level) = event {
-            let d = bit(level);
-            next.pins.d = d;
+        let way = front.quick(event, memory);
+        if way.is_whole() {
+            let next = front.whole(latch, core).stepped(event, memory);
+            let frame = next.frame;
+            front = next.front();
+            latch = frame.latch;
+            core = next.core;
         } else {
-            next = next.stepped(event, memory);
+            front = front.moved(way);
         }
-        out[i] = level_of(next.pins.s, next.held, next.frame.shown, next.frame.out).number();
+        out[i] = level_of(front.s, front.held, front.shown, front.out).number();
         i += 1;
     }
-    next
+    front.whole(latch, core)
 }
 
 // A lent list of events, each a number, and a lent output for Q after each: 0, 1, or 2 for Z. Refusals 1, 2, and 5 for an output of another

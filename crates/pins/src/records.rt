@@ -4,9 +4,10 @@ ghost use mathlib.Core.Bool.{not, _&&_};
 ghost use Rattle.chip.specs.Part.{m95512};
 ghost use Prim.Native.Nat.{_+_, min};
 ghost use Rattle.chip.specs.Status.{bit, on};
-ghost use Rattle.pins.specs.Devices.{restingPins, noFrame, resting, withByte, withCode, withValue, withOut, withAddress, withLatch, withHeld};
+ghost use Rattle.pins.specs.Devices.{restingPins, noFrame, resting, withByte, withCode, withValue, withOut, withAddress, withLatch, withHeld, frontOf, whole};
 use crate::Device;
 use crate::Frame;
+use crate::Front;
 use crate::Pins;
 use chip::Core;
 use chip::Latch;
@@ -79,7 +80,7 @@ impl Frame {
     }
 }
 
-fn one_more(taken: u8) -> u8
+pub(crate) fn one_more(taken: u8) -> u8
     ensures { λ r. ⌜ r ≡ min 4 (taken + 1) ⌝ }
 {
     if taken < 4 { taken + 1 } else { 4 }
@@ -116,5 +117,58 @@ impl Device {
         let held = bit(held);
         self.held = held;
         self
+    }
+
+    pub(crate) fn front(self) -> Front
+        ensures { λ r. ⌜ r ≡ frontOf self ⌝ }
+    {
+        Front {
+            s: self.pins.s,
+            c: self.pins.c,
+            d: self.pins.d,
+            w: self.pins.w,
+            hold: self.pins.hold,
+            held: self.held,
+            taken: self.frame.taken,
+            bits: self.frame.bits,
+            part: self.frame.part,
+            code: self.frame.code,
+            ran: self.frame.ran,
+            value: self.frame.value,
+            out: self.frame.out,
+            shown: self.frame.shown,
+            address: self.frame.address,
+        }
+    }
+}
+
+impl Front {
+    // The whole device again.
+    pub(crate) fn whole(self, latch: Latch, core: Core) -> Device
+        ensures { λ r. ⌜ r ≡ whole self latch core ⌝ }
+    {
+        Device {
+            pins: Pins {
+                s: self.s,
+                c: self.c,
+                d: self.d,
+                w: self.w,
+                hold: self.hold,
+            },
+            held: self.held,
+            frame: Frame {
+                taken: self.taken,
+                bits: self.bits,
+                part: self.part,
+                code: self.code,
+                ran: self.ran,
+                value: self.value,
+                out: self.out,
+                shown: self.shown,
+                address: self.address,
+                latch: latch,
+            },
+            core: core,
+        }
     }
 }
