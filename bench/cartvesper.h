@@ -2,7 +2,8 @@
  * docs/LINKING.md says how to link it, and bench/example.c shows each kind of call.
  *
  * Every call answers every input: the only thing a caller must guarantee is that a pointer and the length beside it name bytes that are there
- * (a null pointer with length 0 is an empty slice). No call keeps state, so calls from several threads need no lock unless they share lent bytes.
+ * (a null pointer with length 0 is an empty slice), and that what is lent to be written overlaps nothing else that the same call is lent. No call
+ * keeps state, so calls from several threads need no lock unless they share lent bytes.
  *
  * Each answer's `number` is 0 for done, or the refusal:
  *   1 memory is not 65,536 bytes      4 bit count doesn't fit the slice      7 address + length above 65,536, address above FFFFh, or no part k

@@ -63,7 +63,7 @@ static uint8_t frame_bytes[LONGEST + 3];
 /* ---- counts */
 
 static struct {
-    uint64_t calls, frames, executed, events, readings, lists, listed, cycles, cells, driven, drawn, unreached, damaged, swept, runs, pages, sent, parts, numbers[11];
+    uint64_t calls, frames, executed, events, readings, lists, listed, cycles, cells, driven, drawn, unreached, damaged, damaged_calls, swept, runs, pages, sent, parts, numbers[11];
 } counts;
 
 static uint64_t seed, current_round;
@@ -1328,17 +1328,21 @@ static void try_device_calls(const cartvesper_device *device)
 static void try_damaged_core(void)
 {
     cartvesper_core core = random_core();
+    uint64_t before = counts.calls;
     damage_core(&core);
-    counts.damaged++;
     try_core_calls(&core);
+    counts.damaged++;
+    counts.damaged_calls += counts.calls - before;
 }
 
 static void try_damaged_device(void)
 {
     cartvesper_device device = random_device();
+    uint64_t before = counts.calls;
     damage_device(&device);
-    counts.damaged++;
     try_device_calls(&device);
+    counts.damaged++;
+    counts.damaged_calls += counts.calls - before;
 }
 
 /* records of random bytes throughout */
@@ -1346,6 +1350,7 @@ static void try_random_records(int count)
 {
     cartvesper_core core;
     cartvesper_device device;
+    uint64_t before = counts.calls;
     for (int i = 0; i < count; i++) {
         random_bytes(&core, sizeof core);
         random_bytes(&device, sizeof device);
@@ -1353,6 +1358,7 @@ static void try_random_records(int count)
         try_device_calls(&device);
     }
     counts.damaged += 2 * (uint64_t)count;
+    counts.damaged_calls += counts.calls - before;
 }
 
 /* each field of a record inside the ranges at each edge, the other fields as they were */
@@ -1642,7 +1648,7 @@ static void run_round(void)
     for (int i = 0; i < 8; i++)
         driver_session(100);
     try_parts(1000);
-    try_random_records(100);
+    try_random_records(1000);
     try_limits(20);
     pin_session(6);
     for (int i = 0; i < 150; i++) {
@@ -1667,8 +1673,8 @@ static void print_summary(uint64_t rounds)
            counts.lists, counts.readings);
     printf("cycles ended %" PRIu64 ", cells changed %" PRIu64 "\n", counts.cycles, counts.cells);
     printf("frames drawn at the pins against the frame call %" PRIu64 "\n", counts.drawn);
-    printf("records inside the ranges built by hand %" PRIu64 ", damaged records %" PRIu64 ", fields set to an edge %" PRIu64 "\n", counts.unreached,
-           counts.damaged, counts.swept);
+    printf("records inside the ranges built by hand %" PRIu64 ", damaged records %" PRIu64 " (%" PRIu64 " calls), fields set to an edge %" PRIu64 "\n",
+           counts.unreached, counts.damaged, counts.damaged_calls, counts.swept);
     printf("runs of the driver %" PRIu64 ", pages done %" PRIu64 ", frames sent %" PRIu64 "; parts asked for %" PRIu64 "\n", counts.runs, counts.pages,
            counts.sent, counts.parts);
     printf("refusals, and endings 9 and 10:");
