@@ -1,4 +1,4 @@
-// The four numbers of the split, for C. The split crate's own archive exports them as cartvesper_split_*; this one needs names of its own.
+// The four numbers of the split, for C. The split's own archive exports them as cartvesper_split_*: other names here, so that both can be linked.
 ghost use mathlib.Core.Path.{_≡_};
 ghost use Rattle.chip.specs.Part.{m95512};
 ghost use Rattle.bench.specs.Calls.{partRefusalCall, partCountCall, partAddressCall, partLengthCall};
