@@ -63,7 +63,9 @@ static uint8_t frame_bytes[LONGEST + 3];
 /* ---- counts */
 
 static struct {
-    uint64_t calls, frames, executed, events, readings, lists, listed, cycles, cells, driven, drawn, unreached, damaged, damaged_calls, swept, runs, pages, sent, parts, numbers[11];
+    uint64_t calls, frames, executed, events, readings, lists, listed, cycles, cells, driven, drawn, unreached, damaged, damaged_calls, swept;
+    uint64_t runs, pages, sent, parts; /* of the driver and the split */
+    uint64_t numbers[11];              /* answers by their number */
 } counts;
 
 static uint64_t seed, current_round;
