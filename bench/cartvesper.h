@@ -1,13 +1,17 @@
-/* The bench library for C: both models of the M95512, proved. Build the archive with `rt staticlib bench` (x86-64).
+/* The bench library for C: both models of the M95512, the driver and the split, proved. Build the archive with `rt staticlib bench` (x86-64);
+ * docs/LINKING.md says how to link it, and bench/example.c shows each kind of call.
  *
  * Every call answers every input: the only thing a caller must guarantee is that a pointer and the length beside it name bytes that are there
- * (a null pointer with length 0 is an empty slice). No call keeps state, so calls from several threads need no lock unless they share lent bytes.
+ * (a null pointer with length 0 is an empty slice), and that what is lent to be written overlaps nothing else that the same call is lent. No call
+ * keeps state, so calls from several threads need no lock unless they share lent bytes.
  *
  * Each answer's `number` is 0 for done, or the refusal:
- *   1 memory is not 65,536 bytes      4 bit count doesn't fit the slice      7 address + length above 65,536
- *   2 record, level or flag outside   5 output length differs
+ *   1 memory is not 65,536 bytes      4 bit count doesn't fit the slice      7 address + length above 65,536, address above FFFFh, or no part k
+ *   2 record, level or flag outside   5 output length differs                8 poll interval or poll limit outside
  *   3 slice above 65,540 bytes        6 cycle length not 1 to 5,000
- * Where several apply the lowest is given, and everything lent and every record comes back byte for byte as it was.
+ * Where several apply the lowest is given, and everything lent and every record comes back byte for byte as it was. (6 comes from power-up alone,
+ * which takes no record: it gives the delivered one.) Two more numbers are no refusals, but how a run of the driver ended before its last page:
+ *   9 a wait used its limit and WIP is still 1      10 a page was not taken
  */
 #ifndef CARTVESPER_H
 #define CARTVESPER_H
@@ -81,6 +85,13 @@ typedef struct {
 
 typedef struct {
     uint32_t number;
+    uint32_t pages;  /* done: written, and their cycle seen to end */
+    uint32_t frames; /* sent, every poll among them */
+    cartvesper_core core;
+} cartvesper_driver_answer;
+
+typedef struct {
+    uint32_t number;
     uint32_t value;
 } cartvesper_value;
 
@@ -119,4 +130,27 @@ cartvesper_value cartvesper_device_in_ranges(cartvesper_device device);
  * reading, or the level in the lowest. out has the list's length and gets Q after each event: 0, 1, or 2 for Z. */
 cartvesper_device_answer cartvesper_device_play(cartvesper_device device, uint8_t *memory, size_t size, const uint64_t *events, size_t count,
                                                 uint8_t *out, size_t room);
+
+/* ---- the driver, over the frame model */
+
+/* Writes `length` bytes from an address on, as page writes: polls with RDSR until no cycle runs, then for each page part sends WREN and WRITE and
+ * polls until its cycle has ended. A poll but the first moves the clock by `interval` microseconds, 1 to 5,000; each wait makes at most `limit` polls,
+ * 1 to 5,001. Refusals 1, 2, 7, 8 in that order, also with no data; pages and frames are 0 there. The address is any 64-bit number: no sum wraps, and
+ * 65,536 is taken with no data. Else the number is
+ *   0 all pages done: the bytes are in the memory (no data: done at once, 0 frames, the clock not moved)
+ *   9 a wait used its limit and WIP is still 1: the record and the memory are those after the last poll, so the page in hand still waits in the
+ *     record (its cycle goes on with the next clock reading) and is not counted; pages counts those before it, and they are stored
+ *  10 a page was not taken, because it is protected: the pages before it are stored, nothing of it is; WRDI was sent and counted, so WEL is 0 */
+cartvesper_driver_answer cartvesper_write(cartvesper_core core, uint8_t *memory, size_t size, uint64_t address, const uint8_t *bytes, size_t length,
+                                          uint32_t interval, uint32_t limit);
+
+/* ---- the split of a run of bytes into page parts, the numbers that the driver goes by: address, length and part are any 64-bit numbers */
+
+/* 0 where the run lies in the memory and has the part, from 0; else 7, and the three others give 0. No data has no part 0. */
+uint64_t cartvesper_part_refusal(uint64_t address, uint64_t length, uint64_t part);
+/* how many parts the run has */
+uint64_t cartvesper_part_count(uint64_t address, uint64_t length, uint64_t part);
+/* the part's first cell, and its length */
+uint64_t cartvesper_part_address(uint64_t address, uint64_t length, uint64_t part);
+uint64_t cartvesper_part_length(uint64_t address, uint64_t length, uint64_t part);
 #endif

@@ -63,7 +63,9 @@ static uint8_t frame_bytes[LONGEST + 3];
 /* ---- counts */
 
 static struct {
-    uint64_t calls, frames, executed, events, readings, lists, listed, cycles, cells, driven, drawn, unreached, damaged, swept, refusals[8];
+    uint64_t calls, frames, executed, events, readings, lists, listed, cycles, cells, driven, drawn, unreached, damaged, damaged_calls, swept;
+    uint64_t runs, pages, sent, parts; /* of the driver and the split */
+    uint64_t numbers[11];              /* answers by their number */
 } counts;
 
 static uint64_t seed, current_round;
@@ -170,7 +172,7 @@ static void print_hand(const char *what)
     if (hand.has_device)
         printf("  record given:\n"), print_device(&hand.device);
     if (hand.bytes)
-        printf("  frame bytes:\n      "), print_bytes(hand.bytes, hand.length);
+        printf("  bytes:\n      "), print_bytes(hand.bytes, hand.length);
     if (hand.events)
         printf("  events (kind.value):\n");
     for (size_t i = 0; hand.events && i < hand.count; i++)
@@ -239,8 +241,8 @@ static void compare_devices(const char *what, const cartvesper_device *lib, cons
 
 static void count_refusal(uint32_t number)
 {
-    if (number < 8)
-        counts.refusals[number]++;
+    if (number < 11)
+        counts.numbers[number]++;
 }
 
 /* refused: the record as given; done: inside the ranges */
@@ -489,6 +491,47 @@ static uint32_t try_play(cartvesper_device *device, const uint64_t *events, size
     return lib.number;
 }
 
+/* the driver: 9 and 10 leave the state that they ended in, a refusal the one given */
+static uint8_t run_bytes[MEMORY + 2], run_bytes_kept[MEMORY + 2];
+
+static uint32_t try_write(cartvesper_core *core, size_t size, uint64_t address, size_t length, uint32_t interval, uint32_t limit)
+{
+    cartvesper_core given = *core;
+    begin_call(&given, NULL, "write of %zu bytes at %" PRIu64 ", interval %" PRIu32 ", limit %" PRIu32 ", memory %zu", length, address, interval, limit,
+               size);
+    hand.bytes = run_bytes;
+    hand.length = length;
+    memcpy(run_bytes_kept, run_bytes, length);
+    cartvesper_driver_answer lib =
+        cartvesper_write(given, or_null(lib_memory.bytes, size), size, address, or_null(run_bytes, length), length, interval, limit);
+    cartvesper_driver_answer plain =
+        plain_write_call(given, or_null(plain_memory.bytes, size), size, address, or_null(run_bytes, length), length, interval, limit);
+    compare_numbers("the number", lib.number, plain.number);
+    compare_numbers("pages done", lib.pages, plain.pages);
+    compare_numbers("frames sent", lib.frames, plain.frames);
+    compare_cores("the record", &lib.core, &plain.core);
+    compare_bytes("the run's own bytes", run_bytes, run_bytes_kept, length, 0);
+    compare_memory();
+    check_core(lib.number < 9 ? lib.number : 0, &given, &lib.core);
+    counts.numbers[lib.number % 11] += lib.number >= 9;
+    counts.runs++;
+    counts.pages += lib.pages;
+    counts.sent += lib.frames;
+    *core = lib.core;
+    return lib.number;
+}
+
+static void try_part(uint64_t address, uint64_t length, uint64_t part)
+{
+    begin_call(NULL, NULL, "part %" PRIu64 " of %" PRIu64 " bytes at %" PRIu64, part, length, address);
+    compare_numbers("the part's refusal", cartvesper_part_refusal(address, length, part), plain_part_refusal(address, length, part));
+    compare_numbers("the count of parts", cartvesper_part_count(address, length, part), plain_part_count(address, length, part));
+    compare_numbers("the part's address", cartvesper_part_address(address, length, part), plain_part_address(address, length, part));
+    compare_numbers("the part's length", cartvesper_part_length(address, length, part), plain_part_length(address, length, part));
+    counts.calls += 3;
+    counts.parts++;
+}
+
 /* ---- what is random: sizes, readings, frames */
 
 static void new_memory(void)
@@ -659,6 +702,139 @@ static void frame_session(int steps)
             try_reading(&core, random_reading(&core), random_size(2));
         if (percent(10))
             try_core_queries(&core, percent(80) ? random_address() : random32() >> below(32));
+    }
+}
+
+/* ---- runs of the driver, and parts */
+
+static size_t random_run(void)
+{
+    if (below(400) == 0)
+        return MEMORY - 1 + below(3);
+    switch (below(8)) {
+    case 0:
+        return 0;
+    case 1:
+        return 1;
+    case 2:
+        return PAGE * (1 + below(4)) + 1 - below(3);
+    default:
+        return below(450);
+    }
+}
+
+/* just inside the memory, one past it, across the edges of the protected areas; sums that 32 or 64 bits would lose */
+static uint64_t random_run_address(size_t length)
+{
+    const uint64_t far[] = {MEMORY + 1, 0x100000000, 0xFFFFFFFF, 0x100000000 - length, 0 - (uint64_t)length, UINT64_MAX, 1ULL << 63, next64()};
+    switch (below(16)) {
+    case 0:
+        return percent(60) ? far[below(8)] : far[below(8)] + below(300);
+    case 1:
+        return length <= MEMORY ? MEMORY + 1 - length : 0;
+    case 2:
+        return MEMORY;
+    case 3:
+    case 4:
+        return length <= MEMORY ? MEMORY - length : 0;
+    case 5:
+        return 0;
+    case 6:
+    case 7:
+    case 8:
+    case 9:
+        return 0x8000 + 0x4000 * below(2) - below(450);
+    default:
+        return length < MEMORY ? random_address() % (MEMORY - length) : 0;
+    }
+}
+
+static uint32_t random_interval(const cartvesper_core *core)
+{
+    static const uint32_t outside[] = {0, 5001, 0xFFFFFFFF, 0x80000000};
+    uint32_t cycle = core->cycle % 5001;
+    switch (below(20)) {
+    case 0:
+        return outside[below(4)];
+    case 1:
+        return 1;
+    case 2:
+        return 5000;
+    case 3:
+        return 1000;
+    case 4:
+    case 5:
+        return cycle + 1 - below(3);
+    case 6:
+    case 7:
+        return cycle / 2 + below(3);
+    default:
+        return cycle / 16 + 1 + below(2500);
+    }
+}
+
+/* about as many polls as the cycle takes, so that a wait just ends or just doesn't */
+static uint32_t random_limit(const cartvesper_core *core, uint32_t interval)
+{
+    static const uint32_t outside[] = {0, 5002, 0xFFFFFFFF, 0x80000000};
+    uint32_t polls = interval ? (core->cycle % 5001 + interval - 1) / interval : 1;
+    switch (below(20)) {
+    case 0:
+        return outside[below(4)];
+    case 1:
+        return 1;
+    case 2:
+        return 2;
+    case 3:
+        return 1 + below(5001);
+    case 4:
+    case 5:
+        return polls;
+    case 6:
+        return polls + 1;
+    case 7:
+        return polls - 1;
+    default:
+        return 5001;
+    }
+}
+
+static void random_write(cartvesper_core *core, uint32_t damage)
+{
+    size_t length = random_run();
+    uint32_t interval = random_interval(core), limit = random_limit(core, interval);
+    if (length > 1000 && interval < core->cycle / 4) /* else some 2,000,000 polls */
+        interval = 1000;
+    random_bytes(run_bytes, length < 1000 ? length : 1000);
+    try_write(core, random_size(damage), random_run_address(length), length, interval, limit);
+}
+
+static uint64_t random_number(void)
+{
+    static const uint64_t at[] = {0, 1, 100, 127, 128, 129, 300, 65407, 65408, 65535, 65536, 65537, 0xFFFFFFFF, 0x100000000, 1ULL << 63, UINT64_MAX};
+    switch (below(4)) {
+    case 0:
+        return at[below(16)];
+    case 1:
+        return below(MEMORY + 1);
+    case 2:
+        return below(600);
+    default:
+        return next64() >> below(64);
+    }
+}
+
+static void try_parts(int count)
+{
+    for (int i = 0; i < count; i++) {
+        uint64_t address = random_number(), length = random_number();
+        if (percent(60)) { /* a run that lies in the memory, or ends one past it */
+            address = below(MEMORY + 1);
+            length = below((uint32_t)(MEMORY - address) + 1) + percent(5);
+        }
+        if (percent(10))
+            length = 0 - address + below(1000); /* the sum wraps */
+        try_part(address, length, percent(50) ? below((uint32_t)(length % 65536) / PAGE + 3) : random_number());
     }
 }
 
@@ -1003,6 +1179,23 @@ static void step_unreached_core(void)
     try_core_queries(&core, random_address());
 }
 
+/* from a device as the last run left it, in a cycle too, or from a record that no calls reach */
+static void driver_session(int runs)
+{
+    cartvesper_core core;
+    new_memory();
+    try_power_up(&core, random_cycle(), percent(20), percent(20), percent(30), random_clock());
+    for (int i = 0; i < runs; i++) {
+        if (percent(20))
+            core = random_core();
+        if (percent(10))
+            frame_step(&core);
+        if (percent(10))
+            try_reading(&core, random_reading(&core), MEMORY);
+        random_write(&core, 2);
+    }
+}
+
 /* ---- damaged records */
 
 typedef struct {
@@ -1115,6 +1308,8 @@ static void try_core_calls(const cartvesper_core *core)
     try_frame(&copy, random_size(20), (uint8_t)(percent(10) ? random32() : below(2)), length, off_by_one(bits, 20), off_by_one(length, 20));
     copy = *core;
     try_reading(&copy, random_reading(core), random_size(20));
+    copy = *core;
+    random_write(&copy, 20);
 }
 
 /* every call of the pin model */
@@ -1135,17 +1330,37 @@ static void try_device_calls(const cartvesper_device *device)
 static void try_damaged_core(void)
 {
     cartvesper_core core = random_core();
+    uint64_t before = counts.calls;
     damage_core(&core);
-    counts.damaged++;
     try_core_calls(&core);
+    counts.damaged++;
+    counts.damaged_calls += counts.calls - before;
 }
 
 static void try_damaged_device(void)
 {
     cartvesper_device device = random_device();
+    uint64_t before = counts.calls;
     damage_device(&device);
-    counts.damaged++;
     try_device_calls(&device);
+    counts.damaged++;
+    counts.damaged_calls += counts.calls - before;
+}
+
+/* records of random bytes throughout */
+static void try_random_records(int count)
+{
+    cartvesper_core core;
+    cartvesper_device device;
+    uint64_t before = counts.calls;
+    for (int i = 0; i < count; i++) {
+        random_bytes(&core, sizeof core);
+        random_bytes(&device, sizeof device);
+        try_core_calls(&core);
+        try_device_calls(&device);
+    }
+    counts.damaged += 2 * (uint64_t)count;
+    counts.damaged_calls += counts.calls - before;
 }
 
 /* each field of a record inside the ranges at each edge, the other fields as they were */
@@ -1394,11 +1609,48 @@ static void cases_d_e(void)
     case_expect("case e: idle (second: wanted)", cartvesper_core_status(core).value, 0x8C);
 }
 
+/* case h, case l, and what the ends of the ranges do */
+static void case_write(const char *what, uint64_t address, size_t length, uint32_t interval, uint32_t limit, uint32_t number, uint32_t pages,
+                       uint32_t frames)
+{
+    cartvesper_core core;
+    case_start(&core, 1);
+    memset(run_bytes, 0x5A, length);
+    uint64_t pages_before = counts.pages, frames_before = counts.sent;
+    case_expect(what, try_write(&core, MEMORY, address, length, interval, limit), number);
+    case_expect(what, (uint32_t)(counts.pages - pages_before), pages);
+    case_expect(what, (uint32_t)(counts.sent - frames_before), frames);
+}
+
+static void cases_h_l(void)
+{
+    case_write("case h, interval 1,000 (second: wanted)", 100, 300, 1000, 5001, 0, 4, 29);
+    case_write("case h, interval 700 (second: wanted)", 100, 300, 700, 5001, 0, 4, 1 + 4 * (2 + 8));
+    case_write("case l (second: wanted)", 100, 300, 1000, 4, 9, 0, 1 + 2 + 4);
+    case_write("interval 1, 5,000 polls (second: wanted)", 0, 1, 1, 5001, 0, 1, 1 + 2 + 5000);
+    case_write("interval 5,000 (second: wanted)", 0, 1, 5000, 1, 0, 1, 1 + 2 + 1);
+    case_write("interval 0 (second: wanted)", 0, 1, 0, 1, 8, 0, 0);
+    case_write("interval 5,001 (second: wanted)", 0, 1, 5001, 1, 8, 0, 0);
+    case_write("limit 0 (second: wanted)", 0, 1, 1, 0, 8, 0, 0);
+    case_write("limit 5,002 (second: wanted)", 0, 1, 1, 5002, 8, 0, 0);
+    case_write("no data at 65,536 (second: wanted)", MEMORY, 0, 1, 1, 0, 0, 0);
+    case_write("no data at 65,537 (second: wanted)", MEMORY + 1, 0, 1, 1, 7, 0, 0);
+    case_write("one byte at 65,536 (second: wanted)", MEMORY, 1, 1, 1, 7, 0, 0);
+    case_write("a sum of 0 in 64 bits (second: wanted)", UINT64_MAX, 1, 1, 1, 7, 0, 0);
+    case_write("a sum of 0 in 32 bits (second: wanted)", 0xFFFFFFFF, 1, 1, 1, 7, 0, 0);
+    case_write("into the protected quarter (second: wanted)", 0xBFFF, 2, 5000, 1, 10, 1, 1 + 3 + 4);
+    case_write("the whole memory (second: wanted)", 0, MEMORY, 1000, 5, 10, 384, 1 + 384 * 7 + 4);
+}
+
 /* ---- */
 
 static void run_round(void)
 {
     frame_session(300);
+    for (int i = 0; i < 8; i++)
+        driver_session(100);
+    try_parts(1000);
+    try_random_records(1000);
     try_limits(20);
     pin_session(6);
     for (int i = 0; i < 150; i++) {
@@ -1423,11 +1675,13 @@ static void print_summary(uint64_t rounds)
            counts.lists, counts.readings);
     printf("cycles ended %" PRIu64 ", cells changed %" PRIu64 "\n", counts.cycles, counts.cells);
     printf("frames drawn at the pins against the frame call %" PRIu64 "\n", counts.drawn);
-    printf("records inside the ranges built by hand %" PRIu64 ", damaged records %" PRIu64 ", fields set to an edge %" PRIu64 "\n", counts.unreached,
-           counts.damaged, counts.swept);
-    printf("refusals:");
-    for (int i = 1; i < 8; i++)
-        printf(" %d: %" PRIu64 "%s", i, counts.refusals[i], i < 7 ? "," : "\n");
+    printf("records inside the ranges built by hand %" PRIu64 ", damaged records %" PRIu64 " (%" PRIu64 " calls), fields set to an edge %" PRIu64 "\n",
+           counts.unreached, counts.damaged, counts.damaged_calls, counts.swept);
+    printf("runs of the driver %" PRIu64 ", pages done %" PRIu64 ", frames sent %" PRIu64 "; parts asked for %" PRIu64 "\n", counts.runs, counts.pages,
+           counts.sent, counts.parts);
+    printf("refusals, and endings 9 and 10:");
+    for (int i = 1; i < 11; i++)
+        printf(" %d: %" PRIu64 "%s", i, counts.numbers[i], i < 10 ? "," : "\n");
 }
 
 int main(int argc, char **argv)
@@ -1440,6 +1694,7 @@ int main(int argc, char **argv)
     cases_a_b();
     case_c();
     cases_d_e();
+    cases_h_l();
     for (current_round = 0; current_round < rounds; current_round++)
         run_round();
     print_summary(rounds);

@@ -533,6 +533,142 @@ void plain_play(cartvesper_device *device, uint8_t *memory, const uint64_t *even
     }
 }
 
+/* ---- the driver: 01 "The driver", reading "Driver and split" */
+
+typedef struct {
+    cartvesper_core *core;
+    uint8_t *memory;
+    uint32_t interval, limit, frames;
+} driver_run;
+
+static void send(driver_run *run, const uint8_t *bytes, size_t length, uint8_t *out)
+{
+    plain_frame(run->core, run->memory, 1, bytes, length, 8 * length, out); /* W does not matter */
+    run->frames++;
+}
+
+static uint8_t poll(driver_run *run)
+{
+    static const uint8_t rdsr[2] = {RDSR, 0};
+    uint8_t out[2];
+    send(run, rdsr, sizeof rdsr, out);
+    return out[1];
+}
+
+/* polls until WIP is 0 or the limit is used, and gives the last one's status; the first wait's first poll does not move the clock */
+static uint8_t wait_for_wip(driver_run *run, int first_wait)
+{
+    uint8_t status = 0;
+    for (uint32_t polls = 0; polls < run->limit; polls++) {
+        if (!first_wait || polls > 0)
+            plain_time(run->core, run->memory, run->core->last + run->interval);
+        status = poll(run);
+        if (!(status & 0x01))
+            break;
+    }
+    return status;
+}
+
+static uint8_t write_page(driver_run *run, uint32_t address, const uint8_t *bytes, size_t length)
+{
+    static const uint8_t wren[1] = {WREN};
+    uint8_t frame[3 + PAGE], out[3 + PAGE];
+    frame[0] = WRITE;
+    frame[1] = (uint8_t)(address >> 8);
+    frame[2] = (uint8_t)address;
+    memcpy(frame + 3, bytes, length);
+    send(run, wren, sizeof wren, out);
+    send(run, frame, 3 + length, out);
+    return wait_for_wip(run, 0);
+}
+
+/* WIP and WEL in what the page's last poll saw */
+static uint32_t page_ending(driver_run *run, uint8_t status)
+{
+    static const uint8_t wrdi[1] = {WRDI};
+    uint8_t out[1];
+    if (status & 0x01)
+        return 9;
+    if (!(status & 0x02))
+        return 0;
+    send(run, wrdi, sizeof wrdi, out);
+    return 10;
+}
+
+uint32_t plain_write(cartvesper_core *core, uint8_t *memory, uint32_t address, const uint8_t *bytes, size_t length, uint32_t interval, uint32_t limit,
+                     uint32_t *pages, uint32_t *frames)
+{
+    driver_run run = {core, memory, interval, limit, 0};
+    uint32_t number = 0;
+    *pages = 0;
+    if (length > 0 && wait_for_wip(&run, 1) & 0x01)
+        number = 9;
+    while (length > 0 && number == 0) {
+        size_t part = PAGE - address % PAGE;
+        if (part > length)
+            part = length;
+        number = page_ending(&run, write_page(&run, address, bytes, part));
+        *pages += number == 0;
+        address += (uint32_t)part;
+        bytes += part;
+        length -= part;
+    }
+    *frames = run.frames;
+    return number;
+}
+
+/* ---- the split: the parts one after the other, as a person would cut the run */
+
+static int run_fits(uint64_t address, uint64_t length)
+{
+    return address <= MEMORY && length <= MEMORY && address + length <= MEMORY;
+}
+
+typedef struct {
+    uint64_t refusal, count, address, length;
+} split_answer;
+
+static split_answer split(uint64_t address, uint64_t length, uint64_t part)
+{
+    split_answer answer = {7, 0, 0, 0}, none = answer;
+    if (!run_fits(address, length))
+        return none;
+    for (uint64_t k = 0; length > 0; k++) {
+        uint64_t here = PAGE - address % PAGE;
+        if (here > length)
+            here = length;
+        if (k == part) {
+            answer.refusal = 0;
+            answer.address = address;
+            answer.length = here;
+        }
+        answer.count++;
+        address += here;
+        length -= here;
+    }
+    return answer.refusal ? none : answer;
+}
+
+uint64_t plain_part_refusal(uint64_t address, uint64_t length, uint64_t part)
+{
+    return split(address, length, part).refusal;
+}
+
+uint64_t plain_part_count(uint64_t address, uint64_t length, uint64_t part)
+{
+    return split(address, length, part).count;
+}
+
+uint64_t plain_part_address(uint64_t address, uint64_t length, uint64_t part)
+{
+    return split(address, length, part).address;
+}
+
+uint64_t plain_part_length(uint64_t address, uint64_t length, uint64_t part)
+{
+    return split(address, length, part).length;
+}
+
 /* ---- every input answered */
 
 static uint32_t power_up_refusal(uint32_t cycle, uint8_t srwd, uint8_t bp1, uint8_t bp0)
@@ -703,5 +839,25 @@ cartvesper_device_answer plain_device_play_call(cartvesper_device device, uint8_
     cartvesper_device_answer answer = {play_refusal(&device, size, count, room), device};
     if (answer.number == 0)
         plain_play(&answer.device, memory, events, count, out);
+    return answer;
+}
+
+static uint32_t write_refusal(const cartvesper_core *core, size_t size, uint64_t address, size_t length, uint32_t interval, uint32_t limit)
+{
+    if (size != MEMORY)
+        return 1;
+    if (!plain_core_ok(core))
+        return 2;
+    if (!run_fits(address, length))
+        return 7;
+    return interval < 1 || interval > LONGEST_CYCLE || limit < 1 || limit > LONGEST_CYCLE + 1 ? 8 : 0;
+}
+
+cartvesper_driver_answer plain_write_call(cartvesper_core core, uint8_t *memory, size_t size, uint64_t address, const uint8_t *bytes, size_t length,
+                                          uint32_t interval, uint32_t limit)
+{
+    cartvesper_driver_answer answer = {write_refusal(&core, size, address, length, interval, limit), 0, 0, core};
+    if (answer.number == 0)
+        answer.number = plain_write(&answer.core, memory, (uint32_t)address, bytes, length, interval, limit, &answer.pages, &answer.frames);
     return answer;
 }

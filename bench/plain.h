@@ -1,6 +1,6 @@
-/* A plain C model of the M95512, written from document 01 and its reading alone: the frame level and the pin level, in the C record types of
- * cartvesper.h, updated in place. The functions without `_call` trust their caller (a record inside its ranges, 65,536 bytes of memory, levels
- * 0 or 1); the `_call` functions answer every input as cartvesper.h says. */
+/* A plain C model of the M95512, written from document 01 and its reading alone: the frame level, the pin level, the driver and the split, in the C
+ * record types of cartvesper.h, updated in place. The functions without `_call` trust their caller (a record inside its ranges, 65,536 bytes of
+ * memory, levels 0 or 1); the `_call` functions answer every input as cartvesper.h says. */
 #ifndef PLAIN_H
 #define PLAIN_H
 #include "cartvesper.h"
@@ -33,6 +33,17 @@ int plain_q(const cartvesper_device *device); /* 0, 1, or 2 for Z */
 void plain_event(cartvesper_device *device, uint8_t *memory, uint64_t event);
 void plain_play(cartvesper_device *device, uint8_t *memory, const uint64_t *events, size_t count, uint8_t *out);
 
+/* ---- the driver and the split */
+
+/* a run that lies in the memory, with interval and limit in range; gives back 0, 9 or 10 */
+uint32_t plain_write(cartvesper_core *core, uint8_t *memory, uint32_t address, const uint8_t *bytes, size_t length, uint32_t interval, uint32_t limit,
+                     uint32_t *pages, uint32_t *frames);
+/* the four numbers, for any address, length and part */
+uint64_t plain_part_refusal(uint64_t address, uint64_t length, uint64_t part);
+uint64_t plain_part_count(uint64_t address, uint64_t length, uint64_t part);
+uint64_t plain_part_address(uint64_t address, uint64_t length, uint64_t part);
+uint64_t plain_part_length(uint64_t address, uint64_t length, uint64_t part);
+
 /* ---- every input answered, call by call as cartvesper.h */
 
 cartvesper_core_answer plain_power_up_call(uint32_t cycle, uint8_t srwd, uint8_t bp1, uint8_t bp0, uint32_t reading);
@@ -55,4 +66,7 @@ cartvesper_value plain_device_status_call(cartvesper_device device);
 cartvesper_value plain_device_in_ranges_call(cartvesper_device device);
 cartvesper_device_answer plain_device_play_call(cartvesper_device device, uint8_t *memory, size_t size, const uint64_t *events, size_t count,
                                                 uint8_t *out, size_t room);
+
+cartvesper_driver_answer plain_write_call(cartvesper_core core, uint8_t *memory, size_t size, uint64_t address, const uint8_t *bytes, size_t length,
+                                          uint32_t interval, uint32_t limit);
 #endif

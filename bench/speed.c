@@ -29,7 +29,7 @@ static size_t event_count;
 static double now(void)
 {
     struct timespec t;
-    clock_gettime(CLOCK_MONOTONIC, &t);
+    clock_gettime(CLOCK_PROCESS_CPUTIME_ID, &t); /* what else runs on the machine counts little */
     return (double)t.tv_sec * 1e9 + (double)t.tv_nsec;
 }
 
@@ -301,25 +301,74 @@ static void call_plays(size_t n)
     }
 }
 
+/* ---- the driver writes the whole memory; operation = the run of 512 pages */
+
+static uint8_t run_bytes[MEMORY];
+static uint32_t run_interval;
+
+static void set_up_run(void)
+{
+    for (size_t i = 0; i < MEMORY; i++)
+        run_bytes[i] = (uint8_t)(i * 5 + (i >> 7));
+    run_interval = 1000;
+}
+
+static void set_up_fine_run(void)
+{
+    set_up_run();
+    run_interval = 1;
+}
+
+static void lib_runs(size_t n)
+{
+    while (n-- > 0) {
+        cartvesper_driver_answer a = cartvesper_write(lib.core, lib.memory, MEMORY, 0, run_bytes, MEMORY, run_interval, CYCLE + 1);
+        if (a.number)
+            refused();
+        lib.core = a.core;
+    }
+}
+
+static void plain_runs(size_t n)
+{
+    uint32_t pages, frames;
+    while (n-- > 0)
+        if (plain_write(&plain.core, plain.memory, 0, run_bytes, MEMORY, run_interval, CYCLE + 1, &pages, &frames))
+            refused();
+}
+
+static void call_runs(size_t n)
+{
+    while (n-- > 0) {
+        cartvesper_driver_answer a = plain_write_call(plain.core, plain.memory, MEMORY, 0, run_bytes, MEMORY, run_interval, CYCLE + 1);
+        if (a.number)
+            refused();
+        plain.core = a.core;
+    }
+}
+
 /* ---- the cases */
 
 typedef struct {
     const char *name;
     void (*set_up)(void);
     void (*lib)(size_t), (*plain)(size_t), (*call)(size_t);
+    size_t before; /* runs that are not timed: every page once, so that both memories end the same */
     int is_stream; /* an operation is one event */
 } speed_case;
 
 static const speed_case cases[] = {
-    {"frame RDSR, 2 bytes", set_up_rdsr, lib_frames, plain_frames, call_frames, 0},
-    {"frame READ, 259 bytes", set_up_read, lib_frames, plain_frames, call_frames, 0},
-    {"frame READ, 65,539 bytes", set_up_long_read, lib_frames, plain_frames, call_frames, 0},
-    {"WREN, WRITE of 128 bytes, cycle's end", set_up_write, lib_writes, plain_writes, call_writes, 0},
-    {"pin event, READ frames, one by one", set_up_read_stream, lib_events, plain_events, call_events, 1},
-    {"pin event, WRITE frames, one by one", set_up_write_stream, lib_events, plain_events, call_events, 1},
-    {"pin event, READ frames, as a list", set_up_read_stream, lib_play, plain_plays, call_plays, 1},
-    {"pin event, WRITE frames, as a list", set_up_write_stream, lib_play, plain_plays, call_plays, 1},
-    {"pin event, RDSR polls, as a list", set_up_poll_stream, lib_play, plain_plays, call_plays, 1},
+    {"frame RDSR, 2 bytes", set_up_rdsr, lib_frames, plain_frames, call_frames, 512, 0},
+    {"frame READ, 259 bytes", set_up_read, lib_frames, plain_frames, call_frames, 512, 0},
+    {"frame READ, 65,539 bytes", set_up_long_read, lib_frames, plain_frames, call_frames, 512, 0},
+    {"WREN, WRITE of 128 bytes, cycle's end", set_up_write, lib_writes, plain_writes, call_writes, 512, 0},
+    {"pin event, READ frames, one by one", set_up_read_stream, lib_events, plain_events, call_events, 512, 1},
+    {"pin event, WRITE frames, one by one", set_up_write_stream, lib_events, plain_events, call_events, 512, 1},
+    {"pin event, READ frames, as a list", set_up_read_stream, lib_play, plain_plays, call_plays, 512, 1},
+    {"pin event, WRITE frames, as a list", set_up_write_stream, lib_play, plain_plays, call_plays, 512, 1},
+    {"pin event, RDSR polls, as a list", set_up_poll_stream, lib_play, plain_plays, call_plays, 512, 1},
+    {"driver, 65,536 bytes, interval 1,000", set_up_run, lib_runs, plain_runs, call_runs, 1, 0},
+    {"driver, 65,536 bytes, interval 1", set_up_fine_run, lib_runs, plain_runs, call_runs, 1, 0},
 };
 
 static double timed(void (*run)(size_t), size_t n)
@@ -353,8 +402,8 @@ static void run_case(const speed_case *one, int through_call)
     reset_side(&lib);
     reset_side(&plain);
     one->set_up();
-    one->lib(512); /* every page once, so that both memories end the same */
-    base(512);
+    one->lib(one->before);
+    base(one->before);
     size_t lib_n = calibrate(one->lib), base_n = calibrate(base);
     while (lib_time < 3e8 || base_time < 3e8) {
         lib_time += timed(one->lib, lib_n);
@@ -365,14 +414,14 @@ static void run_case(const speed_case *one, int through_call)
     check_same(one->name);
     double each = one->is_stream ? (double)event_count : 1;
     double lib_ns = lib_time / lib_runs / each, base_ns = base_time / base_runs / each;
-    printf("%-40s %12.2f %12.2f %8.2f\n", one->name, lib_ns, base_ns, base_ns / lib_ns);
+    printf("%-40s %14.2f %14.2f %8.2f\n", one->name, lib_ns, base_ns, base_ns / lib_ns);
     fflush(stdout);
 }
 
 int main(int argc, char **argv)
 {
     int through_call = argc > 1 && strcmp(argv[1], "call") == 0;
-    printf("%-40s %12s %12s %8s\n", "", "library ns", through_call ? "call ns" : "plain ns", "ratio");
+    printf("%-40s %14s %14s %8s\n", "", "library ns", through_call ? "call ns" : "plain ns", "ratio");
     for (size_t i = 0; i < sizeof cases / sizeof *cases; i++)
         run_case(&cases[i], through_call);
     return 0;

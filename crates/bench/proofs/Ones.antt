@@ -35,6 +35,16 @@ use Rattle.bench.proofs.device_calls.cartvesper_device_read_clock.Kinds
 use Rattle.bench.proofs.device_calls.cartvesper_device_read_clock.Reads as device-read-clock-reads
 use Rattle.bench.proofs.device_calls.cartvesper_device_play.Kinds as device-play
 use Rattle.bench.proofs.device_calls.cartvesper_device_play.Reads as device-play-reads
+use Rattle.bench.proofs.driver_call.cartvesper_write.Kinds as write
+use Rattle.bench.proofs.driver_call.cartvesper_write.Reads as write-reads
+use Rattle.bench.proofs.part_calls.cartvesper_part_refusal.Kinds as part-refusal
+use Rattle.bench.proofs.part_calls.cartvesper_part_refusal.Reads as part-refusal-reads
+use Rattle.bench.proofs.part_calls.cartvesper_part_count.Kinds as part-count
+use Rattle.bench.proofs.part_calls.cartvesper_part_count.Reads as part-count-reads
+use Rattle.bench.proofs.part_calls.cartvesper_part_address.Kinds as part-address
+use Rattle.bench.proofs.part_calls.cartvesper_part_address.Reads as part-address-reads
+use Rattle.bench.proofs.part_calls.cartvesper_part_length.Kinds as part-length
+use Rattle.bench.proofs.part_calls.cartvesper_part_length.Reads as part-length-reads
 
 pub power-up-one : OneResult power-up.ps power-up.r power-up-reads.Post
 power-up-one κs a z z′ e e′ p q = same p q
@@ -101,3 +111,21 @@ device-play-memory κs a z z′ e e′ p q = same (p .1 .0) (q .1 .0)
 
 pub device-play-output : OneExit device-play.ps device-play.r device-play-reads.Post (λ κs e. now (e .1 .1 .1 .0))
 device-play-output κs a z z′ e e′ p q = same (p .1 .1) (q .1 .1)
+
+pub write-one : OneResult write.ps write.r write-reads.Post
+write-one κs a z z′ e e′ p q = same (p .0) (q .0)
+
+pub write-memory : OneExit write.ps write.r write-reads.Post (λ κs e. now (e .1 .0))
+write-memory κs a z z′ e e′ p q = same (p .1) (q .1)
+
+pub part-refusal-one : OneResult part-refusal.ps part-refusal.r part-refusal-reads.Post
+part-refusal-one κs a z z′ e e′ p q = same p q
+
+pub part-count-one : OneResult part-count.ps part-count.r part-count-reads.Post
+part-count-one κs a z z′ e e′ p q = same p q
+
+pub part-address-one : OneResult part-address.ps part-address.r part-address-reads.Post
+part-address-one κs a z z′ e e′ p q = same p q
+
+pub part-length-one : OneResult part-length.ps part-length.r part-length-reads.Post
+part-length-one κs a z z′ e e′ p q = same p q

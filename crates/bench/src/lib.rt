@@ -1,10 +1,12 @@
-// Both models for C programs: numbers, records of numbers and lent bytes in, the same out. bench/cartvesper.h documents each call.
+// Both models, the driver and the split for C programs: numbers, records of numbers and lent bytes in, the same out. bench/cartvesper.h documents each call.
 //
 // Each function takes the numbers that C hands over, calls the proved public call and puts its answer together: the record crosses as it is, so
 // nothing is lost on the way. A level or a flag that is not 0 or 1 gets refusal 2.
 mod core_calls;
 mod device_calls;
+mod driver_call;
 mod frame_call;
+mod part_calls;
 
 use chip::Core;
 use pins::Device;
@@ -26,6 +28,14 @@ pub struct FrameAnswer {
 pub struct DeviceAnswer {
     pub number: u32,
     pub device: Device,
+}
+
+#[repr(C)]
+pub struct DriverAnswer {
+    pub number: u32,
+    pub pages: u32,
+    pub frames: u32,
+    pub core: Core,
 }
 
 #[repr(C)]

@@ -1,0 +1,185 @@
+/* check pages|heap [SEED] [ROUNDS]: every call that is lent bytes, on slices that are exactly as long as the call is told. With `pages` a slice
+ * starts or ends at a page of the machine that may not be touched, so that one byte read or written beside it stops the program; with `heap` each
+ * is an allocation of its own, for a memory checker to watch. Results are compared by differ.c; here only what is touched counts. */
+#define _DEFAULT_SOURCE
+#include "cartvesper.h"
+#include <stdio.h>
+#include <stdlib.h>
+#include <string.h>
+#include <sys/mman.h>
+#include <unistd.h>
+
+enum { MEMORY = 65536, LONGEST = 65540 };
+enum { ROLES = 3, ROOM = 1 << 17 }; /* memory, input, output; room for the longest slice */
+
+static int on_heap;
+static uint8_t *areas[ROLES];
+static uint64_t state, seen, calls;
+
+static uint32_t random32(void)
+{
+    state ^= state >> 12;
+    state ^= state << 25;
+    state ^= state >> 27;
+    return (uint32_t)((state * 0x2545F4914F6CDD1DULL) >> 32);
+}
+
+static uint32_t below(uint32_t n)
+{
+    return (uint32_t)(((uint64_t)random32() * n) >> 32);
+}
+
+/* ---- lent bytes */
+
+static void map_areas(void)
+{
+    size_t page = (size_t)sysconf(_SC_PAGESIZE);
+    for (int i = 0; i < ROLES; i++) {
+        uint8_t *area = mmap(NULL, ROOM + 2 * page, PROT_NONE, MAP_PRIVATE | MAP_ANONYMOUS, -1, 0);
+        if (area == MAP_FAILED || mprotect(area + page, ROOM, PROT_READ | PROT_WRITE) != 0) {
+            fprintf(stderr, "check: no pages to lend\n");
+            exit(2);
+        }
+        areas[i] = area + page;
+    }
+}
+
+/* a multiple of `each` bytes; none is null, or a place where nothing may be touched */
+static void *lend(int role, size_t length, size_t each)
+{
+    if (on_heap)
+        return length == 0 && below(2) ? NULL : malloc(length * each);
+    if (length == 0 && below(2))
+        return NULL;
+    return below(2) ? areas[role] : areas[role] + ROOM - length * each;
+}
+
+static void give_back(void *lent)
+{
+    if (on_heap)
+        free(lent);
+}
+
+static void fill(uint8_t *bytes, size_t length)
+{
+    uint32_t mix = random32();
+    for (size_t i = 0; i < length; i++)
+        bytes[i] = (uint8_t)(mix >> (i % 4 * 8)) ^ (uint8_t)i;
+}
+
+/* a branch on each byte: a checker sees one that was never written */
+static void look(const uint8_t *bytes, size_t length)
+{
+    for (size_t i = 0; i < length; i++)
+        if (bytes[i] & 1)
+            seen++;
+}
+
+static size_t about(size_t n)
+{
+    return below(4) ? n : n == 0 || below(2) ? n + 1 : n - 1;
+}
+
+/* ---- the calls */
+
+static cartvesper_core core;
+static cartvesper_device device;
+
+static size_t random_length(void)
+{
+    switch (below(8)) {
+    case 0:
+        return 0;
+    case 1:
+        return below(20) == 0 ? LONGEST - 1 + below(3) : 3;
+    default:
+        return 1 + below(300);
+    }
+}
+
+static void check_frame(uint8_t *memory, size_t size)
+{
+    static const uint8_t codes[] = {0x06, 0x04, 0x05, 0x01, 0x03, 0x02, 0x02, 0x03};
+    size_t length = random_length(), room = about(length);
+    uint8_t *bytes = lend(1, length, 1), *out = lend(2, room, 1);
+    fill(bytes, length);
+    if (length > 0)
+        bytes[0] = codes[below(8)];
+    size_t bits = length == 0 ? 0 : 8 * length - (below(4) ? 0 : below(9));
+    cartvesper_frame_answer answer = cartvesper_frame(core, memory, size, (uint8_t)below(2), bytes, length, bits, out, room);
+    if (answer.number == 0)
+        look(out, room);
+    core = answer.core;
+    give_back(bytes);
+    give_back(out);
+}
+
+static void check_reading(uint8_t *memory, size_t size)
+{
+    core = cartvesper_clock_reading(core, core.last + below(6000), memory, size).core;
+    device = cartvesper_device_read_clock(device, device.core.last + below(6000), memory, size).device;
+    device = cartvesper_device_set_c(device, (uint8_t)below(2), memory, size).device;
+}
+
+static void check_play(uint8_t *memory, size_t size)
+{
+    size_t count = below(400), room = about(count);
+    uint64_t *events = lend(1, count, sizeof *events);
+    uint8_t *out = lend(2, room, 1);
+    for (size_t i = 0; i < count; i++) /* mostly clock edges, so that frames come about */
+        events[i] = (uint64_t)(below(3) ? 1 : below(6)) << 32 | below(2);
+    cartvesper_device_answer answer = cartvesper_device_play(device, memory, size, events, count, out, room);
+    if (answer.number == 0)
+        look(out, room);
+    device = answer.device;
+    give_back(events);
+    give_back(out);
+}
+
+static void check_write(uint8_t *memory, size_t size)
+{
+    size_t length = random_length();
+    uint64_t address = below(4) ? below(MEMORY + 1) : length <= MEMORY ? MEMORY - length + below(2) : 0 - (uint64_t)length;
+    uint8_t *bytes = lend(1, length, 1);
+    fill(bytes, length);
+    core = cartvesper_write(core, memory, size, address, bytes, length, 500 + below(4600), below(3) ? 5001 : below(12)).core;
+    give_back(bytes);
+}
+
+static void check_call(void)
+{
+    size_t size = below(16) ? MEMORY : about(below(2) * MEMORY);
+    uint8_t *memory = lend(0, size, 1);
+    if (on_heap || below(64) == 0)
+        fill(memory, size);
+    for (int i = 0; i < 8; i++) {
+        check_frame(memory, size);
+        check_reading(memory, size);
+        check_play(memory, size);
+        check_write(memory, size);
+        calls += 6;
+    }
+    look(memory, size < 256 ? size : 256);
+    give_back(memory);
+}
+
+int main(int argc, char **argv)
+{
+    if (argc < 2 || (strcmp(argv[1], "pages") != 0 && strcmp(argv[1], "heap") != 0)) {
+        fprintf(stderr, "usage: check pages|heap [SEED] [ROUNDS]\n");
+        return 2;
+    }
+    on_heap = argv[1][0] == 'h';
+    uint64_t seed = argc > 2 ? strtoull(argv[2], NULL, 10) : 1, rounds = argc > 3 ? strtoull(argv[3], NULL, 10) : 2000;
+    state = (seed + 1) * 0x9E3779B97F4A7C15ULL | 1;
+    map_areas();
+    for (uint64_t i = 0; i < rounds; i++) {
+        if (i % 8 == 0) {
+            core = cartvesper_power_up(1 + below(5000), 0, 0, (uint8_t)(below(4) == 0), random32()).core;
+            device = cartvesper_device_power_up(1 + below(5000), 0, 0, 0, random32()).device;
+        }
+        check_call();
+    }
+    printf("check %s: nothing beside the lent bytes was touched in %llu calls\n", argv[1], (unsigned long long)calls);
+    return 0;
+}

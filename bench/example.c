@@ -1,0 +1,120 @@
+/* The library by example: one M95512 on a bench, from power-up to a run of the driver. Read it from the top; example.sh builds and runs it.
+ *
+ * The library keeps no state. The device is a record that goes in by value and comes back in the answer, and the memory is 65,536 bytes of yours that
+ * you lend to each call. So a device is copied by copying both, and a call that is refused has changed neither. */
+#include "cartvesper.h"
+#include <stdio.h>
+#include <stdlib.h>
+#include <string.h>
+
+enum { MEMORY = 65536 };
+
+static uint8_t memory[MEMORY];
+
+/* Every answer starts with a number: 0 is done, the others are in cartvesper.h. A bench that sends what it means to send can stop at any other. */
+static void must_be_done(const char *what, uint32_t number)
+{
+    if (number == 0)
+        return;
+    printf("%s: %u\n", what, number);
+    exit(1);
+}
+
+/* A whole frame from select to deselect, W high. All bits of the bytes are sent here: for a frame cut short, give a bit count down to 8 * length - 7.
+ * The output has the frame's length: byte i of it is what Q showed while byte i went in, FFh where the chip did not drive Q. */
+static void send(const char *what, cartvesper_core *core, const uint8_t *bytes, size_t length, uint8_t *out)
+{
+    cartvesper_frame_answer answer = cartvesper_frame(*core, memory, MEMORY, 1, bytes, length, 8 * length, out, length);
+    must_be_done(what, answer.number);
+    *core = answer.core; /* the device that follows */
+}
+
+/* Time is yours too: readings of a free-running 32-bit microsecond counter. It may wrap; the device takes the difference to the last one. */
+static void pass_time(cartvesper_core *core, uint32_t microseconds)
+{
+    cartvesper_core_answer answer = cartvesper_clock_reading(*core, core->last + microseconds, memory, MEMORY);
+    must_be_done("clock reading", answer.number);
+    *core = answer.core;
+}
+
+static uint8_t poll(cartvesper_core *core)
+{
+    const uint8_t rdsr[2] = {0x05, 0x00};
+    uint8_t out[2];
+    send("RDSR", core, rdsr, 2, out);
+    return out[1]; /* SRWD 0 0 0 BP1 BP0 WEL WIP */
+}
+
+/* ---- one page write, frame by frame */
+
+static void write_by_hand(cartvesper_core *core)
+{
+    const uint8_t wren[1] = {0x06}, write[7] = {0x02, 0x00, 0x7E, 0x11, 0x22, 0x33, 0x44}, read[7] = {0x03, 0x00, 0x7E};
+    uint8_t out[7];
+    send("WREN", core, wren, 1, out);
+    send("WRITE", core, write, 7, out);
+    printf("after WRITE: status %02X, cell 007E %02X\n", poll(core), memory[0x7E]); /* WIP and WEL are 1, the cell is as it was */
+    for (int polls = 1; polls <= 5; polls++) {
+        pass_time(core, 1000);
+        printf("after %d ms: status %02X\n", polls, poll(core));
+    }
+    /* the cycle has ended and the page is stored: four bytes from offset 126 on, around the page's end */
+    printf("cells 007E %02X, 007F %02X, 0000 %02X, 0001 %02X\n", memory[0x7E], memory[0x7F], memory[0x00], memory[0x01]);
+    send("READ", core, read, 7, out); /* READ goes on into the next page */
+    printf("READ at 007E: %02X %02X %02X %02X\n", out[3], out[4], out[5], out[6]);
+}
+
+/* ---- the driver: any run of bytes, with a poll each 1,000 microseconds and at most 5,001 polls in a wait */
+
+static void write_by_driver(cartvesper_core *core)
+{
+    uint8_t bytes[300];
+    for (int i = 0; i < 300; i++)
+        bytes[i] = (uint8_t)(i + 1);
+    /* how it will be split: the first number says whether there is a part k */
+    for (uint64_t k = 0; cartvesper_part_refusal(100, 300, k) == 0; k++)
+        printf("part %u of %u: %u bytes at %u\n", (unsigned)k + 1, (unsigned)cartvesper_part_count(100, 300, k),
+               (unsigned)cartvesper_part_length(100, 300, k), (unsigned)cartvesper_part_address(100, 300, k));
+    cartvesper_driver_answer done = cartvesper_write(*core, memory, MEMORY, 100, bytes, sizeof bytes, 1000, 5001);
+    must_be_done("driver", done.number);
+    *core = done.core;
+    printf("driver: %u pages, %u frames, all there: %s\n", done.pages, done.frames, memcmp(memory + 100, bytes, 300) == 0 ? "yes" : "no");
+    /* Four polls of 1,000 microseconds do not see the end of a cycle of 5,000: 9. The page in hand waits on in the record */
+    cartvesper_driver_answer early = cartvesper_write(*core, memory, MEMORY, 1000, bytes, 1, 1000, 4);
+    printf("limit 4: number %u, %u pages, %u frames, %u microseconds left\n", early.number, early.pages, early.frames, early.core.left);
+    *core = early.core;
+    pass_time(core, early.core.left);
+    printf("and then: cell 03E8 %02X\n", memory[1000]);
+}
+
+/* ---- what is not done says so, and changes nothing */
+
+static void refusals(const cartvesper_core *core)
+{
+    const uint8_t bytes[4] = {1, 2, 3, 4};
+    cartvesper_core damaged = *core;
+    damaged.wel = 2; /* a flag is 0 or 1 */
+    printf("a record outside its ranges: %u\n", cartvesper_clock_reading(damaged, 0, memory, MEMORY).number);
+    printf("a memory one byte short: %u\n", cartvesper_clock_reading(*core, 0, memory, MEMORY - 1).number);
+    printf("one byte past the memory: %u\n", cartvesper_write(*core, memory, MEMORY, 65533, bytes, 4, 1000, 5001).number);
+    printf("interval 0: %u\n", cartvesper_write(*core, memory, MEMORY, 0, bytes, 4, 0, 5001).number);
+    /* BP0 protects C000h to FFFFh: the page below is stored, then 10 */
+    cartvesper_core_answer guarded = cartvesper_power_up(5000, 0, 0, 1, 0);
+    must_be_done("power-up", guarded.number);
+    cartvesper_driver_answer stopped = cartvesper_write(guarded.core, memory, MEMORY, 0xBFFE, bytes, 4, 1000, 5001);
+    printf("into the protected quarter: %u, %u page; cells BFFE %02X, BFFF %02X, C000 %02X, C001 %02X\n", stopped.number, stopped.pages,
+           memory[0xBFFE], memory[0xBFFF], memory[0xC000], memory[0xC001]);
+}
+
+int main(void)
+{
+    memset(memory, 0xFF, MEMORY); /* as delivered */
+    /* cycle length 5,000 microseconds, SRWD, BP1 and BP0 0, the clock just about to wrap */
+    cartvesper_core_answer powered = cartvesper_power_up(5000, 0, 0, 0, 4294967290u);
+    must_be_done("power-up", powered.number);
+    cartvesper_core core = powered.core;
+    write_by_hand(&core);
+    write_by_driver(&core);
+    refusals(&core);
+    return 0;
+}

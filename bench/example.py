@@ -1,0 +1,69 @@
+# The library from Python: the records as ctypes structures, a WRITE by frames and a run of the driver. Argument: the shared object
+# (docs/LINKING.md says how to make it from the archive).
+import ctypes
+import sys
+from ctypes import POINTER, Structure, c_size_t, c_uint8, c_uint32, c_uint64
+
+MEMORY = 65536
+
+
+class Latch(Structure):
+    _fields_ = [("bytes", c_uint8 * 128), ("marks", c_uint8 * 128)]
+
+
+class Waiting(Structure):
+    _fields_ = [("kind", c_uint8), ("status", c_uint8), ("page", c_uint32), ("latch", Latch)]
+
+
+class Core(Structure):
+    _fields_ = [("srwd", c_uint8), ("bp1", c_uint8), ("bp0", c_uint8), ("wel", c_uint8),
+                ("cycle", c_uint32), ("left", c_uint32), ("last", c_uint32), ("waits", Waiting)]
+
+
+class CoreAnswer(Structure):
+    _fields_ = [("number", c_uint32), ("core", Core)]
+
+
+class FrameAnswer(Structure):
+    _fields_ = [("number", c_uint32), ("undriven", c_uint64), ("core", Core)]
+
+
+class DriverAnswer(Structure):
+    _fields_ = [("number", c_uint32), ("pages", c_uint32), ("frames", c_uint32), ("core", Core)]
+
+
+BYTES = POINTER(c_uint8)
+library = ctypes.CDLL(sys.argv[1])
+power_up, reading, frame, write = (library.cartvesper_power_up, library.cartvesper_clock_reading, library.cartvesper_frame,
+                                   library.cartvesper_write)
+power_up.restype, power_up.argtypes = CoreAnswer, [c_uint32, c_uint8, c_uint8, c_uint8, c_uint32]
+reading.restype, reading.argtypes = CoreAnswer, [Core, c_uint32, BYTES, c_size_t]
+frame.restype, frame.argtypes = FrameAnswer, [Core, BYTES, c_size_t, c_uint8, BYTES, c_size_t, c_size_t, BYTES, c_size_t]
+write.restype, write.argtypes = DriverAnswer, [Core, BYTES, c_size_t, c_uint64, BYTES, c_size_t, c_uint32, c_uint32]
+
+memory = (c_uint8 * MEMORY)(*[0xFF] * MEMORY)
+
+
+def send(core, values):
+    """A whole frame with W high; the device that follows, and what Q showed."""
+    sent, out = (c_uint8 * len(values))(*values), (c_uint8 * len(values))()
+    answer = frame(core, memory, MEMORY, 1, sent, len(values), 8 * len(values), out, len(values))
+    assert answer.number == 0, answer.number
+    return answer.core, bytes(out)
+
+
+core = power_up(5000, 0, 0, 0, 0).core
+core, _ = send(core, [0x06])
+core, _ = send(core, [0x02, 0x00, 0x7E, 0x11, 0x22, 0x33, 0x44])
+core, out = send(core, [0x05, 0x00])
+print("status", out[1:].hex())
+core = reading(core, 5000, memory, MEMORY).core
+core, out = send(core, [0x03, 0x00, 0x7E, 0, 0])
+print("READ at 007E", out[3:].hex())
+
+run = (c_uint8 * 300)(*[i % 251 for i in range(300)])
+done = write(core, memory, MEMORY, 100, run, 300, 1000, 5001)
+print("driver", done.number, done.pages, done.frames, bytes(memory[100:400]) == bytes(run))
+damaged = done.core
+damaged.wel = 2
+print("a record outside its ranges", reading(damaged, 0, memory, MEMORY).number)

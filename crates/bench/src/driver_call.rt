@@ -1,0 +1,30 @@
+// The driver for C: a run of bytes written as page writes, and what it says of that.
+ghost use mathlib.Core.Path.{_≡_};
+ghost use Rattle.chip.specs.Part.{m95512};
+ghost use Rattle.driver.specs.Answers.{drivenMemory};
+ghost use Rattle.bench.specs.Calls.{writeCall};
+use crate::DriverAnswer;
+use chip::Core;
+
+#[no_mangle]
+pub extern "C" fn cartvesper_write(
+    core: Core,
+    memory: &mut [u8],
+    address: u64,
+    bytes: &[u8],
+    interval: u32,
+    limit: u32,
+) -> DriverAnswer
+    ensures { λ r. ⌜ r ≡ writeCall m95512 core (now (memory .entry)) address (now (bytes .entry)) interval limit ⌝ }
+    ensures { λ _. ⌜ now (memory .exit) ≡ drivenMemory m95512 core (now (memory .entry)) address (now (bytes .entry)) interval limit ⌝ }
+{
+    let written = driver::write(core, memory, address, bytes, interval, limit);
+    let answer = written.answer;
+    let next = written.core;
+    DriverAnswer {
+        number: answer.number(),
+        pages: answer.pages(),
+        frames: answer.frames(),
+        core: next,
+    }
+}
