@@ -1,1 +1,5 @@
 pub mod Cases
+pub mod Hand
+pub mod Runs
+pub mod Puts
+pub mod Plays

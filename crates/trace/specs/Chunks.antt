@@ -47,13 +47,12 @@ chunkBench p m x = played m95512 (found (p .line) x) (benchOf p m)
 abbrev pub chunkPlayer : Player → List ℕ → List ℕ → Player
 chunkPlayer p m x = playerOf 1 (read (p .line) x) (chunkBench p m x)
 
--- those lines with Q after each, and the bad line
+-- those lines, with Q after each
 unfoldable pub chunkLines : Player → List ℕ → List ℕ → List ℕ
-chunkLines p m x =
-    printed (p .line .whole + 1) (playedQ m95512 (found (p .line) x) (benchOf p m)) ++ fell (p .line) (read (p .line) x)
+chunkLines p m x = printed (p .line .whole + 1) (playedQ m95512 (found (p .line) x) (benchOf p m))
 
 abbrev pub chunkOutput : Player → List ℕ → List ℕ → List ℕ
-chunkOutput p m x = headed p ++ chunkLines p m x
+chunkOutput p m x = headed p ++ (chunkLines p m x ++ fell (p .line) (read (p .line) x))
 
 -- ---- the end of the text
 
@@ -82,9 +81,9 @@ unfoldable pub playerFits : Player → Bool
 playerFits p =
     leb (p .headed) 1 && (eqb (p .headed) 1 || eqb (p .line .whole) 0 && eqb (p .line .place) 0) && lineFits (p .line) && deviceFits m95512 (p .device)
 
--- the output that n bytes of text ask for: the header, and a line at most for each byte
+-- the output that n bytes of text ask for: the header, the bad line, and a good line for each byte
 abbrev pub room : ℕ → ℕ
-room n = 7 + 12 * n
+room n = 19 + 10 * n
 
 -- 2, and 5 for an output with fewer bytes than asked for
 abbrev pub endChoice : {A : Type 0} → Player → ℕ → ℕ → A → A → A → A
@@ -116,13 +115,13 @@ feedMemory p m x d = feedChoice p m (room (length x)) (length d) (chunkBench p m
 abbrev pub feedOutput : Player → List ℕ → List ℕ → List ℕ → List ℕ
 feedOutput p m x d = feedChoice p m (room (length x)) (length d) (put d 0 (chunkOutput p m x)) d d d
 
--- the end of the text asks for the room of one byte
+-- the end of the text asks for the room of no byte
 abbrev pub endAnswer : Player → List ℕ → Fed
 endAnswer p d =
-    endChoice p (room 1) (length d) (fedTo (answerOf (endPlayer p)) (endPlayer p) (length (endOutput p))) (refusedTo OutputLength p) (refusedTo RecordRange p)
+    endChoice p (room 0) (length d) (fedTo (answerOf (endPlayer p)) (endPlayer p) (length (endOutput p))) (refusedTo OutputLength p) (refusedTo RecordRange p)
 
 abbrev pub endNumber : Player → List ℕ → ℕ
-endNumber p d = endChoice p (room 1) (length d) (playerNumber (endPlayer p)) 5 2
+endNumber p d = endChoice p (room 0) (length d) (playerNumber (endPlayer p)) 5 2
 
 abbrev pub endWritten : Player → List ℕ → List ℕ
-endWritten p d = endChoice p (room 1) (length d) (put d 0 (endOutput p)) d d
+endWritten p d = endChoice p (room 0) (length d) (put d 0 (endOutput p)) d d

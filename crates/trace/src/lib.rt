@@ -4,7 +4,12 @@
 use chip::Refusal;
 use pins::Device;
 
+mod feed;
 mod lines;
+mod print;
+
+pub use feed::memory;
+pub use feed::start;
 
 // The line in hand.
 pub struct Line {

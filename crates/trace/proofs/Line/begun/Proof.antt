@@ -1,3 +1,6 @@
+use mathlib.Core.Path.{sym, _∙_}
+use Rattle.laws.specs.Pick.{arms}
+use Rattle.trace.proofs.Hand.{digit-low}
 use borrow.Author.Needs.{needs}
 use Rattle.trace.proofs.Line.begun.Statement.{statement}
 use Rattle.trace.proofs.Line.begun.Tie as tie
@@ -7,57 +10,44 @@ use Rattle.trace.proofs.Line.at.Reads as at-reads
 use Rattle.trace.proofs.Line.stopped.Reads as stopped-reads
 use Rattle.trace.proofs.lines.is_digit.Reads as is-digit-reads
 
--- src/lines.rt:81:13
 at-requires : tie.Need-at-requires
 at-requires c κs = search needs
 
--- src/lines.rt:81:13
 returns : tie.Need-returns
-returns c = ?
+returns c = search arms depth 12
 
--- src/lines.rt:85:17
 at-requires-2 : tie.Need-at-requires-2
 at-requires-2 c κs = search needs
 
--- src/lines.rt:85:17
 returns-2 : tie.Need-returns-2
-returns-2 c = ?
+returns-2 c = search arms depth 12
 
--- src/lines.rt:87:13
 stopped-requires : tie.Need-stopped-requires
 stopped-requires c κs = search needs
 
--- src/lines.rt:87:13
 returns-3 : tie.Need-returns-3
-returns-3 c = ?
+returns-3 c = search arms depth 12
 
--- src/lines.rt:89:12
 is-digit-requires : tie.Need-is-digit-requires
 is-digit-requires c κs = search needs
 
--- src/lines.rt:90:43
 sub-at : tie.Need-sub-at
-sub-at c = ?
+sub-at c = digit-low (c .before .before .before .before .before .args .byte) (sym (c .before .is-digit .ensures) ∙ c .if4 .taken)
 
--- src/lines.rt:90:42
 cast-at : tie.Need-cast-at
 cast-at c = search needs
 
--- src/lines.rt:90:13
 at-requires-3 : tie.Need-at-requires-3
 at-requires-3 c κs = search needs
 
--- src/lines.rt:90:13
 returns-4 : tie.Need-returns-4
-returns-4 c = ?
+returns-4 c = search arms depth 12
 
--- src/lines.rt:92:9
 stopped-requires-2 : tie.Need-stopped-requires-2
 stopped-requires-2 c κs = search needs
 
--- src/lines.rt:77:5
 returns-5 : tie.Need-returns-5
-returns-5 c = ?
+returns-5 c = search arms depth 12
 
 pub begun-spec : {M : Type 1} → statement M
 begun-spec =

@@ -1,3 +1,4 @@
+use Rattle.laws.specs.Pick.{arms}
 use borrow.Author.Needs.{needs}
 use Rattle.trace.proofs.Line.closed.Statement.{statement}
 use Rattle.trace.proofs.Line.closed.Tie as tie
@@ -5,21 +6,17 @@ use Rattle.trace.proofs.Line.closed.Reads as reads
 use Rattle.trace.proofs.Line.closed.Lts as lts
 use Rattle.trace.proofs.Line.stopped.Reads as stopped-reads
 
--- src/lines.rt:101:24
 add-t4 : tie.Need-add-t4
 add-t4 c = search needs
 
--- src/lines.rt:100:13
 returns : tie.Need-returns
-returns c = ?
+returns c = search arms depth 12
 
--- src/lines.rt:107:9
 stopped-requires : tie.Need-stopped-requires
 stopped-requires c κs = search needs
 
--- src/lines.rt:95:5
 returns-2 : tie.Need-returns-2
-returns-2 c = ?
+returns-2 c = search arms depth 12
 
 pub closed-spec : {M : Type 1} → statement M
 closed-spec = tie.close (tie.spec add-t4 returns stopped-requires returns-2)

@@ -1,3 +1,5 @@
+use mathlib.Core.Path.{sym, _∙_}
+use Rattle.laws.specs.Pick.{arms}
 use borrow.Author.Needs.{needs}
 use Rattle.trace.proofs.Line.counted.Statement.{statement}
 use Rattle.trace.proofs.Line.counted.Tie as tie
@@ -7,25 +9,20 @@ use Rattle.trace.proofs.Line.closed.Reads as closed-reads
 use Rattle.trace.proofs.Line.longer.Reads as longer-reads
 use Rattle.trace.proofs.lines.is_digit.Reads as is-digit-reads
 
--- src/lines.rt:125:12
 is-digit-requires : tie.Need-is-digit-requires
 is-digit-requires c κs = search needs
 
--- src/lines.rt:126:13
 longer-requires : tie.Need-longer-requires
-longer-requires c κs = ?
+longer-requires c κs = sym (c .before .is-digit .ensures) ∙ c .if1 .taken
 
--- src/lines.rt:126:13
 returns : tie.Need-returns
-returns c = ?
+returns c = search arms depth 12
 
--- src/lines.rt:128:9
 closed-requires : tie.Need-closed-requires
 closed-requires c κs = search needs
 
--- src/lines.rt:121:5
 returns-2 : tie.Need-returns-2
-returns-2 c = ?
+returns-2 c = search arms depth 12
 
 pub counted-spec : {M : Type 1} → statement M
 counted-spec =

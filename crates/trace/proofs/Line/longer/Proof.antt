@@ -1,3 +1,4 @@
+use Rattle.laws.specs.Pick.{arms}
 use borrow.Author.Needs.{needs}
 use Rattle.trace.proofs.Line.longer.Statement.{statement}
 use Rattle.trace.proofs.Line.longer.Tie as tie
@@ -7,29 +8,23 @@ use Rattle.trace.proofs.Line.at.Reads as at-reads
 use Rattle.trace.proofs.Line.stopped.Reads as stopped-reads
 use Rattle.trace.proofs.lines.with_digit.Reads as with-digit-reads
 
--- src/lines.rt:114:13
 with-digit-requires : tie.Need-with-digit-requires
 with-digit-requires c κs = search needs
 
--- src/lines.rt:116:42
 cast-at : tie.Need-cast-at
 cast-at c = search needs
 
--- src/lines.rt:116:13
 at-requires : tie.Need-at-requires
 at-requires c κs = search needs
 
--- src/lines.rt:116:13
 returns : tie.Need-returns
-returns c = ?
+returns c = rw (← c .before .before .with-digit .ensures) (search arms depth 12)
 
--- src/lines.rt:118:9
 stopped-requires : tie.Need-stopped-requires
 stopped-requires c κs = search needs
 
--- src/lines.rt:110:5
 returns-2 : tie.Need-returns-2
-returns-2 c = ?
+returns-2 c = rw (← c .before .before .with-digit .ensures) (search arms depth 12)
 
 pub longer-spec : {M : Type 1} → statement M
 longer-spec =

@@ -1,3 +1,7 @@
+use Rattle.trace.specs.Reading.{next}
+use Rattle.trace.proofs.Hand.{in-hand}
+use native.Mathlib.Omega.{arith}
+use Rattle.laws.specs.Pick.{arms}
 use borrow.Author.Needs.{needs}
 use Rattle.trace.proofs.Line.next.Statement.{statement}
 use Rattle.trace.proofs.Line.next.Tie as tie
@@ -9,49 +13,44 @@ use Rattle.trace.proofs.Line.counted.Reads as counted-reads
 use Rattle.trace.proofs.Line.named.Reads as named-reads
 use Rattle.trace.proofs.Line.tabbed.Reads as tabbed-reads
 
--- src/lines.rt:138:18
 named-requires : tie.Need-named-requires
 named-requires c κs = search needs
 
--- src/lines.rt:139:18
 tabbed-requires : tie.Need-tabbed-requires
 tabbed-requires c κs = search needs
 
--- src/lines.rt:140:18
 begun-requires : tie.Need-begun-requires
 begun-requires c κs = search needs
 
--- src/lines.rt:141:18
 closed-requires : tie.Need-closed-requires
-closed-requires c κs = ?
+closed-requires c κs = in-hand (c .before .args .self) 2 (search needs) (omega arith) (c .before .pre)
 
--- src/lines.rt:142:18
 counted-requires : tie.Need-counted-requires
-counted-requires c κs = ?
+counted-requires c κs = in-hand (c .before .args .self) 3 (search needs) (omega arith) (c .before .pre)
 
--- src/lines.rt:132:5
 returns : tie.Need-returns
-returns c = ?
+unfolding next
+returns c = search arms depth 12
 
--- src/lines.rt:132:5
 returns-2 : tie.Need-returns-2
-returns-2 c = ?
+unfolding next
+returns-2 c = search arms depth 12
 
--- src/lines.rt:132:5
 returns-3 : tie.Need-returns-3
-returns-3 c = ?
+unfolding next
+returns-3 c = search arms depth 12
 
--- src/lines.rt:132:5
 returns-4 : tie.Need-returns-4
-returns-4 c = ?
+unfolding next
+returns-4 c = search arms depth 12
 
--- src/lines.rt:132:5
 returns-5 : tie.Need-returns-5
-returns-5 c = ?
+unfolding next
+returns-5 c = search arms depth 12
 
--- src/lines.rt:132:5
 returns-6 : tie.Need-returns-6
-returns-6 c = ?
+unfolding next
+returns-6 c = search arms depth 12
 
 pub next-spec : {M : Type 1} → statement M
 next-spec =
