@@ -3,3 +3,4 @@ pub mod Hand
 pub mod Runs
 pub mod Puts
 pub mod Plays
+pub mod Chunking

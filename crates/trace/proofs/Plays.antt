@@ -11,6 +11,7 @@ use Rattle.chip.specs.declared.Outcome.{Outcome}
 use Rattle.chip.specs.declared.Outcome.the-variants.{Done}
 use Rattle.pins.specs.declared.Device.{Device}
 use Rattle.pins.specs.declared.Stepped.{Stepped}
+use Rattle.pins.specs.Falling.{q, levelNumber}
 use Rattle.pins.specs.Answers.{Bench, answer, answerMemory, afterEvent, played, playedQ}
 
 pub done-device : {o : Outcome} {r : Stepped} (y x : Device) → o ≡ Done → r ≡ answer o y x → r .device ≡ y
@@ -32,7 +33,7 @@ module _ (P : Part) where
   pub playedQ-append : (es fs : List ℕ) (b : Bench) → playedQ P (es ++ fs) b ≡ playedQ P es b ++ playedQ P fs (played P es b)
   unfolding played playedQ
   playedQ-append [] fs b = refl
-  playedQ-append (e ∷ es) fs b = ap (λ (l : List ℕ). _ ∷ l) (playedQ-append es fs (afterEvent P e b))
+  playedQ-append (e ∷ es) fs b = ap (λ (l : List ℕ). levelNumber (q (afterEvent P e b .device)) ∷ l) (playedQ-append es fs (afterEvent P e b))
 
   pub playedQ-length : (es : List ℕ) (b : Bench) → length (playedQ P es b) ≡ length es
   unfolding playedQ

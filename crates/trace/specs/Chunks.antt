@@ -9,6 +9,7 @@ use Rattle.chip.specs.Part.{m95512}
 use Rattle.chip.specs.Refusals.{refusalNumber}
 use Rattle.chip.specs.declared.Refusal.{Refusal}
 use Rattle.chip.specs.declared.Refusal.the-variants.{MemoryLength, RecordRange, OutputLength}
+use Rattle.pins.specs.declared.Device.{Device}
 use Rattle.pins.specs.Ranges.{deviceFits}
 use Rattle.pins.specs.Answers.{Bench, played, playedQ}
 use Rattle.trace.specs.declared.Line.{Line}
@@ -37,22 +38,28 @@ headed p = pick (eqb (p .headed) 0) header []
 unfoldable pub fell : Line → Line → List ℕ
 fell a b = pick (eqb (a .place) 5) [] (pick (eqb (b .place) 5) (badLine (b .whole + 1)) [])
 
-abbrev pub benchOf : Player → List ℕ → Bench
-benchOf p m = record { device = p .device; memory = m }
+abbrev pub benchWith : Device → List ℕ → Bench
+benchWith x m = record { device = x; memory = m }
 
--- the device and the memory after the lines that end in the chunk x
-unfoldable pub chunkBench : Player → List ℕ → List ℕ → Bench
-chunkBench p m x = played m95512 (found (p .line) x) (benchOf p m)
+abbrev pub benchOf : Player → List ℕ → Bench
+benchOf p m = benchWith (p .device) m
+
+-- the device and the memory after the lines that end in the bytes x, from the line l in hand on
+unfoldable pub playedLines : Line → Bench → List ℕ → Bench
+playedLines l b x = played m95512 (found l x) b
+
+-- those lines, with Q after each
+unfoldable pub shownLines : Line → Bench → List ℕ → List ℕ
+shownLines l b x = printed (l .whole + 1) (playedQ m95512 (found l x) b)
+
+abbrev pub chunkBench : Player → List ℕ → List ℕ → Bench
+chunkBench p m x = playedLines (p .line) (benchOf p m) x
 
 abbrev pub chunkPlayer : Player → List ℕ → List ℕ → Player
 chunkPlayer p m x = playerOf 1 (read (p .line) x) (chunkBench p m x)
 
--- those lines, with Q after each
-unfoldable pub chunkLines : Player → List ℕ → List ℕ → List ℕ
-chunkLines p m x = printed (p .line .whole + 1) (playedQ m95512 (found (p .line) x) (benchOf p m))
-
 abbrev pub chunkOutput : Player → List ℕ → List ℕ → List ℕ
-chunkOutput p m x = headed p ++ (chunkLines p m x ++ fell (p .line) (read (p .line) x))
+chunkOutput p m x = headed p ++ (shownLines (p .line) (benchOf p m) x ++ fell (p .line) (read (p .line) x))
 
 -- ---- the end of the text
 

@@ -2,7 +2,7 @@
 ghost use mathlib.Core.Path.{_≡_};
 ghost use mathlib.Core.Bool.{true};
 ghost use mathlib.Core.List.{_++_};
-ghost use Prim.Native.Nat.{_+_, _*_, _≤_};
+ghost use Prim.Native.Nat.{_+_, _*_, _<_, _≤_};
 ghost use lib.ListN.{length};
 ghost use Rattle.chip.specs.Part.{m95512};
 ghost use Rattle.pins.specs.Answers.{Bench, played, playedQ};
@@ -10,7 +10,7 @@ ghost use Rattle.pins.specs.Ranges.{deviceFits};
 ghost use Rattle.trace.specs.Texts.{startBench, deliveredMemory, printed};
 ghost use Rattle.trace.specs.Reading.{read, found, ended, lineFits, stopped};
 ghost use Rattle.trace.specs.Put.{put};
-ghost use Rattle.trace.specs.Chunks.{startPlayer, headed, fell, benchOf, chunkBench, chunkPlayer, chunkLines, chunkOutput, playerFits, answerNumber, answerOf, room, feedAnswer, feedNumber, feedMemory, feedOutput, endPlayer, endOutput, endAnswer, endNumber, endWritten};
+ghost use Rattle.trace.specs.Chunks.{startPlayer, headed, fell, benchWith, benchOf, playedLines, shownLines, chunkBench, chunkPlayer, chunkOutput, playerFits, answerNumber, answerOf, room, feedAnswer, feedNumber, feedMemory, feedOutput, endPlayer, endOutput, endAnswer, endNumber, endWritten};
 use crate::Answer;
 use crate::Fed;
 use crate::Line;
@@ -70,9 +70,9 @@ fn marked(device: Device) -> bool
 // What playing some events leaves: the pin model's promise for a list, where nothing is refused.
 fn play_some(device: Device, memory: &mut [u8], events: &[u64], qs: &mut [u8]) -> Device
     requires { ⌜ (length (now memory) ≡ 65536) × (deviceFits m95512 device ≡ true) × (length (now qs) ≡ length (now events)) ⌝ }
-    ensures { λ r. ⌜ r ≡ played m95512 (now (events .entry)) (record { device = device; memory = now (memory .entry) }) .device ⌝ }
-    ensures { λ _. ⌜ now (memory .exit) ≡ played m95512 (now (events .entry)) (record { device = device; memory = now (memory .entry) }) .memory ⌝ }
-    ensures { λ _. ⌜ now (qs .exit) ≡ playedQ m95512 (now (events .entry)) (record { device = device; memory = now (memory .entry) }) ⌝ }
+    ensures { λ r. ⌜ r ≡ played m95512 (now (events .entry)) (benchWith device (now (memory .entry))) .device ⌝ }
+    ensures { λ _. ⌜ now (memory .exit) ≡ played m95512 (now (events .entry)) (benchWith device (now (memory .entry))) .memory ⌝ }
+    ensures { λ _. ⌜ now (qs .exit) ≡ playedQ m95512 (now (events .entry)) (benchWith device (now (memory .entry))) ⌝ }
     ensures { λ r. ⌜ deviceFits m95512 r ≡ true ⌝ }
 {
     marked(device);
@@ -97,10 +97,10 @@ fn show(
     n: u32,
 ) -> Shown
     requires { ⌜ (length (now memory) ≡ 65536) × (deviceFits m95512 device ≡ true) × (length (now qs) ≡ length (now events)) × (at + 10 * length (now events) ≤ length (now out)) × (n + length (now events) ≤ 1000001) ⌝ }
-    ensures { λ r. ⌜ (r .device ≡ played m95512 (now (events .entry)) (record { device = device; memory = now (memory .entry) }) .device) × (deviceFits m95512 (r .device) ≡ true) ⌝ }
-    ensures { λ _. ⌜ now (memory .exit) ≡ played m95512 (now (events .entry)) (record { device = device; memory = now (memory .entry) }) .memory ⌝ }
-    ensures { λ _. ⌜ now (out .exit) ≡ put (now (out .entry)) at (printed n (playedQ m95512 (now (events .entry)) (record { device = device; memory = now (memory .entry) }))) ⌝ }
-    ensures { λ r. ⌜ (r .at ≡ at + length (printed n (playedQ m95512 (now (events .entry)) (record { device = device; memory = now (memory .entry) })))) × (r .at ≤ at + 10 * length (now (events .entry))) ⌝ }
+    ensures { λ r. ⌜ (r .device ≡ played m95512 (now (events .entry)) (benchWith device (now (memory .entry))) .device) × (deviceFits m95512 (r .device) ≡ true) ⌝ }
+    ensures { λ _. ⌜ now (memory .exit) ≡ played m95512 (now (events .entry)) (benchWith device (now (memory .entry))) .memory ⌝ }
+    ensures { λ _. ⌜ now (out .exit) ≡ put (now (out .entry)) at (printed n (playedQ m95512 (now (events .entry)) (benchWith device (now (memory .entry))))) ⌝ }
+    ensures { λ r. ⌜ (r .at ≡ at + length (printed n (playedQ m95512 (now (events .entry)) (benchWith device (now (memory .entry)))))) × (r .at ≤ at + 10 * length (now (events .entry))) ⌝ }
 {
     let next = play_some(device, memory, events, qs);
     let end = print(out, at, n, qs);
@@ -130,10 +130,10 @@ fn piece(
 ) -> Placed
     requires { ⌜ (length (now memory) ≡ 65536) × (deviceFits m95512 device ≡ true) × (lineFits line ≡ true) × (length (now text) ≤ length (now events)) × (length (now text) ≤ length (now qs)) × (at + 10 * length (now text) ≤ length (now out)) ⌝ }
     ensures { λ r. ⌜ (r .line ≡ read line (now (text .entry))) × (lineFits (r .line) ≡ true) ⌝ }
-    ensures { λ r. ⌜ (r .device ≡ played m95512 (found line (now (text .entry))) (record { device = device; memory = now (memory .entry) }) .device) × (deviceFits m95512 (r .device) ≡ true) ⌝ }
-    ensures { λ _. ⌜ now (memory .exit) ≡ played m95512 (found line (now (text .entry))) (record { device = device; memory = now (memory .entry) }) .memory ⌝ }
-    ensures { λ _. ⌜ now (out .exit) ≡ put (now (out .entry)) at (printed (line .whole + 1) (playedQ m95512 (found line (now (text .entry))) (record { device = device; memory = now (memory .entry) }))) ⌝ }
-    ensures { λ r. ⌜ (r .at ≡ at + length (printed (line .whole + 1) (playedQ m95512 (found line (now (text .entry))) (record { device = device; memory = now (memory .entry) })))) × (r .at ≤ at + 10 * length (now (text .entry))) ⌝ }
+    ensures { λ r. ⌜ (r .device ≡ playedLines line (benchWith device (now (memory .entry))) (now (text .entry)) .device) × (deviceFits m95512 (r .device) ≡ true) ⌝ }
+    ensures { λ _. ⌜ now (memory .exit) ≡ playedLines line (benchWith device (now (memory .entry))) (now (text .entry)) .memory ⌝ }
+    ensures { λ _. ⌜ now (out .exit) ≡ put (now (out .entry)) at (shownLines line (benchWith device (now (memory .entry))) (now (text .entry))) ⌝ }
+    ensures { λ r. ⌜ (r .at ≡ at + length (shownLines line (benchWith device (now (memory .entry))) (now (text .entry)))) × (r .at ≤ at + 10 * length (now (text .entry))) ⌝ }
 {
     let parsed = parse(line, text, events);
     let count = parsed.count;
@@ -153,5 +153,74 @@ fn piece(
         line: hand,
         device: next,
         at: shown.at,
+    }
+}
+
+// Where the piece that starts at i ends: 1,024 bytes on, or with the text.
+fn piece_end(i: usize, end: usize) -> usize
+    requires { ⌜ i < end ⌝ }
+    ensures { λ r. ⌜ (i < r) × (r ≤ end) × (r ≤ i + 1024) ⌝ }
+{
+    if end - i < 1024 {
+        return end;
+    }
+    i + 1024
+}
+
+fn event_room() -> [u64; 1024]
+    ensures { λ r. ⌜ 1024 ≡ length r ⌝ }
+{
+    [0; 1024]
+}
+
+fn level_room() -> [u8; 1024]
+    ensures { λ r. ⌜ 1024 ≡ length r ⌝ }
+{
+    [0; 1024]
+}
+
+// A text of any length, piece by piece.
+fn pieces(
+    line: Line,
+    device: Device,
+    memory: &mut [u8],
+    text: &[u8],
+    out: &mut [u8],
+    at: usize,
+) -> Placed
+    requires { ⌜ (length (now memory) ≡ 65536) × (deviceFits m95512 device ≡ true) × (lineFits line ≡ true) × (at + 10 * length (now text) ≤ length (now out)) ⌝ }
+    ensures { λ r. ⌜ (r .line ≡ read line (now (text .entry))) × (lineFits (r .line) ≡ true) ⌝ }
+    ensures { λ r. ⌜ r .device ≡ playedLines line (benchWith device (now (memory .entry))) (now (text .entry)) .device ⌝ }
+    ensures { λ _. ⌜ now (memory .exit) ≡ playedLines line (benchWith device (now (memory .entry))) (now (text .entry)) .memory ⌝ }
+    ensures { λ _. ⌜ now (out .exit) ≡ put (now (out .entry)) at (shownLines line (benchWith device (now (memory .entry))) (now (text .entry))) ⌝ }
+    ensures { λ r. ⌜ (r .at ≡ at + length (shownLines line (benchWith device (now (memory .entry))) (now (text .entry)))) × (r .at ≤ at + 10 * length (now (text .entry))) ⌝ }
+{
+    let mut events = event_room();
+    let mut qs = level_room();
+    let mut hand = line;
+    let mut next = device;
+    let mut end = at;
+    let mut i: usize = 0;
+    while i < text.len() {
+        let stop = piece_end(i, text.len());
+        let placed = piece(
+            hand,
+            next,
+            memory,
+            &text[i..stop],
+            &mut events,
+            &mut qs,
+            out,
+            end,
+        );
+        hand = placed.line;
+        next = placed.device;
+        end = placed.at;
+        i = stop;
+    }
+    Placed {
+        line: hand,
+        device: next,
+        at: end,
     }
 }

@@ -9,6 +9,7 @@ use Rattle.pins.specs.Answers.{Bench, played, playedQ}
 use Rattle.trace.specs.Reading.{found}
 use Rattle.trace.specs.Texts.{printed}
 use Rattle.trace.specs.Put.{put}
+use Rattle.trace.specs.Chunks.{playedLines, shownLines}
 use Rattle.trace.proofs.Hand.{read-fits, whole-small}
 use Rattle.trace.proofs.Runs.{found-length, found-room}
 use borrow.Author.Needs.{needs}
@@ -57,6 +58,7 @@ same-length-4 : tie.Need-same-length-4
 same-length-4 c = search needs
 
 returns : tie.Need-returns
+unfolding playedLines shownLines
 returns c =
     let a = c .before .before .before .before .before .before .before .before .before .before .before .before .before .before .before .before .before .before .before .before .before .before .before .args in
     let pre = c .before .before .before .before .before .before .before .before .before .before .before .before .before .before .before .before .before .before .before .before .before .before .before .pre in
