@@ -4,3 +4,4 @@ pub mod Runs
 pub mod Puts
 pub mod Plays
 pub mod Chunking
+pub mod Choosing

@@ -31,8 +31,11 @@ startPlayer = playerOf 0 (fresh 0) startBench
 -- ---- what a chunk puts out
 
 -- the header stands before everything else
+abbrev pub headedBy : ℕ → List ℕ
+headedBy flag = pick (eqb flag 0) header []
+
 abbrev pub headed : Player → List ℕ
-headed p = pick (eqb (p .headed) 0) header []
+headed p = headedBy (p .headed)
 
 -- the bad line, where the text comes to it between the lines a and b in hand
 unfoldable pub fell : Line → Line → List ℕ
@@ -83,10 +86,13 @@ answerOf p = pick (eqb (p .line .place) 5) BadLine Played
 abbrev pub playerNumber : Player → ℕ
 playerNumber p = pick (eqb (p .line .place) 5) 11 0
 
--- a player outside these ranges gets 2; no byte is taken before the header is out
+-- no byte is taken before the header is out
+abbrev pub headFits : Player → Bool
+headFits p = leb (p .headed) 1 && (eqb (p .headed) 1 || eqb (p .line .whole) 0 && eqb (p .line .place) 0)
+
+-- a player outside these ranges gets 2
 unfoldable pub playerFits : Player → Bool
-playerFits p =
-    leb (p .headed) 1 && (eqb (p .headed) 1 || eqb (p .line .whole) 0 && eqb (p .line .place) 0) && lineFits (p .line) && deviceFits m95512 (p .device)
+playerFits p = headFits p && lineFits (p .line) && deviceFits m95512 (p .device)
 
 -- the output that n bytes of text ask for: the header, the bad line, and a good line for each byte
 abbrev pub room : ℕ → ℕ
@@ -106,10 +112,14 @@ fedTo a p n = record { answer = a; player = p; written = n }
 abbrev pub refusedTo : Refusal → Player → Fed
 refusedTo r p = fedTo (Refused r) p 0
 
+-- what a chunk x that is taken hands back
+abbrev pub takenBy : Player → List ℕ → List ℕ → Fed
+takenBy p m x = fedTo (answerOf (chunkPlayer p m x)) (chunkPlayer p m x) (length (chunkOutput p m x))
+
 -- a chunk x, with a lent memory m and a lent output d
 abbrev pub feedAnswer : Player → List ℕ → List ℕ → List ℕ → Fed
 feedAnswer p m x d =
-    feedChoice p m (room (length x)) (length d) (fedTo (answerOf (chunkPlayer p m x)) (chunkPlayer p m x) (length (chunkOutput p m x))) (refusedTo OutputLength p)
+    feedChoice p m (room (length x)) (length d) (takenBy p m x) (refusedTo OutputLength p)
     (refusedTo RecordRange p) (refusedTo MemoryLength p)
 
 abbrev pub feedNumber : Player → List ℕ → List ℕ → List ℕ → ℕ
@@ -123,9 +133,12 @@ abbrev pub feedOutput : Player → List ℕ → List ℕ → List ℕ → List �
 feedOutput p m x d = feedChoice p m (room (length x)) (length d) (put d 0 (chunkOutput p m x)) d d d
 
 -- the end of the text asks for the room of no byte
+abbrev pub endedBy : Player → Fed
+endedBy p = fedTo (answerOf (endPlayer p)) (endPlayer p) (length (endOutput p))
+
 abbrev pub endAnswer : Player → List ℕ → Fed
 endAnswer p d =
-    endChoice p (room 0) (length d) (fedTo (answerOf (endPlayer p)) (endPlayer p) (length (endOutput p))) (refusedTo OutputLength p) (refusedTo RecordRange p)
+    endChoice p (room 0) (length d) (endedBy p) (refusedTo OutputLength p) (refusedTo RecordRange p)
 
 abbrev pub endNumber : Player → List ℕ → ℕ
 endNumber p d = endChoice p (room 0) (length d) (playerNumber (endPlayer p)) 5 2

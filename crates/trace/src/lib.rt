@@ -4,12 +4,15 @@
 use chip::Refusal;
 use pins::Device;
 
-mod feed;
+mod chunks;
 mod lines;
 mod print;
+mod public;
 
-pub use feed::memory;
-pub use feed::start;
+pub use public::feed;
+pub use public::finish;
+pub use public::memory;
+pub use public::start;
 
 // The line in hand.
 pub struct Line {

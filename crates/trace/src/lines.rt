@@ -190,3 +190,50 @@ pub(crate) fn parse(line: Line, text: &[u8], events: &mut [u64]) -> Parsed
         count: count,
     }
 }
+
+// ---- the ranges of the line in hand
+
+impl Line {
+    fn value_fits(self) -> bool
+        ensures { λ r. ⌜ r ≡ valueFits self ⌝ }
+    {
+        if self.place <= 2 {
+            return self.value == 0;
+        }
+        if self.place == 3 {
+            return self.value <= 1;
+        }
+        self.kind == 5
+    }
+
+    fn hand_fits(self) -> bool
+        ensures { λ r. ⌜ r ≡ handFits self ⌝ }
+    {
+        (self.whole < 1000000) & (self.kind <= 5) & self.value_fits()
+    }
+
+    fn none_fits(self) -> bool
+        ensures { λ r. ⌜ r ≡ noneFits self ⌝ }
+    {
+        (self.whole <= 1000000) & (self.kind == 0) & (self.value == 0)
+    }
+
+    pub(crate) fn fits(self) -> bool
+        ensures { λ r. ⌜ r ≡ lineFits self ⌝ }
+    {
+        if (self.place == 0) | (self.place == 5) {
+            return self.none_fits();
+        }
+        (self.place < 5) & self.hand_fits()
+    }
+
+    // The end of the text.
+    pub(crate) fn ended(self) -> Line
+        ensures { λ r. ⌜ r ≡ ended self ⌝ }
+    {
+        if self.place == 0 {
+            return self;
+        }
+        self.stopped()
+    }
+}

@@ -13,8 +13,8 @@ use Rattle.trace.specs.Chunks.{playedLines, shownLines}
 use Rattle.trace.proofs.Hand.{read-fits, whole-small}
 use Rattle.trace.proofs.Runs.{found-length, found-room}
 use borrow.Author.Needs.{needs}
-use Rattle.trace.proofs.feed.piece.Statement.{statement}
-use Rattle.trace.proofs.feed.piece.Tie as tie
+use Rattle.trace.proofs.chunks.piece.Statement.{statement}
+use Rattle.trace.proofs.chunks.piece.Tie as tie
 
 parse-requires : tie.Need-parse-requires
 parse-requires c κs = search needs

@@ -4,13 +4,14 @@ ghost use mathlib.Core.Bool.{true};
 ghost use mathlib.Core.List.{_++_};
 ghost use Prim.Native.Nat.{_+_, _*_, _<_, _≤_};
 ghost use lib.ListN.{length};
+ghost use lib.Dec.{leb};
 ghost use Rattle.chip.specs.Part.{m95512};
 ghost use Rattle.pins.specs.Answers.{Bench, played, playedQ};
 ghost use Rattle.pins.specs.Ranges.{deviceFits};
 ghost use Rattle.trace.specs.Texts.{startBench, deliveredMemory, printed};
 ghost use Rattle.trace.specs.Reading.{read, found, ended, lineFits, stopped};
 ghost use Rattle.trace.specs.Put.{put};
-ghost use Rattle.trace.specs.Chunks.{startPlayer, headed, fell, benchWith, benchOf, playedLines, shownLines, chunkBench, chunkPlayer, chunkOutput, playerFits, answerNumber, answerOf, room, feedAnswer, feedNumber, feedMemory, feedOutput, endPlayer, endOutput, endAnswer, endNumber, endWritten};
+ghost use Rattle.trace.specs.Chunks.{startPlayer, headFits, headedBy, takenBy, endedBy, refusedTo, fell, benchWith, benchOf, playedLines, shownLines, chunkBench, chunkPlayer, chunkOutput, playerFits, answerNumber, answerOf, room, feedAnswer, feedNumber, feedMemory, feedOutput, endPlayer, endOutput, endAnswer, endNumber, endWritten};
 use crate::Answer;
 use crate::Fed;
 use crate::Line;
@@ -19,46 +20,9 @@ use crate::lines::parse;
 use crate::print::print;
 use crate::print::put_bad;
 use crate::print::put_bytes;
-use chip::Core;
 use chip::Refusal;
 use pins::Device;
 use pins::play;
-
-// Before the first byte of a text.
-pub fn start() -> Player
-    ensures { λ r. ⌜ r ≡ startPlayer ⌝ }
-{
-    Player {
-        headed: 0,
-        line: Line {
-            whole: 0,
-            place: 0,
-            kind: 0,
-            value: 0,
-        },
-        device: Device::resting(Core::delivered()),
-    }
-}
-
-// The memory as delivered: every byte FFh.
-pub fn memory() -> [u8; 65536]
-    ensures { λ r. ⌜ r ≡ deliveredMemory ⌝ }
-{
-    [255; 65536]
-}
-
-impl Answer {
-    // Document 01's number: 0, 11 from the bad line on, 1, 2 and 5.
-    pub fn number(self) -> u32
-        ensures { λ r. ⌜ r ≡ answerNumber self ⌝ }
-    {
-        match self {
-            Answer::Played => 0,
-            Answer::BadLine => 11,
-            Answer::Refused(refusal) => refusal.number(),
-        }
-    }
-}
 
 // An array has its length by its type; the proofs ask for that of the latch's marks.
 fn marked(device: Device) -> bool
@@ -222,5 +186,132 @@ fn pieces(
         line: hand,
         device: next,
         at: end,
+    }
+}
+
+// ---- what stands before and after the lines of a chunk
+
+// The header, where it is not out yet.
+fn put_head(flag: u8, out: &mut [u8]) -> usize
+    requires { ⌜ 7 ≤ length (now out) ⌝ }
+    ensures { λ _. ⌜ now (out .exit) ≡ put (now (out .entry)) 0 (headedBy flag) ⌝ }
+    ensures { λ r. ⌜ (r ≡ length (headedBy flag)) × (r ≤ 7) ⌝ }
+{
+    if flag == 0 {
+        return put_bytes(out, 0, b"line\tq\n");
+    }
+    0
+}
+
+// The bad line, where the text came to it between the lines a and b in hand.
+fn put_fall(out: &mut [u8], at: usize, a: Line, b: Line) -> usize
+    requires { ⌜ (at + 12 ≤ length (now out)) × (lineFits b ≡ true) ⌝ }
+    ensures { λ _. ⌜ now (out .exit) ≡ put (now (out .entry)) at (fell a b) ⌝ }
+    ensures { λ r. ⌜ (r ≡ at + length (fell a b)) × (r ≤ at + 12) ⌝ }
+{
+    if a.place == 5 {
+        return at;
+    }
+    if b.place == 5 {
+        return put_bad(out, at, b.whole + 1);
+    }
+    at
+}
+
+fn answer_of(player: Player) -> Answer
+    ensures { λ r. ⌜ r ≡ answerOf player ⌝ }
+{
+    let line = player.line;
+    if line.place == 5 {
+        return Answer::BadLine;
+    }
+    Answer::Played
+}
+
+// Whether an output of so many bytes has the room that n bytes of text ask for.
+pub(crate) fn has_room(n: usize, bytes: usize) -> bool
+    ensures { λ r. ⌜ r ≡ leb (room n) bytes ⌝ }
+{
+    if bytes < 19 {
+        return false;
+    }
+    n <= (bytes - 19) / 10
+}
+
+impl Player {
+    // Whether the header is out wherever a byte was taken.
+    fn head_fits(self) -> bool
+        ensures { λ r. ⌜ r ≡ headFits self ⌝ }
+    {
+        let line = self.line;
+        (self.headed <= 1) & ((self.headed == 1) | ((line.whole == 0) & (line.place == 0)))
+    }
+
+    // All the ranges of a player.
+    pub fn in_ranges(self) -> bool
+        ensures { λ r. ⌜ r ≡ playerFits self ⌝ }
+    {
+        let line = self.line;
+        let device = self.device;
+        self.head_fits() & line.fits() & device.in_ranges()
+    }
+
+    pub(crate) fn refused(self, refusal: Refusal) -> Fed
+        ensures { λ r. ⌜ r ≡ refusedTo refusal self ⌝ }
+    {
+        Fed {
+            answer: Answer::Refused(refusal),
+            player: self,
+            written: 0,
+        }
+    }
+}
+
+// A chunk that is taken.
+pub(crate) fn take_chunk(player: Player, memory: &mut [u8], text: &[u8], out: &mut [u8]) -> Fed
+    requires { ⌜ (length (now memory) ≡ 65536) × (playerFits player ≡ true) × (room (length (now text)) ≤ length (now out)) ⌝ }
+    ensures { λ r. ⌜ r ≡ takenBy player (now (memory .entry)) (now (text .entry)) ⌝ }
+    ensures { λ _. ⌜ now (memory .exit) ≡ chunkBench player (now (memory .entry)) (now (text .entry)) .memory ⌝ }
+    ensures { λ _. ⌜ now (out .exit) ≡ put (now (out .entry)) 0 (chunkOutput player (now (memory .entry)) (now (text .entry))) ⌝ }
+{
+    let line = player.line;
+    let device = player.device;
+    let at = put_head(player.headed, out);
+    let placed = pieces(line, device, memory, text, out, at);
+    let hand = placed.line;
+    let next = placed.device;
+    let end = put_fall(out, placed.at, line, hand);
+    let after = Player {
+        headed: 1,
+        line: hand,
+        device: next,
+    };
+    Fed {
+        answer: answer_of(after),
+        player: after,
+        written: end,
+    }
+}
+
+// The end of a text that is taken.
+pub(crate) fn take_end(player: Player, out: &mut [u8]) -> Fed
+    requires { ⌜ (playerFits player ≡ true) × (19 ≤ length (now out)) ⌝ }
+    ensures { λ r. ⌜ r ≡ endedBy player ⌝ }
+    ensures { λ _. ⌜ now (out .exit) ≡ put (now (out .entry)) 0 (endOutput player) ⌝ }
+{
+    let line = player.line;
+    let device = player.device;
+    let hand = line.ended();
+    let at = put_head(player.headed, out);
+    let end = put_fall(out, at, line, hand);
+    let after = Player {
+        headed: 1,
+        line: hand,
+        device: device,
+    };
+    Fed {
+        answer: answer_of(after),
+        player: after,
+        written: end,
     }
 }

@@ -14,8 +14,8 @@ use Rattle.trace.specs.Put.{put}
 use Rattle.trace.specs.Chunks.{benchWith, playedLines, shownLines}
 use Rattle.trace.proofs.Puts.{put-nil, put-put}
 use Rattle.trace.proofs.Chunking.{part-length, played-nothing, shown-nothing, turn-line, turn-bench, turn-shown}
-use Rattle.trace.proofs.feed.pieces.Statement.{statement}
-use Rattle.trace.proofs.feed.pieces.Tie as tie
+use Rattle.trace.proofs.chunks.pieces.Statement.{statement}
+use Rattle.trace.proofs.chunks.pieces.Tie as tie
 
 abbrev Inv-loop : tie.InvT-loop
 Inv-loop memory₀ text out₀ at events₀ qs₀ hand₀ next₀ end₀ i₀ memory out events qs hand next end i =

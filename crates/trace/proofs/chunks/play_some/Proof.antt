@@ -9,8 +9,8 @@ use Rattle.pins.proofs.Sound.{m95512-sound}
 use Rattle.pins.proofs.Fits.{played-fits}
 use Rattle.trace.proofs.Plays.{done-device, done-memory}
 use borrow.Author.Needs.{needs}
-use Rattle.trace.proofs.feed.play_some.Statement.{statement}
-use Rattle.trace.proofs.feed.play_some.Tie as tie
+use Rattle.trace.proofs.chunks.play_some.Statement.{statement}
+use Rattle.trace.proofs.chunks.play_some.Tie as tie
 use Rattle.pins.proofs.play.Reads as play-reads
 
 marked-requires : tie.Need-marked-requires

@@ -8,8 +8,8 @@ use Rattle.trace.specs.Texts.{printed}
 use Rattle.trace.proofs.Plays.{playedQ-length}
 use Rattle.trace.specs.Put.{put}
 use borrow.Author.Needs.{needs}
-use Rattle.trace.proofs.feed.show.Statement.{statement}
-use Rattle.trace.proofs.feed.show.Tie as tie
+use Rattle.trace.proofs.chunks.show.Statement.{statement}
+use Rattle.trace.proofs.chunks.show.Tie as tie
 
 play-some-requires : tie.Need-play-some-requires
 play-some-requires c κs = search needs
