@@ -18,7 +18,7 @@ example : textOutput (83 ∷ 9 ∷ 48 ∷ 10 ∷ 67 ∷ 9 ∷ 49 ∷ 10 ∷ 88 �
 unfolding pick played playedQ onS onC risen q digits decimal kindOf digitsSay lineSays firstLine afterLine goodLines hasBad header goodLine badLine printed textOutput
 example = refl
 
-nothing : textOutput [] ≡ header
+pub nothing : textOutput [] ≡ header
 unfolding pick played playedQ onS onC q digits decimal kindOf digitsSay lineSays firstLine afterLine goodLines hasBad header goodLine badLine printed textOutput
 nothing = refl
 

@@ -5,3 +5,6 @@ pub mod Puts
 pub mod Plays
 pub mod Chunking
 pub mod Choosing
+pub mod Whole
+pub mod Cut
+pub mod Ones

@@ -145,3 +145,30 @@ endNumber p d = endChoice p (room 0) (length d) (playerNumber (endPlayer p)) 5 2
 
 abbrev pub endWritten : Player → List ℕ → List ℕ
 endWritten p d = endChoice p (room 0) (length d) (put d 0 (endOutput p)) d d
+
+-- ---- a text in chunks: the player and the memory after them, and all that they put out
+
+pub record Told : Type 0 where
+  pub player : Player
+  pub memory : List ℕ
+  pub output : List ℕ
+
+abbrev pub told : Told → List ℕ → Told
+told t x =
+    record {
+      player = chunkPlayer (t .player) (t .memory) x;
+      memory = chunkBench (t .player) (t .memory) x .memory;
+      output = t .output ++ chunkOutput (t .player) (t .memory) x;
+    }
+
+unfoldable pub toldAll : Told → List (List ℕ) → Told
+toldAll t [] = t
+toldAll t (x ∷ xs) = toldAll (told t x) xs
+
+abbrev pub untold : Told
+untold = record { player = startPlayer; memory = startBench .memory; output = [] }
+
+-- the chunks one after another are the text
+unfoldable pub joined : List (List ℕ) → List ℕ
+joined [] = []
+joined (x ∷ xs) = x ++ joined xs
