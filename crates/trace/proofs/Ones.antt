@@ -25,13 +25,13 @@ pub feed-memory : OneExit feed.ps feed.r feed-reads.Post (λ κs e. now (e .1 .0
 feed-memory κs a z z′ e e′ p q = same (p .1 .1 .0) (q .1 .1 .0)
 
 pub feed-output : OneExit feed.ps feed.r feed-reads.Post (λ κs e. now (e .1 .1 .1 .0))
-feed-output κs a z z′ e e′ p q = same (p .1 .1 .1) (q .1 .1 .1)
+feed-output κs a z z′ e e′ p q = same (p .1 .1 .1 .0) (q .1 .1 .1 .0)
 
 pub finish-one : OneResult finish.ps finish.r finish-reads.Post
 finish-one κs a z z′ e e′ p q = same (p .0) (q .0)
 
 pub finish-output : OneExit finish.ps finish.r finish-reads.Post (λ κs e. now (e .1 .0))
-finish-output κs a z z′ e e′ p q = same (p .1 .1) (q .1 .1)
+finish-output κs a z z′ e e′ p q = same (p .1 .1 .0) (q .1 .1 .0)
 
 pub in-ranges-one : OneResult in-ranges.ps in-ranges.r in-ranges-reads.Post
 in-ranges-one κs a z z′ e e′ p q = same p q

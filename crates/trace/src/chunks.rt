@@ -273,6 +273,7 @@ pub(crate) fn take_chunk(player: Player, memory: &mut [u8], text: &[u8], out: &m
     ensures { λ r. ⌜ r ≡ takenBy player (now (memory .entry)) (now (text .entry)) ⌝ }
     ensures { λ _. ⌜ now (memory .exit) ≡ chunkBench player (now (memory .entry)) (now (text .entry)) .memory ⌝ }
     ensures { λ _. ⌜ now (out .exit) ≡ put (now (out .entry)) 0 (chunkOutput player (now (memory .entry)) (now (text .entry))) ⌝ }
+    ensures { λ r. ⌜ r .written ≤ length (now (out .entry)) ⌝ }
 {
     let line = player.line;
     let device = player.device;
@@ -298,6 +299,7 @@ pub(crate) fn take_end(player: Player, out: &mut [u8]) -> Fed
     requires { ⌜ (playerFits player ≡ true) × (19 ≤ length (now out)) ⌝ }
     ensures { λ r. ⌜ r ≡ endedBy player ⌝ }
     ensures { λ _. ⌜ now (out .exit) ≡ put (now (out .entry)) 0 (endOutput player) ⌝ }
+    ensures { λ r. ⌜ r .written ≤ length (now (out .entry)) ⌝ }
 {
     let line = player.line;
     let device = player.device;

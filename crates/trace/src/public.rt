@@ -66,6 +66,7 @@ pub fn feed(player: Player, memory: &mut [u8], text: &[u8], out: &mut [u8]) -> F
     ensures { λ r. ⌜ answerNumber (r .answer) ≡ feedNumber player (now (memory .entry)) (now (text .entry)) (now (out .entry)) ⌝ }
     ensures { λ _. ⌜ now (memory .exit) ≡ feedMemory player (now (memory .entry)) (now (text .entry)) (now (out .entry)) ⌝ }
     ensures { λ _. ⌜ now (out .exit) ≡ feedOutput player (now (memory .entry)) (now (text .entry)) (now (out .entry)) ⌝ }
+    ensures { λ r. ⌜ r .written ≤ length (now (out .entry)) ⌝ }
 {
     if memory.len() == 65536 {
         if player.in_ranges() {
@@ -84,6 +85,7 @@ pub fn finish(player: Player, out: &mut [u8]) -> Fed
     ensures { λ r. ⌜ r ≡ endAnswer player (now (out .entry)) ⌝ }
     ensures { λ r. ⌜ answerNumber (r .answer) ≡ endNumber player (now (out .entry)) ⌝ }
     ensures { λ _. ⌜ now (out .exit) ≡ endWritten player (now (out .entry)) ⌝ }
+    ensures { λ r. ⌜ r .written ≤ length (now (out .entry)) ⌝ }
 {
     if player.in_ranges() {
         if has_room(0, out.len()) {

@@ -55,8 +55,11 @@ returns c =
       rw (c .answer-of .ensures, x .ensures .0 .0, x .ensures .1 .0, whole) refl,
       (
         x .ensures .1 .1 .0,
-        fall .ensures .0 ∙ ap (λ (l : List ℕ). put (x .last .1 .1 .1 .1 .0) (x .result .at) l) fall-is ∙ ap (λ (l : List ℕ). put l (x .result .at) f) (x .ensures .1 .1 .1 .0 ∙ ap (λ (l : List ℕ). put l (head .result) s) (head .ensures .0))
-            ∙ three-puts (a .out .now) h (head .result) head-is s f (x .result .at) at fits,
+        (
+          fall .ensures .0 ∙ ap (λ (l : List ℕ). put (x .last .1 .1 .1 .1 .0) (x .result .at) l) fall-is ∙ ap (λ (l : List ℕ). put l (x .result .at) f) (x .ensures .1 .1 .1 .0 ∙ ap (λ (l : List ℕ). put l (head .result) s) (head .ensures .0))
+              ∙ three-puts (a .out .now) h (head .result) head-is s f (x .result .at) at fits,
+          omega (arith, few, last, small, pre .2),
+        ),
       ),
     )
 

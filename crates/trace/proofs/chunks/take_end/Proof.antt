@@ -44,8 +44,11 @@ returns c =
     let fits : length h + length f ≤ length (a .out .now) = omega (arith, end, last, head-is, small, pre .1) in
     let whole : fall .result ≡ length (endOutput (a .player)) = rw length-append (omega (arith, end, head-is)) in (
       rw (c .answer-of .ensures, c .before .before .before .before .before .before .before .before .before .ended .ensures, whole) refl,
-      fall .ensures .0 ∙ ap (λ (l : List ℕ). put (head .last .1 .0) (head .result) l) fall-is ∙ ap (λ (l : List ℕ). put l (head .result) f) (head .ensures .0)
-          ∙ two-puts (a .out .now) h (head .result) head-is f fits,
+      (
+        fall .ensures .0 ∙ ap (λ (l : List ℕ). put (head .last .1 .0) (head .result) l) fall-is ∙ ap (λ (l : List ℕ). put l (head .result) f) (head .ensures .0)
+            ∙ two-puts (a .out .now) h (head .result) head-is f fits,
+        omega (arith, last, small, pre .1),
+      ),
     )
 
 pub take-end-spec : {M : Type 1} → statement M

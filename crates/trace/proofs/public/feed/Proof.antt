@@ -42,7 +42,7 @@ returns c =
       feed-done p m n bytes _ _ _ long fits wide (x .ensures .0),
       (
         feed-done p m n bytes _ _ _ long fits wide (ap (λ (r : Fed). answerNumber (r .answer)) (x .ensures .0) ∙ answer-number (chunkPlayer p m (a .text .now))),
-        (feed-done p m n bytes _ _ _ long fits wide (x .ensures .1 .0), feed-done p m n bytes _ _ _ long fits wide (x .ensures .1 .1)),
+        (feed-done p m n bytes _ _ _ long fits wide (x .ensures .1 .0), (feed-done p m n bytes _ _ _ long fits wide (x .ensures .1 .1 .0), x .ensures .1 .1 .1)),
       ),
     )
 
@@ -62,7 +62,7 @@ returns-2 c =
       feed-short p m n bytes _ _ _ long fits narrow (c .refused .ensures),
       (
         feed-short p m n bytes _ _ _ long fits narrow (ap (λ (r : Fed). answerNumber (r .answer)) (c .refused .ensures)),
-        (feed-short p m n bytes _ _ _ long fits narrow refl, feed-short p m n bytes _ _ _ long fits narrow refl),
+        (feed-short p m n bytes _ _ _ long fits narrow refl, (feed-short p m n bytes _ _ _ long fits narrow refl, omega (arith, ap (λ (r : Fed). r .written) (c .refused .ensures)))),
       ),
     )
 
@@ -81,7 +81,7 @@ returns-3 c =
       feed-outside p m n bytes _ _ _ long out (c .refused2 .ensures),
       (
         feed-outside p m n bytes _ _ _ long out (ap (λ (r : Fed). answerNumber (r .answer)) (c .refused2 .ensures)),
-        (feed-outside p m n bytes _ _ _ long out refl, feed-outside p m n bytes _ _ _ long out refl),
+        (feed-outside p m n bytes _ _ _ long out refl, (feed-outside p m n bytes _ _ _ long out refl, omega (arith, ap (λ (r : Fed). r .written) (c .refused2 .ensures)))),
       ),
     )
 
@@ -99,7 +99,7 @@ returns-4 c =
       feed-wrong p m n bytes _ _ _ other (c .refused3 .ensures),
       (
         feed-wrong p m n bytes _ _ _ other (ap (λ (r : Fed). answerNumber (r .answer)) (c .refused3 .ensures)),
-        (feed-wrong p m n bytes _ _ _ other refl, feed-wrong p m n bytes _ _ _ other refl),
+        (feed-wrong p m n bytes _ _ _ other refl, (feed-wrong p m n bytes _ _ _ other refl, omega (arith, ap (λ (r : Fed). r .written) (c .refused3 .ensures)))),
       ),
     )
 

@@ -33,7 +33,7 @@ returns c =
       end-done p (room 0) bytes _ _ fits wide (x .ensures .0),
       (
         end-done p (room 0) bytes _ _ fits wide (ap (λ (r : Fed). answerNumber (r .answer)) (x .ensures .0) ∙ answer-number (endPlayer p)),
-        end-done p (room 0) bytes _ _ fits wide (x .ensures .1),
+        (end-done p (room 0) bytes _ _ fits wide (x .ensures .1 .0), x .ensures .1 .1),
       ),
     )
 
@@ -50,7 +50,7 @@ returns-2 c =
       end-short p (room 0) bytes _ _ fits narrow (c .refused .ensures),
       (
         end-short p (room 0) bytes _ _ fits narrow (ap (λ (r : Fed). answerNumber (r .answer)) (c .refused .ensures)),
-        end-short p (room 0) bytes _ _ fits narrow refl,
+        (end-short p (room 0) bytes _ _ fits narrow refl, omega (arith, ap (λ (r : Fed). r .written) (c .refused .ensures))),
       ),
     )
 
@@ -66,7 +66,7 @@ returns-3 c =
       end-outside p (room 0) bytes _ _ out (c .refused2 .ensures),
       (
         end-outside p (room 0) bytes _ _ out (ap (λ (r : Fed). answerNumber (r .answer)) (c .refused2 .ensures)),
-        end-outside p (room 0) bytes _ _ out refl,
+        (end-outside p (room 0) bytes _ _ out refl, omega (arith, ap (λ (r : Fed). r .written) (c .refused2 .ensures))),
       ),
     )
 
