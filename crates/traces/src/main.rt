@@ -167,7 +167,7 @@ fn sum_of(sum: u64, bytes: &[u8]) -> u64 {
     s
 }
 
-fn summed(before: Summed, memory: &mut [u8], text: &[u8], out: &mut [u8]) -> Summed {
+fn sum_chunk(before: Summed, memory: &mut [u8], text: &[u8], out: &mut [u8]) -> Summed {
     let player = before.player;
     let f = trace::feed(player, memory, text, out);
     let n = f.written;
@@ -187,20 +187,19 @@ fn frames(text: &[u8], memory: &mut [u8], out: &mut [u8]) -> Summed {
     };
     let mut i: u32 = 0;
     while i < 23809 {
-        so_far = summed(so_far, memory, text, out);
+        so_far = sum_chunk(so_far, memory, text, out);
         i += 1;
     }
     so_far
 }
 
-fn million(memory: &mut [u8], out: &mut [u8]) {
-    title(b"a million lines");
+fn all_lines(memory: &mut [u8], out: &mut [u8]) -> Player {
     let most = frames(
         b"S\t0\nD\t0\nC\t1\nC\t0\nD\t0\nC\t1\nC\t0\nD\t0\nC\t1\nC\t0\nD\t0\nC\t1\nC\t0\nD\t0\nC\t1\nC\t0\nD\t1\nC\t1\nC\t0\nD\t0\nC\t1\nC\t0\nD\t1\nC\t1\nC\t0\nC\t1\nC\t0\nC\t1\nC\t0\nC\t1\nC\t0\nC\t1\nC\t0\nC\t1\nC\t0\nC\t1\nC\t0\nC\t1\nC\t0\nC\t1\nC\t0\nS\t1\n",
         memory,
         out,
     );
-    let all = summed(
+    let all = sum_chunk(
         most,
         memory,
         b"S\t0\nD\t0\nC\t1\nC\t0\nD\t0\nC\t1\nC\t0\nD\t0\nC\t1\nC\t0\nD\t0\nC\t1\nC\t0\nD\t0\nC\t1\nC\t0\nD\t1\nC\t1\nC\t0\nD\t0\nC\t1\nC\t0\n",
@@ -208,14 +207,22 @@ fn million(memory: &mut [u8], out: &mut [u8]) {
     );
     say(b"bytes", all.bytes);
     say(b"sum", all.sum);
-    let player = all.player;
+    all.player
+}
+
+// More text after the million lines.
+fn more(what: &[u8], player: Player, memory: &mut [u8], text: &[u8], out: &mut [u8]) {
+    title(what);
+    let next = fed(player, memory, text, out);
+    ended(next, out);
+}
+
+fn million(memory: &mut [u8], out: &mut [u8]) {
+    title(b"a million lines");
+    let player = all_lines(memory, out);
     ended(player, out);
-    title(b"and one more");
-    let more = fed(player, memory, b"C\t1\n", out);
-    ended(more, out);
-    title(b"and one byte more");
-    let byte = fed(player, memory, b"S", out);
-    ended(byte, out);
+    more(b"and one more", player, memory, b"C\t1\n", out);
+    more(b"and one byte more", player, memory, b"S", out);
 }
 
 fn main() {
