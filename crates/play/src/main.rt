@@ -13,6 +13,15 @@ struct Turned {
     more: bool,
 }
 
+// Writes bytes out, or says why it cannot.
+fn put(bytes: &[u8]) -> bool {
+    if io::write_all(STDOUT_FILENO, bytes) {
+        return true;
+    }
+    os::fail(b"standard output");
+    false
+}
+
 fn stop(player: Player) -> Turned {
     Turned {
         player: player,
@@ -24,10 +33,10 @@ fn stop(player: Player) -> Turned {
 fn close(player: Player, out: &mut [u8]) {
     let fed = trace::finish(player, out);
     let n = fed.written;
-    io::write_all(STDOUT_FILENO, &out[..n]);
+    put(&out[..n]);
 }
 
-// One chunk: it is read, fed and written. A closed output ends the program.
+// One chunk: it is read, fed and written. An output that takes no more ends the program at once.
 fn turn(
     fd: i32,
     name: &[u8],
@@ -49,7 +58,7 @@ fn turn(
     let fed = trace::feed(player, memory, &text[..n], out);
     let k = fed.written;
     let next = fed.player;
-    let more = io::write_all(STDOUT_FILENO, &out[..k]);
+    let more = put(&out[..k]);
     Turned {
         player: next,
         more: more,

@@ -8,14 +8,14 @@ use Rattle.play.proofs.close.Tie as tie
 finish-requires : tie.Need-finish-requires
 finish-requires c κs = search needs
 
-slice-reshare-prefix-write-all : tie.Need-slice-reshare-prefix-write-all
-slice-reshare-prefix-write-all c = search needs
+slice-reshare-prefix-put : tie.Need-slice-reshare-prefix-put
+slice-reshare-prefix-put c = search needs
 
-slice-aggregate-write-all : tie.Need-slice-aggregate-write-all
-slice-aggregate-write-all c = sym (length-take-le (c .before .before .before .finish .result .written) (c .before .before .before .finish .last .1 .0) (omega arith))
+slice-aggregate-put : tie.Need-slice-aggregate-put
+slice-aggregate-put c = sym (length-take-le (c .before .before .before .finish .result .written) (c .before .before .before .finish .last .1 .0) (omega arith))
 
-write-all-requires : tie.Need-write-all-requires
-write-all-requires c κs = search needs
+put-requires : tie.Need-put-requires
+put-requires c κs = search needs
 
 same-length : tie.Need-same-length
 same-length c = search needs
@@ -28,8 +28,8 @@ close-spec =
     tie.close
     (tie.spec
     finish-requires
-    slice-reshare-prefix-write-all
-    slice-aggregate-write-all
-    write-all-requires
+    slice-reshare-prefix-put
+    slice-aggregate-put
+    put-requires
     same-length
     returns)
