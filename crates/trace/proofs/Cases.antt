@@ -1,8 +1,6 @@
 -- Document 01's example and the edges of a line, computed of the definitions.
 use mathlib.Core.Path.{_≡_, refl}
-use mathlib.Core.Bool.{true, false}
-use mathlib.Core.List.{List, [], _∷_, _++_}
-use Prim.Native.Nat.{ℕ}
+use mathlib.Core.List.{[], _∷_}
 use Rattle.laws.specs.Pick.{pick}
 use Rattle.pins.specs.Answers.{played, playedQ}
 use Rattle.pins.specs.Events.{onS, onC}
@@ -10,7 +8,7 @@ use Rattle.pins.specs.Rising.{risen}
 use Rattle.pins.specs.Falling.{q}
 use Rattle.trace.specs.Digits.{digits, decimal}
 use Rattle.trace.specs.Lines.{event, bad, kindOf, digitsSay, lineSays}
-use Rattle.trace.specs.Texts.{firstLine, afterLine, goodLines, hasBad, header, goodLine, badLine, printed, textOutput, textEvents}
+use Rattle.trace.specs.Texts.{firstLine, afterLine, goodLines, hasBad, header, goodLine, badLine, printed, textOutput}
 
 -- S⇥0, C⇥1, X⇥1
 example : textOutput (83 ∷ 9 ∷ 48 ∷ 10 ∷ 67 ∷ 9 ∷ 49 ∷ 10 ∷ 88 ∷ 9 ∷ 49 ∷ 10 ∷ [])

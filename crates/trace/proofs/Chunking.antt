@@ -1,21 +1,20 @@
 -- Two runs of bytes one after the other: what is played and what is shown of both is that of the first, and then of the second.
 use mathlib.Core.Path.{_≡_, refl, ap, sym, _∙_}
 use mathlib.Core.Bool.{true}
-use mathlib.Core.List.{List, [], _∷_, _++_}
+use mathlib.Core.List.{List, [], _++_}
 use Prim.Native.Nat.{ℕ, _+_, _-_, _≤_}
 use native.Mathlib.Omega.{arith}
-use lib.ListN.{length, take, drop, length-append, length-drop}
+use lib.ListN.{length, take, drop, length-drop}
 use lib.Seq.{take-add, length-take-le}
 use Rattle.chip.specs.Part.{m95512}
 use Rattle.pins.specs.Answers.{Bench, played, playedQ}
 use Rattle.trace.specs.declared.Line.{Line}
 use Rattle.trace.specs.Reading.{read, found, lineFits}
 use Rattle.trace.specs.Texts.{printed}
-use Rattle.trace.specs.Put.{put}
 use Rattle.trace.specs.Chunks.{playedLines, shownLines}
 use Rattle.trace.proofs.Runs.{read-append, found-append, read-whole}
 use Rattle.trace.proofs.Plays.{played-append, playedQ-append, playedQ-length}
-use Rattle.trace.proofs.Puts.{printed-append, put-put, put-nil}
+use Rattle.trace.proofs.Puts.{printed-append}
 
 module _ (l : Line) (b : Bench) where
   pub played-nothing : playedLines l b [] ≡ b

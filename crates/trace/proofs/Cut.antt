@@ -1,13 +1,13 @@
 -- However a text is cut into chunks, the outputs together with that of its end are the output of the text, and the device and the memory are those after its last good line.
 use mathlib.Core.Path.{_≡_, refl, ap, sym, _∙_}
-use mathlib.Core.Bool.{Bool, true, false, _&&_}
+use mathlib.Core.Bool.{Bool, true, false}
 use mathlib.Core.List.{List, [], _∷_, _++_, append-assoc, append-nil}
 use Prim.Native.Nat.{ℕ, _+_}
 use native.Mathlib.Omega.{arith}
 use lib.ListN.{length}
 use lib.Dec.{eqb}
-use borrow.Author.Tests.{eqb-true, eqb-false, eq-eqb, ne-eqb}
-use Rattle.laws.specs.Pick.{pick, and-both}
+use borrow.Author.Tests.{eqb-true, eqb-false, ne-eqb}
+use Rattle.laws.specs.Pick.{pick}
 use Rattle.laws.specs.And.{and-3-in}
 use Rattle.chip.specs.Part.{m95512}
 use Rattle.pins.specs.Answers.{Bench, played, playedQ}
@@ -17,13 +17,13 @@ use Rattle.pins.proofs.Fits.{Sized, played-fits, played-sized, powered-fits}
 use Rattle.trace.specs.declared.Line.{Line}
 use Rattle.trace.specs.declared.Player.{Player}
 use Rattle.trace.specs.Lines.{lineSays}
-use Rattle.trace.specs.Texts.{startBench, header, badLine, printed, firstLine, goodLines, hasBad, textEvents, textIsBad, textBench, textOutput}
+use Rattle.trace.specs.Texts.{startBench, header, badLine, printed, firstLine, goodLines, textEvents, textIsBad, textBench, textOutput}
 use Rattle.trace.specs.Reading.{fresh, stopped, read, found, ended, lineFits}
 use Rattle.trace.specs.Chunks.{playerOf, startPlayer, headed, fell, benchOf, playedLines, shownLines, chunkBench, chunkPlayer, chunkOutput, endPlayer, endOutput, headFits, playerFits, Told, told, toldAll, untold, joined}
 use Rattle.trace.proofs.Cases.{nothing}
 use Rattle.trace.proofs.Hand.{read-fits, fresh-fits}
 use Rattle.trace.proofs.Runs.{read-append}
-use Rattle.trace.proofs.Chunking.{lines-played, lines-shown, shown-nothing, played-nothing}
+use Rattle.trace.proofs.Chunking.{lines-played, lines-shown}
 use Rattle.trace.proofs.Choosing.{fell-before, fell-now, fell-not, player-out, ended-fits}
 use Rattle.trace.proofs.Whole.{split, read-still, found-still, text-found, text-ended}
 

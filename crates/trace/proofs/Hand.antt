@@ -1,17 +1,16 @@
 -- The line in hand: what its ranges say, and that every byte keeps them.
-use mathlib.Core.Path.{_≡_, refl, ap, sym, _∙_}
-use mathlib.Core.Bool.{Bool, true, false, _&&_, _||_, true≢false}
-use mathlib.Core.List.{List, [], _∷_, _++_}
+use mathlib.Core.Path.{_≡_, refl, sym, _∙_}
+use mathlib.Core.Bool.{Bool, true, false, _&&_, true≢false}
+use mathlib.Core.List.{List, [], _∷_}
 use Prim.Native.Nat.{ℕ, zero, suc, _+_, _-_, _*_, _^_, _<_, _≤_}
 use native.Mathlib.Omega.{arith}
-use lib.ListN.{length, length-append}
 use lib.Dec.{eqb, leb, ltb}
-use borrow.Author.Tests.{le-leb, leb-true, lt-ltb, ltb-true, eq-eqb, ne-eqb, le-ltb, eqb-true, ltb-false}
-use Rattle.laws.specs.Pick.{pick, pick-case, and-left, and-right, and-both}
+use borrow.Author.Tests.{le-leb, leb-true, lt-ltb, ltb-true, eq-eqb, ne-eqb, le-ltb, ltb-false}
+use Rattle.laws.specs.Pick.{pick, pick-case, and-left, and-right}
 use Rattle.laws.specs.And.{and-3-out, and-3-in}
 use Rattle.trace.specs.declared.Line.{Line}
-use Rattle.trace.specs.Lines.{kindOf, eventNumber, isDigit}
-use Rattle.trace.specs.Reading.{lineAt, fresh, stopped, named, tabbed, begun, closed, longer, counted, next, closes, said, read, found, ended, lineFits, handFits, valueFits, noneFits}
+use Rattle.trace.specs.Lines.{kindOf, isDigit}
+use Rattle.trace.specs.Reading.{lineAt, fresh, stopped, named, tabbed, begun, closed, counted, next, read, lineFits}
 
 pub digit-low : (b : ℕ) → isDigit b ≡ true → 48 ≤ b
 digit-low b e = leb-true 48 b (and-left (leb 48 b) (leb b 57) e)

@@ -1,12 +1,10 @@
 -- The pin model's promise for a list of events, where the memory, the device and the output are right: nothing is refused.
-use mathlib.Core.Path.{_≡_, refl, ap, sym, _∙_}
-use mathlib.Core.Bool.{true}
+use mathlib.Core.Path.{_≡_, refl, ap}
 use mathlib.Core.List.{List, [], _∷_, _++_}
 use Prim.Native.Nat.{ℕ, suc}
 use lib.ListN.{length}
 use Rattle.laws.specs.Pick.{pick}
-use Rattle.chip.specs.Part.{Part, m95512}
-use Rattle.chip.specs.Refusals.{isDone}
+use Rattle.chip.specs.Part.{Part}
 use Rattle.chip.specs.declared.Outcome.{Outcome}
 use Rattle.chip.specs.declared.Outcome.the-variants.{Done}
 use Rattle.pins.specs.declared.Device.{Device}

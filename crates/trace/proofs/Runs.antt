@@ -8,12 +8,12 @@ use native.Mathlib.Nat.{add-zero}
 use native.Mathlib.Numerals.{add-one}
 use lib.ListN.{length, take, getD, set, length-append}
 use lib.Seq.{take-suc, take-suc-set, take-set-le}
-use lib.Dec.{eqb, leb, ltb}
+use lib.Dec.{eqb, ltb}
 use borrow.Author.Tests.{ne-eqb}
 use Rattle.laws.specs.Pick.{pick, pick-case, and-both, and-no-left, and-no-right}
 use Rattle.trace.specs.declared.Line.{Line}
-use Rattle.trace.specs.Lines.{kindOf, eventNumber, isDigit}
-use Rattle.trace.specs.Reading.{lineAt, stopped, named, tabbed, begun, closed, counted, next, closes, said, read, found, lineFits}
+use Rattle.trace.specs.Lines.{kindOf, isDigit}
+use Rattle.trace.specs.Reading.{lineAt, closed, next, closes, said, read, found, lineFits}
 use Rattle.trace.proofs.Hand.{digit-low, next-fits, read-fits, past-fits, whole-small}
 
 pub read-append : (l : Line) (x y : List ℕ) → read l (x ++ y) ≡ read (read l x) y

@@ -1,6 +1,6 @@
 -- A text byte by byte and line by line: the events that the bytes give are those of the good lines, and the text is stopped at the end exactly where it has a bad line.
 use mathlib.Core.Path.{_≡_, refl, ap, sym, subst, _∙_}
-use mathlib.Core.Bool.{Bool, true, false, not, _&&_, _||_, true≢false}
+use mathlib.Core.Bool.{Bool, true, false, _||_, true≢false}
 use mathlib.Core.List.{List, [], _∷_, _++_}
 use Prim.Native.Nat.{ℕ, zero, suc, _+_, _-_, _*_, _^_, _<_, _≤_}
 use native.Mathlib.Nat.{add-zero}
@@ -8,9 +8,9 @@ use native.Mathlib.Omega.{arith}
 use lib.ListN.{length}
 use lib.Dec.{eqb, leb, ltb}
 use borrow.Author.Tests.{eqb-true, leb-true, ltb-true, ltb-false, lt-ltb, le-ltb, ne-eqb}
-use Rattle.laws.specs.Pick.{pick, yes-so, no-so, pick-same, pick-case, and-right, and-no-left, and-no-right}
+use Rattle.laws.specs.Pick.{pick, yes-so, no-so, pick-same, and-right, and-no-left, and-no-right}
 use Rattle.trace.specs.declared.Line.{Line}
-use Rattle.trace.specs.Lines.{Said, event, bad, kindOf, isDigit, isEmpty, endSays, levelSays, digitsSay, readingSays, valueSays, tabSays, lineSays}
+use Rattle.trace.specs.Lines.{Said, event, bad, kindOf, isDigit, isEmpty, endSays, digitsSay, valueSays, tabSays, lineSays}
 use Rattle.trace.specs.Texts.{firstLine, afterLine, goodThen, goodLines, badThen, hasBad}
 use Rattle.trace.specs.Reading.{lineAt, fresh, stopped, next, closes, said, read, found, ended}
 use Rattle.trace.proofs.Hand.{digit-low}

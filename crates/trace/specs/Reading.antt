@@ -1,6 +1,6 @@
 -- A text byte by byte: the line in hand after each, and the events of the lines that end. What it has to do with whole lines is a theorem (proofs/Whole.antt).
 use Prim.Native.Nat.{ℕ, _+_, _*_, _-_, _^_}
-use mathlib.Core.Bool.{Bool, true, false, _&&_, _||_}
+use mathlib.Core.Bool.{Bool, _&&_, _||_}
 use mathlib.Core.List.{List, [], _∷_, _++_}
 use lib.Dec.{eqb, leb, ltb}
 use Rattle.laws.specs.Pick.{pick}

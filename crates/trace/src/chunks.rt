@@ -1,17 +1,16 @@
 // A chunk of a text: it is taken in pieces, and each piece is read, played and printed.
 ghost use mathlib.Core.Path.{_≡_};
 ghost use mathlib.Core.Bool.{true};
-ghost use mathlib.Core.List.{_++_};
 ghost use Prim.Native.Nat.{_+_, _*_, _<_, _≤_};
 ghost use lib.ListN.{length};
 ghost use lib.Dec.{leb};
 ghost use Rattle.chip.specs.Part.{m95512};
-ghost use Rattle.pins.specs.Answers.{Bench, played, playedQ};
+ghost use Rattle.pins.specs.Answers.{played, playedQ};
 ghost use Rattle.pins.specs.Ranges.{deviceFits};
-ghost use Rattle.trace.specs.Texts.{startBench, deliveredMemory, printed};
-ghost use Rattle.trace.specs.Reading.{read, found, ended, lineFits, stopped};
+ghost use Rattle.trace.specs.Texts.{printed};
+ghost use Rattle.trace.specs.Reading.{read, lineFits};
 ghost use Rattle.trace.specs.Put.{put};
-ghost use Rattle.trace.specs.Chunks.{startPlayer, headFits, headedBy, takenBy, endedBy, refusedTo, fell, benchWith, benchOf, playedLines, shownLines, chunkBench, chunkPlayer, chunkOutput, playerFits, answerNumber, answerOf, room, feedAnswer, feedNumber, feedMemory, feedOutput, endPlayer, endOutput, endAnswer, endNumber, endWritten};
+ghost use Rattle.trace.specs.Chunks.{headFits, headedBy, takenBy, endedBy, refusedTo, fell, benchWith, playedLines, shownLines, chunkBench, chunkOutput, playerFits, answerOf, room, endOutput};
 use crate::Answer;
 use crate::Fed;
 use crate::Line;

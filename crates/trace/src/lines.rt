@@ -5,7 +5,7 @@ ghost use Prim.Native.Nat.{_+_, _*_, _-_, _<_, _≤_};
 ghost use lib.ListN.{length, take};
 ghost use Rattle.laws.specs.Pick.{pick};
 ghost use Rattle.trace.specs.Lines.{kindOf, eventNumber, isDigit};
-ghost use Rattle.trace.specs.Reading.{lineAt, fresh, stopped, named, tabbed, begun, closed, longer, counted, next, closes, read, found, ended, lineFits, handFits, valueFits, noneFits};
+ghost use Rattle.trace.specs.Reading.{lineAt, stopped, named, tabbed, begun, closed, longer, counted, next, closes, read, found, ended, lineFits, handFits, valueFits, noneFits};
 use crate::Line;
 
 // The kind of event that a name gives, 6 for no name.

@@ -1,6 +1,5 @@
 // The output, written into lent bytes from an index on; each function hands back the index after what it wrote.
 ghost use mathlib.Core.Path.{_≡_};
-ghost use mathlib.Core.List.{_++_, _∷_, []};
 ghost use Prim.Native.Nat.{_+_, _*_, _≤_};
 ghost use lib.ListN.{length};
 ghost use Rattle.trace.specs.Digits.{digits, places, decimal};

@@ -1,17 +1,9 @@
 // The public calls: what a text starts from, a chunk of it, and its end.
 ghost use mathlib.Core.Path.{_≡_};
-ghost use mathlib.Core.Bool.{true};
-ghost use mathlib.Core.List.{_++_};
-ghost use Prim.Native.Nat.{_+_, _*_, _<_, _≤_};
+ghost use Prim.Native.Nat.{_≤_};
 ghost use lib.ListN.{length};
-ghost use lib.Dec.{leb};
-ghost use Rattle.chip.specs.Part.{m95512};
-ghost use Rattle.pins.specs.Answers.{Bench, played, playedQ};
-ghost use Rattle.pins.specs.Ranges.{deviceFits};
-ghost use Rattle.trace.specs.Texts.{startBench, deliveredMemory, printed};
-ghost use Rattle.trace.specs.Reading.{read, found, ended, lineFits, stopped};
-ghost use Rattle.trace.specs.Put.{put};
-ghost use Rattle.trace.specs.Chunks.{startPlayer, headFits, headedBy, takenBy, endedBy, refusedTo, fell, benchWith, benchOf, playedLines, shownLines, chunkBench, chunkPlayer, chunkOutput, playerFits, answerNumber, answerOf, room, feedAnswer, feedNumber, feedMemory, feedOutput, endPlayer, endOutput, endAnswer, endNumber, endWritten};
+ghost use Rattle.trace.specs.Texts.{deliveredMemory};
+ghost use Rattle.trace.specs.Chunks.{startPlayer, answerNumber, feedAnswer, feedNumber, feedMemory, feedOutput, endAnswer, endNumber, endWritten};
 use crate::Answer;
 use crate::Fed;
 use crate::Line;

@@ -1,5 +1,4 @@
-use mathlib.Core.Path.{_≡_, ap, sym, _∙_}
-use mathlib.Core.Bool.{true}
+use mathlib.Core.Path.{_≡_, ap, _∙_}
 use lib.ListN.{length}
 use Rattle.chip.specs.Part.{m95512}
 use Rattle.pins.specs.Answers.{Bench, played, playedQ}

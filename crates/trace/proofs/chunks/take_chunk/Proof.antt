@@ -1,11 +1,11 @@
-use mathlib.Core.Path.{_≡_, refl, ap, sym, _∙_}
+use mathlib.Core.Path.{_≡_, refl, ap, _∙_}
 use native.Mathlib.Omega.{arith}
-use mathlib.Core.List.{List, _++_}
+use mathlib.Core.List.{List}
 use Prim.Native.Nat.{ℕ, _+_, _*_, _≤_}
 use lib.ListN.{length, length-append}
 use Rattle.trace.specs.Reading.{read}
 use Rattle.trace.specs.Put.{put}
-use Rattle.trace.specs.Chunks.{headed, fell, benchOf, playedLines, shownLines, chunkOutput}
+use Rattle.trace.specs.Chunks.{headed, fell, benchOf, shownLines, chunkOutput}
 use Rattle.trace.proofs.Choosing.{player-out, three-puts}
 use borrow.Author.Needs.{needs}
 use Rattle.trace.proofs.chunks.take_chunk.Statement.{statement}

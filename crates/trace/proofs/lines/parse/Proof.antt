@@ -7,11 +7,10 @@ use native.Mathlib.Omega.{arith}
 use borrow.Author.Needs.{needs}
 use lib.ListN.{length, take, getD, length-set, length-append}
 use lib.Seq.{take-all}
-use Rattle.laws.specs.Pick.{pick}
 use Rattle.trace.specs.Lines.{eventNumber}
 use Rattle.trace.specs.Reading.{read, found, said, closes, next, lineFits}
 use Rattle.trace.proofs.Hand.{next-fits}
-use Rattle.trace.proofs.Runs.{read-more, found-more, collected, said-length, found-length, one-or-none}
+use Rattle.trace.proofs.Runs.{read-more, found-more, collected, said-length, one-or-none}
 use Rattle.trace.proofs.lines.parse.Statement.{statement}
 use Rattle.trace.proofs.lines.parse.Tie as tie
 

@@ -1,8 +1,5 @@
-use mathlib.Core.Path.{_≡_, ap, sym, _∙_}
-use mathlib.Core.List.{List, [], _∷_, _++_}
-use Prim.Native.Nat.{ℕ, _+_}
 use native.Mathlib.Omega.{arith}
-use lib.ListN.{length, length-set, length-append}
+use lib.ListN.{length-set, length-append}
 use Rattle.trace.specs.Digits.{decimal}
 use Rattle.trace.specs.Texts.{goodLine}
 use Rattle.trace.proofs.Puts.{put-three}
