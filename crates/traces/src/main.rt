@@ -84,14 +84,18 @@ fn good() {
     );
 }
 
-// Each kind of bad line, after a good one where it is not the first.
-fn bad() {
+// Bad ends of a line, after a good one where it is not the first.
+fn bad_ends() {
     tell(b"CR LF", b"S\t0\r\n", 64);
     tell(b"no LF at the end", b"S\t0\nC\t1", 64);
     tell(b"no LF after a reading", b"S\t0\nT\t12", 64);
     tell(b"a name alone at the end", b"S\t0\nC", 64);
     tell(b"an empty line", b"S\t0\n\nC\t1\n", 64);
     tell(b"an empty first line", b"\n", 64);
+}
+
+// Bad fields: what stands between the name and the value.
+fn bad_fields() {
     tell(b"a space for the tab", b"S\t0\nC 1\n", 64);
     tell(b"two tabs", b"S\t0\nC\t\t1\n", 64);
     tell(b"no tab", b"S\t0\nC1\n", 64);
@@ -99,6 +103,10 @@ fn bad() {
     tell(b"S with 2", b"S\t2\n", 64);
     tell(b"S with 00", b"S\t00\n", 64);
     tell(b"S with nothing", b"S\t\n", 64);
+}
+
+// Bad readings.
+fn bad_readings() {
     tell(b"T with nothing", b"T\t\n", 64);
     tell(b"T with a minus", b"S\t0\nT\t-1\n", 64);
     tell(b"T with a plus", b"S\t0\nT\t+1\n", 64);
@@ -108,6 +116,10 @@ fn bad() {
     tell(b"eleven digits", b"S\t0\nT\t10000000000\n", 64);
     tell(b"twenty digits", b"S\t0\nT\t18446744073709551617\n", 64);
     tell(b"a letter in a reading", b"S\t0\nT\t1a\n", 64);
+}
+
+// Bytes that no line has, and bad names.
+fn bad_bytes() {
     tell(b"a NUL byte", b"S\t0\n\x00\n", 64);
     tell(b"a NUL after the level", b"S\t0\nC\t1\x00\n", 64);
     tell(b"bytes above 127", b"S\t0\n\xc3\xa9\t1\n", 64);
@@ -227,7 +239,10 @@ fn million(memory: &mut [u8], out: &mut [u8]) {
 
 fn main() {
     good();
-    bad();
+    bad_ends();
+    bad_fields();
+    bad_readings();
+    bad_bytes();
     cut(1);
     cut(2);
     cut(3);
