@@ -1,5 +1,5 @@
 // Texts of every kind through the trace library: an empty one, good ones, each kind of bad line, one text cut in many ways, a million lines and one
-// more. The gate compares what it writes with the file stdout, which an independent player made from the rules.
+// more, and what is refused. The gate compares what it writes with the file stdout, which an independent player made from the rules.
 ghost use mathlib.Core.Path.{_≡_};
 ghost use Prim.Native.Nat.{_<_, _≤_};
 ghost use lib.ListN.{length};
@@ -237,6 +237,65 @@ fn million(memory: &mut [u8], out: &mut [u8]) {
     more(b"and one byte more", player, memory, b"S", out);
 }
 
+// ---- what is refused, by its number, and that the first in the order decides: a chunk of four bytes, which asks for 59
+
+fn refused(what: &[u8], player: Player, memory: &mut [u8], out: &mut [u8]) {
+    let f = trace::feed(player, memory, b"S\t0\n", out);
+    let answer = f.answer;
+    say(what, answer.number() as u64);
+}
+
+fn with_flag_2() -> Player {
+    let mut player = trace::start();
+    player.headed = 2;
+    player
+}
+
+fn refused_memory(out: &mut [u8]) {
+    let mut memory = [0u8; 64];
+    refused(b"a memory of 64 bytes", trace::start(), &mut memory, out);
+    refused(b"and a flag of 2", with_flag_2(), &mut memory, out);
+}
+
+fn refused_player(memory: &mut [u8], out: &mut [u8]) {
+    let mut short = [0u8; 58];
+    refused(b"a flag of 2", with_flag_2(), memory, out);
+    refused(
+        b"and an output of 58 bytes",
+        with_flag_2(),
+        memory,
+        &mut short,
+    );
+}
+
+fn refused_output(what: &[u8], memory: &mut [u8], out: &mut [u8]) {
+    refused(what, trace::start(), memory, out);
+}
+
+fn refused_outputs(memory: &mut [u8]) {
+    let mut short = [0u8; 58];
+    refused_output(b"an output of 58 bytes", memory, &mut short);
+    let mut room = [0u8; 59];
+    refused_output(b"an output of 59 bytes", memory, &mut room);
+}
+
+fn refused_end(what: &[u8], out: &mut [u8]) {
+    let f = trace::finish(trace::start(), out);
+    let answer = f.answer;
+    say(what, answer.number() as u64);
+}
+
+fn refusals(memory: &mut [u8], out: &mut [u8]) {
+    title(b"refusals");
+    refused_memory(out);
+    refused_player(memory, out);
+    refused_outputs(memory);
+    let mut short = [0u8; 18];
+    refused_end(b"the end, an output of 18 bytes", &mut short);
+    let mut room = [0u8; 19];
+    refused_end(b"the end, an output of 19 bytes", &mut room);
+}
+
 fn main() {
     good();
     bad_ends();
@@ -255,4 +314,5 @@ fn main() {
     long_line(&mut memory, &mut out);
     let mut again = trace::memory();
     million(&mut again, &mut out);
+    refusals(&mut again, &mut out);
 }
