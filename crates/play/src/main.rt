@@ -1,0 +1,117 @@
+// Plays a trace: the text from standard input, or from the file that the first argument names, and its output to standard output.
+//
+// The text is read in chunks of 6,551 bytes, so that what a chunk puts out fits 65,536; nothing else is kept of it.
+ghost use mathlib.Core.Path.{_≡_};
+ghost use Prim.Native.Nat.{_≤_};
+ghost use lib.ListN.{length};
+use libc::STDIN_FILENO;
+use libc::STDOUT_FILENO;
+use trace::Player;
+
+struct Turned {
+    player: Player,
+    more: bool,
+}
+
+// Writes bytes out, or says why it cannot.
+fn put(bytes: &[u8]) -> bool {
+    if io::write_all(STDOUT_FILENO, bytes) {
+        return true;
+    }
+    os::fail(b"standard output");
+    false
+}
+
+fn stop(player: Player) -> Turned {
+    Turned {
+        player: player,
+        more: false,
+    }
+}
+
+// The end of the text. A read that failed never comes here.
+fn close(player: Player, out: &mut [u8]) {
+    let fed = trace::finish(player, out);
+    let n = fed.written;
+    put(&out[..n]);
+}
+
+// One chunk: it is read, fed and written. An output that takes no more ends the program at once.
+fn turn(
+    fd: i32,
+    name: &[u8],
+    player: Player,
+    memory: &mut [u8],
+    text: &mut [u8],
+    out: &mut [u8],
+) -> Turned {
+    let got = libc::read(fd, text);
+    if got < 0 {
+        os::fail(name);
+        return stop(player);
+    }
+    if got == 0 {
+        close(player, out);
+        return stop(player);
+    }
+    let n = io::count(got, text);
+    let fed = trace::feed(player, memory, &text[..n], out);
+    let k = fed.written;
+    let next = fed.player;
+    let more = put(&out[..k]);
+    Turned {
+        player: next,
+        more: more,
+    }
+}
+
+fn chunk() -> [u8; 6551]
+    ensures { λ r. ⌜ 6551 ≡ length r ⌝ }
+{
+    [0; 6551]
+}
+
+// The text chunk by chunk. The turns count down from a number that no run uses up.
+fn turns(fd: i32, name: &[u8], memory: &mut [u8], text: &mut [u8], out: &mut [u8]) {
+    let mut player = trace::start();
+    let mut left = u64::MAX;
+    while left > 0 {
+        let turned = turn(fd, name, player, memory, text, out);
+        if !turned.more {
+            return;
+        }
+        player = turned.player;
+        left -= 1;
+    }
+}
+
+fn play(fd: i32, name: &[u8]) {
+    let mut memory = trace::memory();
+    let mut text = chunk();
+    let mut out = io::large_buffer();
+    turns(fd, name, &mut memory, &mut text, &mut out);
+}
+
+fn play_file(path: &[u8]) {
+    let fd = os::open_read(path);
+    if fd < 0 {
+        os::fail(path);
+        return;
+    }
+    play(fd, path);
+    libc::close(fd);
+}
+
+fn main() {
+    if os::arg_count() < 2 {
+        play(STDIN_FILENO, b"standard input");
+        return;
+    }
+    let mut path = io::buffer();
+    let n = os::arg(1, &mut path);
+    if os::errno() != 0 {
+        os::fail(b"the file name");
+        return;
+    }
+    play_file(&path[..n]);
+}

@@ -1,0 +1,113 @@
+-- The sides of a chunk's choices: the header, the bad line, the refusals in their order; and the three parts of an output, written one after another.
+use mathlib.Core.Path.{_≡_, refl, ap, sym, _∙_}
+use mathlib.Core.Bool.{Bool, true, false}
+use mathlib.Core.List.{List, [], _++_, append-assoc}
+use Prim.Native.Nat.{ℕ, _+_, _*_, _-_, _/_, _≤_}
+use native.Mathlib.Decide.{decLe}
+use native.Mathlib.Omega.{arith}
+use lib.ListN.{length, length-append}
+use lib.Dec.{eqb, leb}
+use borrow.Author.Tests.{ne-eqb, le-leb, lt-leb}
+use Rattle.laws.specs.Pick.{pick, yes-so, no-so, eq-so, ne-so, pick-ap}
+use Rattle.laws.specs.And.{and-3-out}
+use Rattle.chip.specs.Part.{m95512}
+use Rattle.pins.specs.Ranges.{deviceFits}
+use Rattle.trace.specs.declared.Line.{Line}
+use Rattle.trace.specs.declared.Player.{Player}
+use Rattle.trace.specs.declared.Answer.the-variants.{Played, BadLine}
+use Rattle.trace.specs.Texts.{header, badLine}
+use Rattle.trace.specs.Reading.{stopped, ended, lineFits}
+use Rattle.trace.specs.Put.{put}
+use Rattle.trace.specs.Chunks.{headedBy, fell, answerNumber, answerOf, playerNumber, headFits, playerFits, room, endChoice, feedChoice}
+use Rattle.trace.proofs.Puts.{put-put}
+use Rattle.trace.proofs.Hand.{stopped-fits, whole-small}
+
+pub head-first : (flag : ℕ) → flag ≡ 0 → header ≡ headedBy flag
+head-first flag e = eq-so _ e refl
+
+pub head-out : (flag : ℕ) → (flag ≡ 0 → ⊥) → [] ≡ headedBy flag
+head-out flag e = ne-so _ e refl
+
+-- ---- the bad line
+
+pub fell-before : (a b : Line) → a .place ≡ 5 → [] ≡ fell a b
+unfolding fell
+fell-before a b e = eq-so _ e refl
+
+pub fell-now : (a b : Line) → (a .place ≡ 5 → ⊥) → b .place ≡ 5 → badLine (b .whole + 1) ≡ fell a b
+unfolding fell
+fell-now a b n e = ne-so _ n (eq-so _ e refl)
+
+pub fell-not : (a b : Line) → (b .place ≡ 5 → ⊥) → [] ≡ fell a b
+unfolding pick fell
+fell-not a b n = rw (ne-eqb (b .place) 5 n) (none (eqb (a .place) 5))
+  where
+    none : (t : Bool) → _≡_ {A = List ℕ} [] (pick t [] [])
+    none true = refl
+    none false = refl
+
+pub ended-fits : (l : Line) → lineFits l ≡ true → lineFits (ended l) ≡ true
+unfolding pick ended
+ended-fits l f = either (eqb (l .place) 0)
+  where
+    either : (t : Bool) → lineFits (pick t l (stopped (l .whole))) ≡ true
+    either true = f
+    either false = stopped-fits (l .whole) (whole-small l f)
+
+-- ---- room
+
+pub room-same : (n bytes : ℕ) → 19 ≤ bytes → leb n ((bytes - 19) / 10) ≡ leb (room n) bytes
+room-same n bytes h = elim (decLe (19 + 10 * n) bytes) [
+  | yes k ↦ le-leb n ((bytes - 19) / 10) (omega arith) ∙ sym (le-leb (19 + 10 * n) bytes k)
+  | no k ↦ lt-leb n ((bytes - 19) / 10) (omega arith) ∙ sym (lt-leb (19 + 10 * n) bytes (omega arith))
+]
+
+-- ---- the refusals
+
+pub player-out : (p : Player) → playerFits p ≡ true → (headFits p ≡ true) × ((lineFits (p .line) ≡ true) × (deviceFits m95512 (p .device) ≡ true))
+unfolding playerFits
+player-out p e = and-3-out (headFits p) (lineFits (p .line)) (deviceFits m95512 (p .device)) e
+
+pub answer-number : (p : Player) → answerNumber (answerOf p) ≡ playerNumber p
+answer-number p = pick-ap answerNumber (eqb (p .line .place) 5) BadLine Played
+
+module _ {A : Type 0} (p : Player) (asked bytes : ℕ) {r : A} where
+  pub end-done : {done : A} (short outside : A) → playerFits p ≡ true → leb asked bytes ≡ true → r ≡ done → r ≡ endChoice p asked bytes done short outside
+  end-done short outside f k e = yes-so _ f (yes-so _ k e)
+
+  pub end-short : {short : A} (done outside : A) → playerFits p ≡ true → leb asked bytes ≡ false → r ≡ short → r ≡ endChoice p asked bytes done short outside
+  end-short done outside f k e = yes-so _ f (no-so _ k e)
+
+  pub end-outside : {outside : A} (done short : A) → playerFits p ≡ false → r ≡ outside → r ≡ endChoice p asked bytes done short outside
+  end-outside done short f e = no-so _ f e
+
+module _ {A : Type 0} (p : Player) (m : List ℕ) (asked bytes : ℕ) {r : A} where
+  pub feed-done : {done : A} (short outside wrong : A) → length m ≡ 65536 → playerFits p ≡ true → leb asked bytes ≡ true → r ≡ done
+      → r ≡ feedChoice p m asked bytes done short outside wrong
+  feed-done short outside wrong n f k e = eq-so _ n (end-done p asked bytes short outside f k e)
+
+  pub feed-short : {short : A} (done outside wrong : A) → length m ≡ 65536 → playerFits p ≡ true → leb asked bytes ≡ false → r ≡ short
+      → r ≡ feedChoice p m asked bytes done short outside wrong
+  feed-short done outside wrong n f k e = eq-so _ n (end-short p asked bytes done outside f k e)
+
+  pub feed-outside : {outside : A} (done short wrong : A) → length m ≡ 65536 → playerFits p ≡ false → r ≡ outside
+      → r ≡ feedChoice p m asked bytes done short outside wrong
+  feed-outside done short wrong n f e = eq-so _ n (end-outside p asked bytes done short f e)
+
+  pub feed-wrong : {wrong : A} (done short outside : A) → (length m ≡ 65536 → ⊥) → r ≡ wrong → r ≡ feedChoice p m asked bytes done short outside wrong
+  feed-wrong done short outside n e = ne-so _ n e
+
+-- ---- an output in parts
+
+module _ (d h : List ℕ) (at : ℕ) (at-is : at ≡ length h) where
+  pub two-puts : (f : List ℕ) → length h + length f ≤ length d → put (put d 0 h) at f ≡ put d 0 (h ++ f)
+  two-puts f r =
+      let e : at ≡ 0 + length h = omega arith in
+      ap (λ (k : ℕ). put (put d 0 h) k f) e ∙ put-put d 0 h f (omega arith)
+
+  pub three-puts : (s f : List ℕ) (end : ℕ) → end ≡ at + length s → length h + length s + length f ≤ length d
+      → put (put (put d 0 h) at s) end f ≡ put d 0 (h ++ (s ++ f))
+  three-puts s f end e r =
+      let n : end ≡ 0 + length (h ++ s) = rw length-append (omega arith) in
+      ap (λ (l : List ℕ). put l end f) (two-puts s (omega arith)) ∙ ap (λ (k : ℕ). put (put d 0 (h ++ s)) k f) n
+      ∙ put-put d 0 (h ++ s) f (rw length-append (omega arith)) ∙ ap (put d 0) (append-assoc h s f)

@@ -1,0 +1,10 @@
+pub mod Cases
+pub mod Hand
+pub mod Runs
+pub mod Puts
+pub mod Plays
+pub mod Chunking
+pub mod Choosing
+pub mod Whole
+pub mod Cut
+pub mod Ones

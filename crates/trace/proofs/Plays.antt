@@ -1,0 +1,39 @@
+-- The pin model's promise for a list of events, where the memory, the device and the output are right: nothing is refused.
+use mathlib.Core.Path.{_≡_, refl, ap}
+use mathlib.Core.List.{List, [], _∷_, _++_}
+use Prim.Native.Nat.{ℕ, suc}
+use lib.ListN.{length}
+use Rattle.laws.specs.Pick.{pick}
+use Rattle.chip.specs.Part.{Part}
+use Rattle.chip.specs.declared.Outcome.{Outcome}
+use Rattle.chip.specs.declared.Outcome.the-variants.{Done}
+use Rattle.pins.specs.declared.Device.{Device}
+use Rattle.pins.specs.declared.Stepped.{Stepped}
+use Rattle.pins.specs.Falling.{q, levelNumber}
+use Rattle.pins.specs.Answers.{Bench, answer, answerMemory, afterEvent, played, playedQ}
+
+pub done-device : {o : Outcome} {r : Stepped} (y x : Device) → o ≡ Done → r ≡ answer o y x → r .device ≡ y
+unfolding pick
+done-device y x e q = rw (q, e) refl
+
+pub done-memory : {o : Outcome} (n m k : List ℕ) → o ≡ Done → k ≡ answerMemory o n m → k ≡ n
+unfolding pick
+done-memory n m k e q = rw (q, e) refl
+
+-- ---- one list after another
+
+module _ (P : Part) where
+  pub played-append : (es fs : List ℕ) (b : Bench) → played P (es ++ fs) b ≡ played P fs (played P es b)
+  unfolding played
+  played-append [] fs b = refl
+  played-append (e ∷ es) fs b = played-append es fs (afterEvent P e b)
+
+  pub playedQ-append : (es fs : List ℕ) (b : Bench) → playedQ P (es ++ fs) b ≡ playedQ P es b ++ playedQ P fs (played P es b)
+  unfolding played playedQ
+  playedQ-append [] fs b = refl
+  playedQ-append (e ∷ es) fs b = ap (λ (l : List ℕ). levelNumber (q (afterEvent P e b .device)) ∷ l) (playedQ-append es fs (afterEvent P e b))
+
+  pub playedQ-length : (es : List ℕ) (b : Bench) → length (playedQ P es b) ≡ length es
+  unfolding playedQ
+  playedQ-length [] b = refl
+  playedQ-length (e ∷ es) b = ap suc (playedQ-length es (afterEvent P e b))

@@ -1,0 +1,174 @@
+-- A text a chunk at a time: the player after a chunk, the memory, what is put out; the refusals; and what the end of the text adds.
+use Prim.Native.Nat.{ℕ, _+_, _*_}
+use mathlib.Core.Bool.{Bool, _&&_, _||_}
+use mathlib.Core.List.{List, [], _∷_, _++_}
+use lib.ListN.{length}
+use lib.Dec.{eqb, leb}
+use Rattle.laws.specs.Pick.{pick}
+use Rattle.chip.specs.Part.{m95512}
+use Rattle.chip.specs.Refusals.{refusalNumber}
+use Rattle.chip.specs.declared.Refusal.{Refusal}
+use Rattle.chip.specs.declared.Refusal.the-variants.{MemoryLength, RecordRange, OutputLength}
+use Rattle.pins.specs.declared.Device.{Device}
+use Rattle.pins.specs.Ranges.{deviceFits}
+use Rattle.pins.specs.Answers.{Bench, played, playedQ}
+use Rattle.trace.specs.declared.Line.{Line}
+use Rattle.trace.specs.declared.Player.{Player}
+use Rattle.trace.specs.declared.Answer.{Answer}
+use Rattle.trace.specs.declared.Answer.the-variants.{Played, BadLine, Refused}
+use Rattle.trace.specs.declared.Fed.{Fed}
+use Rattle.trace.specs.Reading.{fresh, read, found, ended, lineFits}
+use Rattle.trace.specs.Texts.{startBench, header, badLine, printed}
+use Rattle.trace.specs.Put.{put}
+
+abbrev pub playerOf : ℕ → Line → Bench → Player
+playerOf headed l b = record { headed = headed; line = l; device = b .device }
+
+-- before the first byte
+abbrev pub startPlayer : Player
+startPlayer = playerOf 0 (fresh 0) startBench
+
+-- ---- what a chunk puts out
+
+-- the header stands before everything else
+abbrev pub headedBy : ℕ → List ℕ
+headedBy flag = pick (eqb flag 0) header []
+
+abbrev pub headed : Player → List ℕ
+headed p = headedBy (p .headed)
+
+-- the bad line, where the text comes to it between the lines a and b in hand
+unfoldable pub fell : Line → Line → List ℕ
+fell a b = pick (eqb (a .place) 5) [] (pick (eqb (b .place) 5) (badLine (b .whole + 1)) [])
+
+abbrev pub benchWith : Device → List ℕ → Bench
+benchWith x m = record { device = x; memory = m }
+
+abbrev pub benchOf : Player → List ℕ → Bench
+benchOf p m = benchWith (p .device) m
+
+-- the device and the memory after the lines that end in the bytes x, from the line l in hand on
+unfoldable pub playedLines : Line → Bench → List ℕ → Bench
+playedLines l b x = played m95512 (found l x) b
+
+-- those lines, with Q after each
+unfoldable pub shownLines : Line → Bench → List ℕ → List ℕ
+shownLines l b x = printed (l .whole + 1) (playedQ m95512 (found l x) b)
+
+abbrev pub chunkBench : Player → List ℕ → List ℕ → Bench
+chunkBench p m x = playedLines (p .line) (benchOf p m) x
+
+abbrev pub chunkPlayer : Player → List ℕ → List ℕ → Player
+chunkPlayer p m x = playerOf 1 (read (p .line) x) (chunkBench p m x)
+
+abbrev pub chunkOutput : Player → List ℕ → List ℕ → List ℕ
+chunkOutput p m x = headed p ++ (shownLines (p .line) (benchOf p m) x ++ fell (p .line) (read (p .line) x))
+
+-- ---- the end of the text
+
+abbrev pub endPlayer : Player → Player
+endPlayer p = record { headed = 1; line = ended (p .line); device = p .device }
+
+abbrev pub endOutput : Player → List ℕ
+endOutput p = headed p ++ fell (p .line) (ended (p .line))
+
+-- ---- answers
+
+-- 11 from the bad line on
+abbrev pub answerNumber : Answer → ℕ
+answerNumber Played = 0
+answerNumber BadLine = 11
+answerNumber (Refused r) = refusalNumber r
+
+abbrev pub answerOf : Player → Answer
+answerOf p = pick (eqb (p .line .place) 5) BadLine Played
+
+abbrev pub playerNumber : Player → ℕ
+playerNumber p = pick (eqb (p .line .place) 5) 11 0
+
+-- no byte is taken before the header is out
+abbrev pub headFits : Player → Bool
+headFits p = leb (p .headed) 1 && (eqb (p .headed) 1 || eqb (p .line .whole) 0 && eqb (p .line .place) 0)
+
+-- a player outside these ranges gets 2
+unfoldable pub playerFits : Player → Bool
+playerFits p = headFits p && lineFits (p .line) && deviceFits m95512 (p .device)
+
+-- the output that n bytes of text ask for: the header, the bad line, and a good line for each byte
+abbrev pub room : ℕ → ℕ
+room n = 19 + 10 * n
+
+-- 2, and 5 for an output with fewer bytes than asked for
+abbrev pub endChoice : {A : Type 0} → Player → ℕ → ℕ → A → A → A → A
+endChoice p asked bytes done short outside = pick (playerFits p) (pick (leb asked bytes) done short) outside
+
+-- 1 before them
+abbrev pub feedChoice : {A : Type 0} → Player → List ℕ → ℕ → ℕ → A → A → A → A → A
+feedChoice p m asked bytes done short outside wrong = pick (eqb (length m) 65536) (endChoice p asked bytes done short outside) wrong
+
+abbrev pub fedTo : Answer → Player → ℕ → Fed
+fedTo a p n = record { answer = a; player = p; written = n }
+
+abbrev pub refusedTo : Refusal → Player → Fed
+refusedTo r p = fedTo (Refused r) p 0
+
+-- what a chunk x that is taken hands back
+abbrev pub takenBy : Player → List ℕ → List ℕ → Fed
+takenBy p m x = fedTo (answerOf (chunkPlayer p m x)) (chunkPlayer p m x) (length (chunkOutput p m x))
+
+-- a chunk x, with a lent memory m and a lent output d
+abbrev pub feedAnswer : Player → List ℕ → List ℕ → List ℕ → Fed
+feedAnswer p m x d =
+    feedChoice p m (room (length x)) (length d) (takenBy p m x) (refusedTo OutputLength p)
+    (refusedTo RecordRange p) (refusedTo MemoryLength p)
+
+abbrev pub feedNumber : Player → List ℕ → List ℕ → List ℕ → ℕ
+feedNumber p m x d = feedChoice p m (room (length x)) (length d) (playerNumber (chunkPlayer p m x)) 5 2 1
+
+abbrev pub feedMemory : Player → List ℕ → List ℕ → List ℕ → List ℕ
+feedMemory p m x d = feedChoice p m (room (length x)) (length d) (chunkBench p m x .memory) m m m
+
+-- the output begins with what the chunk puts out, and is as it was after that
+abbrev pub feedOutput : Player → List ℕ → List ℕ → List ℕ → List ℕ
+feedOutput p m x d = feedChoice p m (room (length x)) (length d) (put d 0 (chunkOutput p m x)) d d d
+
+-- the end of the text asks for the room of no byte
+abbrev pub endedBy : Player → Fed
+endedBy p = fedTo (answerOf (endPlayer p)) (endPlayer p) (length (endOutput p))
+
+abbrev pub endAnswer : Player → List ℕ → Fed
+endAnswer p d =
+    endChoice p (room 0) (length d) (endedBy p) (refusedTo OutputLength p) (refusedTo RecordRange p)
+
+abbrev pub endNumber : Player → List ℕ → ℕ
+endNumber p d = endChoice p (room 0) (length d) (playerNumber (endPlayer p)) 5 2
+
+abbrev pub endWritten : Player → List ℕ → List ℕ
+endWritten p d = endChoice p (room 0) (length d) (put d 0 (endOutput p)) d d
+
+-- ---- a text in chunks: the player and the memory after them, and all that they put out
+
+pub record Told : Type 0 where
+  pub player : Player
+  pub memory : List ℕ
+  pub output : List ℕ
+
+abbrev pub told : Told → List ℕ → Told
+told t x =
+    record {
+      player = chunkPlayer (t .player) (t .memory) x;
+      memory = chunkBench (t .player) (t .memory) x .memory;
+      output = t .output ++ chunkOutput (t .player) (t .memory) x;
+    }
+
+unfoldable pub toldAll : Told → List (List ℕ) → Told
+toldAll t [] = t
+toldAll t (x ∷ xs) = toldAll (told t x) xs
+
+abbrev pub untold : Told
+untold = record { player = startPlayer; memory = startBench .memory; output = [] }
+
+-- the chunks one after another are the text
+unfoldable pub joined : List (List ℕ) → List ℕ
+joined [] = []
+joined (x ∷ xs) = x ++ joined xs

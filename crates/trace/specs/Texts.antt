@@ -1,0 +1,86 @@
+-- The whole output of a whole text, from document 01's "Trace text".
+use Prim.Native.Nat.{ℕ, zero, suc, _+_}
+use mathlib.Core.Bool.{Bool, true, not, _&&_}
+use mathlib.Core.List.{List, [], _∷_, _++_}
+use lib.ListN.{length, replicate}
+use lib.Dec.{eqb}
+use Rattle.laws.specs.Pick.{pick}
+use Rattle.chip.specs.Part.{m95512}
+use Rattle.chip.specs.Power.{delivered}
+use Rattle.pins.specs.Devices.{resting}
+use Rattle.pins.specs.Answers.{Bench, played, playedQ}
+use Rattle.trace.specs.Digits.{decimal}
+use Rattle.trace.specs.Lines.{Said, event, bad, isEmpty, lineSays}
+
+-- ---- lines: the first line of a text ends with its LF, or with the text
+
+unfoldable pub firstLine : List ℕ → List ℕ
+firstLine [] = []
+firstLine (b ∷ text) = b ∷ pick (eqb b 10) [] (firstLine text)
+
+unfoldable pub afterLine : List ℕ → List ℕ
+afterLine [] = []
+afterLine (b ∷ text) = pick (eqb b 10) text (afterLine text)
+
+-- ---- the events of the lines before the first bad one. A line past the first n is bad. (What follows a line is looked at only where the line is good.)
+
+abbrev pub goodThen : Said → (Unit {0} → List ℕ) → List ℕ
+goodThen (event e) es = e ∷ es tt
+goodThen bad es = []
+
+unfoldable pub goodLines : ℕ → List ℕ → List ℕ
+goodLines zero text = []
+goodLines (suc n) text = goodThen (lineSays (firstLine text)) (λ _. goodLines n (afterLine text))
+
+-- whether a bad line comes after them: a text that is empty has none
+abbrev pub badThen : Said → (Unit {0} → Bool) → Bool
+badThen (event e) t = t tt
+badThen bad t = true
+
+unfoldable pub hasBad : ℕ → List ℕ → Bool
+hasBad zero text = not (isEmpty text)
+hasBad (suc n) text = not (isEmpty text) && badThen (lineSays (firstLine text)) (λ _. hasBad n (afterLine text))
+
+abbrev pub textEvents : List ℕ → List ℕ
+textEvents text = goodLines 1000000 text
+
+abbrev pub textIsBad : List ℕ → Bool
+textIsBad text = hasBad 1000000 text
+
+-- ---- the bench that they are played on: the device as delivered, cycle length 5,000 and reading 0, and every byte FFh
+
+unfoldable pub deliveredMemory : List ℕ
+deliveredMemory = replicate 65536 255
+
+abbrev pub startBench : Bench
+startBench = record { device = resting m95512 (delivered m95512); memory = deliveredMemory }
+
+-- the device and the memory after the last good line
+abbrev pub textBench : List ℕ → Bench
+textBench text = played m95512 (textEvents text) startBench
+
+-- ---- the output
+
+-- line, tab, q
+unfoldable pub header : List ℕ
+header = 108 ∷ 105 ∷ 110 ∷ 101 ∷ 9 ∷ 113 ∷ 10 ∷ []
+
+-- 0, 1 or Z
+abbrev pub glyph : ℕ → ℕ
+glyph q = pick (eqb q 0) 48 (pick (eqb q 1) 49 90)
+
+unfoldable pub goodLine : ℕ → ℕ → List ℕ
+goodLine n q = decimal n ++ (9 ∷ glyph q ∷ 10 ∷ [])
+
+-- the number, a tab, bad
+unfoldable pub badLine : ℕ → List ℕ
+badLine n = decimal n ++ (9 ∷ 98 ∷ 97 ∷ 100 ∷ 10 ∷ [])
+
+-- lines from number n on, each with Q after it
+unfoldable pub printed : ℕ → List ℕ → List ℕ
+printed n [] = []
+printed n (q ∷ qs) = goodLine n q ++ printed (suc n) qs
+
+unfoldable pub textOutput : List ℕ → List ℕ
+textOutput text =
+    header ++ (printed 1 (playedQ m95512 (textEvents text) startBench) ++ pick (textIsBad text) (badLine (length (textEvents text) + 1)) [])

@@ -1,0 +1,318 @@
+// A chunk of a text: it is taken in pieces, and each piece is read, played and printed.
+ghost use mathlib.Core.Path.{_≡_};
+ghost use mathlib.Core.Bool.{true};
+ghost use Prim.Native.Nat.{_+_, _*_, _<_, _≤_};
+ghost use lib.ListN.{length};
+ghost use lib.Dec.{leb};
+ghost use Rattle.chip.specs.Part.{m95512};
+ghost use Rattle.pins.specs.Answers.{played, playedQ};
+ghost use Rattle.pins.specs.Ranges.{deviceFits};
+ghost use Rattle.trace.specs.Texts.{printed};
+ghost use Rattle.trace.specs.Reading.{read, lineFits};
+ghost use Rattle.trace.specs.Put.{put};
+ghost use Rattle.trace.specs.Chunks.{headFits, headedBy, takenBy, endedBy, refusedTo, fell, benchWith, playedLines, shownLines, chunkBench, chunkOutput, playerFits, answerOf, room, endOutput};
+use crate::Answer;
+use crate::Fed;
+use crate::Line;
+use crate::Player;
+use crate::lines::parse;
+use crate::print::print;
+use crate::print::put_bad;
+use crate::print::put_bytes;
+use chip::Refusal;
+use pins::Device;
+use pins::play;
+
+// An array has its length by its type; the proofs ask for that of the latch's marks.
+fn marked(device: Device) -> bool
+    ensures { λ _. ⌜ length (device .frame .latch .marks) ≡ 128 ⌝ }
+{
+    true
+}
+
+// What playing some events leaves: the pin model's promise for a list, where nothing is refused.
+fn play_some(device: Device, memory: &mut [u8], events: &[u64], qs: &mut [u8]) -> Device
+    requires { ⌜ (length (now memory) ≡ 65536) × (deviceFits m95512 device ≡ true) × (length (now qs) ≡ length (now events)) ⌝ }
+    ensures { λ r. ⌜ r ≡ played m95512 (now (events .entry)) (benchWith device (now (memory .entry))) .device ⌝ }
+    ensures { λ _. ⌜ now (memory .exit) ≡ played m95512 (now (events .entry)) (benchWith device (now (memory .entry))) .memory ⌝ }
+    ensures { λ _. ⌜ now (qs .exit) ≡ playedQ m95512 (now (events .entry)) (benchWith device (now (memory .entry))) ⌝ }
+    ensures { λ r. ⌜ deviceFits m95512 r ≡ true ⌝ }
+{
+    marked(device);
+    let stepped = play(device, memory, events, qs);
+    stepped.device
+}
+
+// The device after some events, and the index after their lines.
+struct Shown {
+    device: Device,
+    at: usize,
+}
+
+// Events are played, and each is printed with Q after it, as the lines from number n on.
+fn show(
+    device: Device,
+    memory: &mut [u8],
+    events: &[u64],
+    qs: &mut [u8],
+    out: &mut [u8],
+    at: usize,
+    n: u32,
+) -> Shown
+    requires { ⌜ (length (now memory) ≡ 65536) × (deviceFits m95512 device ≡ true) × (length (now qs) ≡ length (now events)) × (at + 10 * length (now events) ≤ length (now out)) × (n + length (now events) ≤ 1000001) ⌝ }
+    ensures { λ r. ⌜ (r .device ≡ played m95512 (now (events .entry)) (benchWith device (now (memory .entry))) .device) × (deviceFits m95512 (r .device) ≡ true) ⌝ }
+    ensures { λ _. ⌜ now (memory .exit) ≡ played m95512 (now (events .entry)) (benchWith device (now (memory .entry))) .memory ⌝ }
+    ensures { λ _. ⌜ now (out .exit) ≡ put (now (out .entry)) at (printed n (playedQ m95512 (now (events .entry)) (benchWith device (now (memory .entry))))) ⌝ }
+    ensures { λ r. ⌜ (r .at ≡ at + length (printed n (playedQ m95512 (now (events .entry)) (benchWith device (now (memory .entry)))))) × (r .at ≤ at + 10 * length (now (events .entry))) ⌝ }
+{
+    let next = play_some(device, memory, events, qs);
+    let end = print(out, at, n, qs);
+    Shown {
+        device: next,
+        at: end,
+    }
+}
+
+// The line and the device after a piece of the text, and the index after its output.
+struct Placed {
+    line: Line,
+    device: Device,
+    at: usize,
+}
+
+// A piece of the text is read into events, and these are shown.
+fn piece(
+    line: Line,
+    device: Device,
+    memory: &mut [u8],
+    text: &[u8],
+    events: &mut [u64],
+    qs: &mut [u8],
+    out: &mut [u8],
+    at: usize,
+) -> Placed
+    requires { ⌜ (length (now memory) ≡ 65536) × (deviceFits m95512 device ≡ true) × (lineFits line ≡ true) × (length (now text) ≤ length (now events)) × (length (now text) ≤ length (now qs)) × (at + 10 * length (now text) ≤ length (now out)) ⌝ }
+    ensures { λ r. ⌜ (r .line ≡ read line (now (text .entry))) × (lineFits (r .line) ≡ true) ⌝ }
+    ensures { λ r. ⌜ (r .device ≡ playedLines line (benchWith device (now (memory .entry))) (now (text .entry)) .device) × (deviceFits m95512 (r .device) ≡ true) ⌝ }
+    ensures { λ _. ⌜ now (memory .exit) ≡ playedLines line (benchWith device (now (memory .entry))) (now (text .entry)) .memory ⌝ }
+    ensures { λ _. ⌜ now (out .exit) ≡ put (now (out .entry)) at (shownLines line (benchWith device (now (memory .entry))) (now (text .entry))) ⌝ }
+    ensures { λ r. ⌜ (r .at ≡ at + length (shownLines line (benchWith device (now (memory .entry))) (now (text .entry)))) × (r .at ≤ at + 10 * length (now (text .entry))) ⌝ }
+{
+    let parsed = parse(line, text, events);
+    let count = parsed.count;
+    let number = line.whole + 1;
+    let shown = show(
+        device,
+        memory,
+        &events[..count],
+        &mut qs[..count],
+        out,
+        at,
+        number,
+    );
+    let hand = parsed.line;
+    let next = shown.device;
+    Placed {
+        line: hand,
+        device: next,
+        at: shown.at,
+    }
+}
+
+// Where the piece that starts at i ends: 1,024 bytes on, or with the text.
+fn piece_end(i: usize, end: usize) -> usize
+    requires { ⌜ i < end ⌝ }
+    ensures { λ r. ⌜ (i < r) × (r ≤ end) × (r ≤ i + 1024) ⌝ }
+{
+    if end - i < 1024 {
+        return end;
+    }
+    i + 1024
+}
+
+fn event_room() -> [u64; 1024]
+    ensures { λ r. ⌜ 1024 ≡ length r ⌝ }
+{
+    [0; 1024]
+}
+
+fn level_room() -> [u8; 1024]
+    ensures { λ r. ⌜ 1024 ≡ length r ⌝ }
+{
+    [0; 1024]
+}
+
+// A text of any length, piece by piece.
+fn pieces(
+    line: Line,
+    device: Device,
+    memory: &mut [u8],
+    text: &[u8],
+    out: &mut [u8],
+    at: usize,
+) -> Placed
+    requires { ⌜ (length (now memory) ≡ 65536) × (deviceFits m95512 device ≡ true) × (lineFits line ≡ true) × (at + 10 * length (now text) ≤ length (now out)) ⌝ }
+    ensures { λ r. ⌜ (r .line ≡ read line (now (text .entry))) × (lineFits (r .line) ≡ true) ⌝ }
+    ensures { λ r. ⌜ r .device ≡ playedLines line (benchWith device (now (memory .entry))) (now (text .entry)) .device ⌝ }
+    ensures { λ _. ⌜ now (memory .exit) ≡ playedLines line (benchWith device (now (memory .entry))) (now (text .entry)) .memory ⌝ }
+    ensures { λ _. ⌜ now (out .exit) ≡ put (now (out .entry)) at (shownLines line (benchWith device (now (memory .entry))) (now (text .entry))) ⌝ }
+    ensures { λ r. ⌜ (r .at ≡ at + length (shownLines line (benchWith device (now (memory .entry))) (now (text .entry)))) × (r .at ≤ at + 10 * length (now (text .entry))) ⌝ }
+{
+    let mut events = event_room();
+    let mut qs = level_room();
+    let mut hand = line;
+    let mut next = device;
+    let mut end = at;
+    let mut i: usize = 0;
+    while i < text.len() {
+        let stop = piece_end(i, text.len());
+        let placed = piece(
+            hand,
+            next,
+            memory,
+            &text[i..stop],
+            &mut events,
+            &mut qs,
+            out,
+            end,
+        );
+        hand = placed.line;
+        next = placed.device;
+        end = placed.at;
+        i = stop;
+    }
+    Placed {
+        line: hand,
+        device: next,
+        at: end,
+    }
+}
+
+// ---- what stands before and after the lines of a chunk
+
+// The header, where it is not out yet.
+fn put_head(flag: u8, out: &mut [u8]) -> usize
+    requires { ⌜ 7 ≤ length (now out) ⌝ }
+    ensures { λ _. ⌜ now (out .exit) ≡ put (now (out .entry)) 0 (headedBy flag) ⌝ }
+    ensures { λ r. ⌜ (r ≡ length (headedBy flag)) × (r ≤ 7) ⌝ }
+{
+    if flag == 0 {
+        return put_bytes(out, 0, b"line\tq\n");
+    }
+    0
+}
+
+// The bad line, where the text came to it between the lines a and b in hand.
+fn put_fall(out: &mut [u8], at: usize, a: Line, b: Line) -> usize
+    requires { ⌜ (at + 12 ≤ length (now out)) × (lineFits b ≡ true) ⌝ }
+    ensures { λ _. ⌜ now (out .exit) ≡ put (now (out .entry)) at (fell a b) ⌝ }
+    ensures { λ r. ⌜ (r ≡ at + length (fell a b)) × (r ≤ at + 12) ⌝ }
+{
+    if a.place == 5 {
+        return at;
+    }
+    if b.place == 5 {
+        return put_bad(out, at, b.whole + 1);
+    }
+    at
+}
+
+fn answer_of(player: Player) -> Answer
+    ensures { λ r. ⌜ r ≡ answerOf player ⌝ }
+{
+    let line = player.line;
+    if line.place == 5 {
+        return Answer::BadLine;
+    }
+    Answer::Played
+}
+
+// Whether an output of so many bytes has the room that n bytes of text ask for.
+pub(crate) fn has_room(n: usize, bytes: usize) -> bool
+    ensures { λ r. ⌜ r ≡ leb (room n) bytes ⌝ }
+{
+    if bytes < 19 {
+        return false;
+    }
+    n <= (bytes - 19) / 10
+}
+
+impl Player {
+    // Whether the header is out wherever a byte was taken.
+    fn head_fits(self) -> bool
+        ensures { λ r. ⌜ r ≡ headFits self ⌝ }
+    {
+        let line = self.line;
+        (self.headed <= 1) & ((self.headed == 1) | ((line.whole == 0) & (line.place == 0)))
+    }
+
+    // All the ranges of a player.
+    pub fn in_ranges(self) -> bool
+        ensures { λ r. ⌜ r ≡ playerFits self ⌝ }
+    {
+        let line = self.line;
+        let device = self.device;
+        self.head_fits() & line.fits() & device.in_ranges()
+    }
+
+    pub(crate) fn refused(self, refusal: Refusal) -> Fed
+        ensures { λ r. ⌜ r ≡ refusedTo refusal self ⌝ }
+    {
+        Fed {
+            answer: Answer::Refused(refusal),
+            player: self,
+            written: 0,
+        }
+    }
+}
+
+// A chunk that is taken.
+pub(crate) fn take_chunk(player: Player, memory: &mut [u8], text: &[u8], out: &mut [u8]) -> Fed
+    requires { ⌜ (length (now memory) ≡ 65536) × (playerFits player ≡ true) × (room (length (now text)) ≤ length (now out)) ⌝ }
+    ensures { λ r. ⌜ r ≡ takenBy player (now (memory .entry)) (now (text .entry)) ⌝ }
+    ensures { λ _. ⌜ now (memory .exit) ≡ chunkBench player (now (memory .entry)) (now (text .entry)) .memory ⌝ }
+    ensures { λ _. ⌜ now (out .exit) ≡ put (now (out .entry)) 0 (chunkOutput player (now (memory .entry)) (now (text .entry))) ⌝ }
+    ensures { λ r. ⌜ r .written ≤ length (now (out .entry)) ⌝ }
+{
+    let line = player.line;
+    let device = player.device;
+    let at = put_head(player.headed, out);
+    let placed = pieces(line, device, memory, text, out, at);
+    let hand = placed.line;
+    let next = placed.device;
+    let end = put_fall(out, placed.at, line, hand);
+    let after = Player {
+        headed: 1,
+        line: hand,
+        device: next,
+    };
+    Fed {
+        answer: answer_of(after),
+        player: after,
+        written: end,
+    }
+}
+
+// The end of a text that is taken.
+pub(crate) fn take_end(player: Player, out: &mut [u8]) -> Fed
+    requires { ⌜ (playerFits player ≡ true) × (19 ≤ length (now out)) ⌝ }
+    ensures { λ r. ⌜ r ≡ endedBy player ⌝ }
+    ensures { λ _. ⌜ now (out .exit) ≡ put (now (out .entry)) 0 (endOutput player) ⌝ }
+    ensures { λ r. ⌜ r .written ≤ length (now (out .entry)) ⌝ }
+{
+    let line = player.line;
+    let device = player.device;
+    let hand = line.ended();
+    let at = put_head(player.headed, out);
+    let end = put_fall(out, at, line, hand);
+    let after = Player {
+        headed: 1,
+        line: hand,
+        device: device,
+    };
+    Fed {
+        answer: answer_of(after),
+        player: after,
+        written: end,
+    }
+}

@@ -1,0 +1,89 @@
+// The public calls: what a text starts from, a chunk of it, and its end.
+ghost use mathlib.Core.Path.{_≡_};
+ghost use Prim.Native.Nat.{_≤_};
+ghost use lib.ListN.{length};
+ghost use Rattle.trace.specs.Texts.{deliveredMemory};
+ghost use Rattle.trace.specs.Chunks.{startPlayer, answerNumber, feedAnswer, feedNumber, feedMemory, feedOutput, endAnswer, endNumber, endWritten};
+use crate::Answer;
+use crate::Fed;
+use crate::Line;
+use crate::Player;
+use crate::chunks::has_room;
+use crate::chunks::take_chunk;
+use crate::chunks::take_end;
+use chip::Core;
+use chip::Refusal;
+use pins::Device;
+
+// Before the first byte of a text.
+pub fn start() -> Player
+    ensures { λ r. ⌜ r ≡ startPlayer ⌝ }
+{
+    Player {
+        headed: 0,
+        line: Line {
+            whole: 0,
+            place: 0,
+            kind: 0,
+            value: 0,
+        },
+        device: Device::resting(Core::delivered()),
+    }
+}
+
+// The memory as delivered: every byte FFh.
+pub fn memory() -> [u8; 65536]
+    ensures { λ r. ⌜ r ≡ deliveredMemory ⌝ }
+{
+    [255; 65536]
+}
+
+impl Answer {
+    // Document 01's number: 0, 11 from the bad line on, 1, 2 and 5.
+    pub fn number(self) -> u32
+        ensures { λ r. ⌜ r ≡ answerNumber self ⌝ }
+    {
+        match self {
+            Answer::Played => 0,
+            Answer::BadLine => 11,
+            Answer::Refused(refusal) => refusal.number(),
+        }
+    }
+}
+
+// A chunk of a text. Refusals 1 for a memory of another length, 2 for a player outside its ranges, 5 for an output with fewer than 19 bytes and 10 for
+// each byte of the chunk, all with everything as it was. Else all of the chunk is taken, and the output begins with the `written` bytes that it puts out.
+pub fn feed(player: Player, memory: &mut [u8], text: &[u8], out: &mut [u8]) -> Fed
+    ensures { λ r. ⌜ r ≡ feedAnswer player (now (memory .entry)) (now (text .entry)) (now (out .entry)) ⌝ }
+    ensures { λ r. ⌜ answerNumber (r .answer) ≡ feedNumber player (now (memory .entry)) (now (text .entry)) (now (out .entry)) ⌝ }
+    ensures { λ _. ⌜ now (memory .exit) ≡ feedMemory player (now (memory .entry)) (now (text .entry)) (now (out .entry)) ⌝ }
+    ensures { λ _. ⌜ now (out .exit) ≡ feedOutput player (now (memory .entry)) (now (text .entry)) (now (out .entry)) ⌝ }
+    ensures { λ r. ⌜ r .written ≤ length (now (out .entry)) ⌝ }
+{
+    if memory.len() == 65536 {
+        if player.in_ranges() {
+            if has_room(text.len(), out.len()) {
+                return take_chunk(player, memory, text, out);
+            }
+            return player.refused(Refusal::OutputLength);
+        }
+        return player.refused(Refusal::RecordRange);
+    }
+    player.refused(Refusal::MemoryLength)
+}
+
+// The end of a text: a line in hand has no LF, so it is bad. Refusals 2, and 5 for an output of fewer than 19 bytes, with everything as it was.
+pub fn finish(player: Player, out: &mut [u8]) -> Fed
+    ensures { λ r. ⌜ r ≡ endAnswer player (now (out .entry)) ⌝ }
+    ensures { λ r. ⌜ answerNumber (r .answer) ≡ endNumber player (now (out .entry)) ⌝ }
+    ensures { λ _. ⌜ now (out .exit) ≡ endWritten player (now (out .entry)) ⌝ }
+    ensures { λ r. ⌜ r .written ≤ length (now (out .entry)) ⌝ }
+{
+    if player.in_ranges() {
+        if has_room(0, out.len()) {
+            return take_end(player, out);
+        }
+        return player.refused(Refusal::OutputLength);
+    }
+    player.refused(Refusal::RecordRange)
+}

@@ -1,0 +1,68 @@
+use mathlib.Core.Path.{_≡_}
+use native.Mathlib.Omega.{arith}
+use lib.ListN.{length}
+use Prim.Native.Nat.{_≤_, _-_}
+use borrow.Author.Needs.{needs}
+use Rattle.traces.proofs.in_chunks.Statement.{statement}
+use Rattle.traces.proofs.in_chunks.Tie as tie
+
+abbrev Inv-loop : tie.InvT-loop
+Inv-loop text size memory₀ out₀ player₀ i₀ memory out player i = (i ≤ length text) × (length memory ≡ length memory₀) × (length out ≡ length out₀)
+
+abbrev μ-loop : tie.MeasureT-loop
+μ-loop text size memory₀ out₀ player₀ i₀ memory out player i = length text - i
+
+start-requires : tie.Need-start-requires Inv-loop μ-loop
+start-requires c κs = tt
+
+loop-holds : tie.Need-loop-holds Inv-loop μ-loop
+loop-holds c = omega arith
+
+chunk-end-requires : tie.Need-chunk-end-requires Inv-loop μ-loop
+chunk-end-requires c κs = omega arith
+
+sub-fed : tie.Need-sub-fed Inv-loop μ-loop
+sub-fed c = omega arith
+
+part-fed-start : tie.Need-part-fed-start Inv-loop μ-loop
+part-fed-start c = search needs
+
+part-fed-end : tie.Need-part-fed-end Inv-loop μ-loop
+part-fed-end c = search needs
+
+fed-requires : tie.Need-fed-requires Inv-loop μ-loop
+fed-requires c κs = tt
+
+loop-less : tie.Need-loop-less Inv-loop μ-loop
+loop-less c = omega arith
+
+loop-again : tie.Need-loop-again Inv-loop μ-loop
+loop-again c = omega arith
+
+same-length : tie.Need-same-length Inv-loop μ-loop
+same-length c = omega arith
+
+same-length-2 : tie.Need-same-length-2 Inv-loop μ-loop
+same-length-2 c = omega arith
+
+returns : tie.Need-returns Inv-loop μ-loop
+returns c = tt
+
+pub in-chunks-spec : {M : Type 1} → statement M
+in-chunks-spec =
+    tie.close
+    (tie.spec
+    Inv-loop
+    μ-loop
+    start-requires
+    loop-holds
+    chunk-end-requires
+    sub-fed
+    part-fed-start
+    part-fed-end
+    fed-requires
+    loop-less
+    loop-again
+    same-length
+    same-length-2
+    returns)
