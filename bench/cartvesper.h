@@ -138,8 +138,9 @@ cartvesper_device_answer cartvesper_device_play(cartvesper_device device, uint8_
  * 1 to 5,001. Refusals 1, 2, 7, 8 in that order, also with no data; pages and frames are 0 there. The address is any 64-bit number: no sum wraps, and
  * 65,536 is taken with no data. Else the number is
  *   0 all pages done: the bytes are in the memory (no data: done at once, 0 frames, the clock not moved)
- *   9 a wait used its limit and WIP is still 1: the record and the memory are those after the last poll, so the page in hand still waits in the
- *     record (its cycle goes on with the next clock reading) and is not counted; pages counts those before it, and they are stored
+ *   9 a wait used its limit and WIP is still 1: the record and the memory are those after the last poll. The cycle goes on with the next clock
+ *     reading; what it is to store (the page in hand, or, in the first wait, what waited before) still waits in the record and is not counted;
+ *     pages counts those done before it, and they are stored
  *  10 a page was not taken, because it is protected: the pages before it are stored, nothing of it is; WRDI was sent and counted, so WEL is 0 */
 cartvesper_driver_answer cartvesper_write(cartvesper_core core, uint8_t *memory, size_t size, uint64_t address, const uint8_t *bytes, size_t length,
                                           uint32_t interval, uint32_t limit);

@@ -43,7 +43,7 @@ if cc $sanitizers -o "$out/empty" "$out/empty.c" 2>"$out/sanitizers.log" && "$ou
     "$out/differ-sanitized" 3 $((rounds / 100 + 1))
     echo "bench/check.sh: cc $sanitizers: nothing found in check.c, example.c, differ.c and plain.c"
 else
-    missing="$missing cc-with-$sanitizers"
+    missing="$missing sanitizers"
     echo "bench/check.sh: missing: cc $sanitizers does not build or run a program here: the C side was not watched" >&2
 fi
 
