@@ -1,3 +1,4 @@
+-- Demand 3's proof, that it is not empty, and the starred cases.
 pub mod Facts
 pub mod Ticks
 pub mod Waves

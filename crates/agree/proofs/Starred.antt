@@ -1,27 +1,38 @@
--- The starred cases, computed.
+-- The starred cases, computed, or gathered from the crates below.
 use Prim.Native.Nat.{ℕ}
 use mathlib.Core.List.{List, [], _∷_}
-use mathlib.Core.Path.{_≡_, refl}
-use lib.ListN.{replicate}
-use Rattle.laws.specs.Pick.{pick}
+use mathlib.Core.Path.{_≡_, refl, ap, _∙_}
+use lib.ListN.{length, getD, replicate}
+use Rattle.laws.specs.Pick.{pick, at-yes}
+use Rattle.laws.specs.Each.{each}
 use Rattle.laws.specs.Table.{from, table}
 use Rattle.chip.specs.Part.{m95512}
 use Rattle.chip.specs.Latches.{zeros, stored}
 use Rattle.chip.specs.Instructions.{decode}
 use Rattle.chip.specs.Verdicts.{verdict}
+use Rattle.chip.specs.Ranges.{inRanges}
+use Rattle.chip.specs.Refusals.{isDone}
 use Rattle.chip.specs.Time.{timed, timedMemory}
 use Rattle.chip.specs.Power.{delivered}
+use Rattle.chip.specs.declared.Outcome.the-variants.{Done}
 use Rattle.frames.specs.Bytes.{latchedFrom}
+use Rattle.frames.specs.Answers.{frameOutcome, framedOutput}
 use Rattle.frames.proofs.Cases.{case-f}
 use Rattle.split.proofs.Cases.{case-g-parts, case-g-lengths}
-use Rattle.driver.specs.Sequence.{sent, more, pageWait, pageActs}
 use Rattle.driver.proofs.Cases.{case-h}
 use Rattle.chip.proofs.Cases.{case-i}
-use Rattle.agree.specs.Starred.{fresh, Starred}
+use Rattle.agree.specs.Starred.{Starred}
 
-polls-700 : sent (pageActs m95512 700 5001 128 (replicate 128 0x55) (fresh (delivered m95512))) ≡ 10
-unfolding pageActs pageWait more pick decode verdict timed zeros latchedFrom
-polls-700 = refl
+-- READ at FFFFh is not refused
+read-taken : (m : List ℕ) → length m ≡ 65536 → frameOutcome m95512 (delivered m95512) (length m) 5 40 5 ≡ Done
+unfolding pick inRanges each zeros
+read-taken m e = rw e refl
+
+read-rolls : (m : List ℕ) → length m ≡ 65536
+    → framedOutput m95512 (delivered m95512) m (0x03 ∷ 0xff ∷ 0xff ∷ 0x00 ∷ 0x00 ∷ []) 40 (replicate 5 0x00)
+    ≡ 0xff ∷ 0xff ∷ 0xff ∷ getD m 0xffff 0 ∷ getD m 0x0000 0 ∷ []
+unfolding framedOutput
+read-rolls m e = at-yes _ _ (ap isDone (read-taken m e)) ∙ case-f m
 
 pub starred : Starred
 unfolding pick verdict decode latchedFrom zeros timed timedMemory stored table from
@@ -37,10 +48,11 @@ starred =
       e-idle = refl;
       e-wel = refl;
       e-cycle = refl;
-      f = case-f;
+      f = read-rolls;
       g-parts = case-g-parts;
       g-lengths = case-g-lengths;
       h-1000 = case-h (replicate 65536 0xff) .frames;
-      h-700 = polls-700;
+      h-pages = case-h (replicate 65536 0xff) .pages;
+      h-700 = case-h (replicate 65536 0xff) .frames-700;
       i = case-i;
     }

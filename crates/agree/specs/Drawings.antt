@@ -1,9 +1,9 @@
 -- Drawings of a list of frames, clock readings and levels of Write Protect as pin changes.
-use Prim.Native.Nat.{ℕ, _*_, _<_, _≤_}
-use mathlib.Core.Bool.{Bool, true, false, not, _&&_, Bool·beq}
+use Prim.Native.Nat.{ℕ, _<_, _≤_}
+use mathlib.Core.Bool.{Bool, true, false, not, Bool·beq}
 use mathlib.Core.List.{List, [], _∷_, _++_}
 use mathlib.Core.Path.{_≡_}
-use lib.Dec.{T, eqb}
+use lib.Dec.{T}
 use lib.ListN.{length, take, getD}
 use Rattle.chip.specs.Part.{Part}
 use Rattle.chip.specs.Status.{on, bitOf}

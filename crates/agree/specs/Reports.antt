@@ -4,7 +4,6 @@ use mathlib.Core.Bool.{Bool, true, false, not, _&&_, cond}
 use mathlib.Core.List.{List, [], _∷_, _++_}
 use mathlib.Core.Path.{_≡_}
 use lib.ListN.{length, replicate}
-use Rattle.laws.specs.Pick.{pick}
 use Rattle.chip.specs.Part.{Part}
 use Rattle.chip.specs.Status.{on}
 use Rattle.chip.specs.Time.{timed, timedMemory}

@@ -4,17 +4,17 @@ use Prim.Native.Nat.{ℕ, _+_, _*_}
 use mathlib.Core.Bool.{true, false}
 use mathlib.Core.List.{List, [], _∷_, _++_}
 use mathlib.Core.Path.{_≡_}
-use lib.ListN.{getD, replicate}
+use lib.ListN.{length, getD, replicate}
 use Rattle.laws.specs.Table.{table}
 use Rattle.chip.specs.Part.{m95512}
-use Rattle.chip.specs.Records.{running, status, idle}
+use Rattle.chip.specs.Records.{status, idle}
 use Rattle.chip.specs.Time.{elapsed}
 use Rattle.chip.specs.Power.{delivered}
 use Rattle.chip.specs.declared.Core.{Core}
-use Rattle.frames.specs.Shown.{output}
+use Rattle.frames.specs.Answers.{framedOutput}
 use Rattle.frames.specs.Play.{Act, frame, reading, Device, played}
 use Rattle.split.specs.Split.{splitParts, splitLength}
-use Rattle.driver.specs.Sequence.{wren, sent, pageActs, run}
+use Rattle.driver.specs.Sequence.{wren, sent, run}
 
 abbrev pub fresh : Core → Device
 fresh c = record { core = c; memory = replicate 65536 0xff }
@@ -71,14 +71,15 @@ pub record Starred : Type 0 where
   pub e-wel : status (after (wren ∷ []) guarded .core) ≡ 0x8e
   pub e-cycle : status (after (wren ∷ frame true (0x01 ∷ 0x8c ∷ []) 16 ∷ []) guarded .core) ≡ 0x8f
   -- f: READ at FFFFh for two bytes, of any memory
-  pub f : (m : List ℕ)
-      → output m95512 false (λ j. status (delivered m95512)) m (0x03 ∷ 0xff ∷ 0xff ∷ 0x00 ∷ 0x00 ∷ []) 40
+  pub f : (m : List ℕ) → length m ≡ m95512 .size
+      → framedOutput m95512 (delivered m95512) m (0x03 ∷ 0xff ∷ 0xff ∷ 0x00 ∷ 0x00 ∷ []) 40 (replicate 5 0x00)
       ≡ 0xff ∷ 0xff ∷ 0xff ∷ getD m 0xffff 0 ∷ getD m 0x0000 0 ∷ []
   -- g: four parts, of 28, 128, 128 and 16 bytes
   pub g-parts : splitParts 65536 128 100 300 0 ≡ 4
   pub g-lengths : table 4 (splitLength 65536 128 100 300) ≡ 28 ∷ 128 ∷ 128 ∷ 16 ∷ []
-  -- h: 29 frames at interval 1,000; at 700 a page has WREN, WRITE and 8 polls
+  -- h: 29 frames at interval 1,000; at 700, the first poll and for each of four pages WREN, WRITE and 8 polls
   pub h-1000 : sent (run m95512 1000 5001 100 run300 (fresh (delivered m95512)) .acts) ≡ 29
-  pub h-700 : sent (pageActs m95512 700 5001 128 (replicate 128 0x55) (fresh (delivered m95512))) ≡ 2 + 8
+  pub h-pages : run m95512 1000 5001 100 run300 (fresh (delivered m95512)) .pages ≡ 4
+  pub h-700 : sent (run m95512 700 5001 100 run300 (fresh (delivered m95512)) .acts) ≡ 1 + 4 * (2 + 8)
   -- i: 16 elapsed over the counter's wrap
   pub i : elapsed 4294967290 10 ≡ 16

@@ -1,12 +1,12 @@
 -- What each call for C answers, for every number that C may hand over.
 use Prim.Native.Nat.{ℕ}
-use mathlib.Core.Bool.{Bool, _&&_}
+use mathlib.Core.Bool.{_&&_}
 use mathlib.Core.List.{List}
 use lib.ListN.{length}
 use lib.Dec.{eqb, leb}
 use Rattle.laws.specs.Pick.{pick}
 use Rattle.chip.specs.Part.{Part}
-use Rattle.chip.specs.Status.{bit, on}
+use Rattle.chip.specs.Status.{on}
 use Rattle.chip.specs.Records.{status}
 use Rattle.chip.specs.Ranges.{inRanges}
 use Rattle.chip.specs.Protect.{questionNumber, questionValue}

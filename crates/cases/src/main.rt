@@ -64,7 +64,7 @@ fn time(what: &[u8], core: Core, reading: u32) {
     say(b"  cell 128", wide(memory[128]));
 }
 
-// A frame of up to eight bytes with W high: its number, the undriven count, the first three output bytes and the status that it leaves.
+// A frame of up to eight bytes with W high: its number, the undriven count, output bytes 1 and 3 (counted from 0; 0 where the frame has none) and the status that it leaves.
 fn send(what: &[u8], core: Core, bytes: &[u8], bits: usize) -> Core {
     let memory = io::large_buffer();
     let mut out = [0u8; 8];

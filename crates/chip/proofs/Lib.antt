@@ -1,3 +1,4 @@
+-- Theorems on the chip's rules, and the facts that the functions' proofs share.
 pub mod Bits
 pub mod Stores
 pub mod Readings

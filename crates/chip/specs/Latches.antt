@@ -1,5 +1,4 @@
--- A page write: latched bytes, and a mark on each addressed one. Latching, storing and laying one write over another all come to `laidAt`.
--- "Is cell i marked" is the one question asked of the marks.
+-- A page write: latched bytes, and a mark on each addressed one; what it lays over a page, its ranges, and storing it.
 use Prim.Native.Nat.{ℕ, _+_, _*_, _-_, _%_}
 use mathlib.Core.Bool.{Bool, _&&_, _||_}
 use mathlib.Core.List.{List}

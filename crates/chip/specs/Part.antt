@@ -1,4 +1,4 @@
--- The part's sizes. Every rule is read over them; no number of a part stands anywhere else.
+-- The part's sizes. The chip's rules and both models' are read over them.
 use Prim.Native.Nat.{ℕ, _/_}
 
 pub record Part : Type 0 where

@@ -1,15 +1,13 @@
 -- Power-up, and the device as delivered.
 use Prim.Native.Nat.{ℕ}
-use mathlib.Core.Bool.{Bool, true, false}
+use mathlib.Core.Bool.{Bool, false}
 use Rattle.laws.specs.Pick.{pick}
 use Rattle.chip.specs.Part.{Part}
 use Rattle.chip.specs.Records.{idle}
 use Rattle.chip.specs.Ranges.{cycleFits}
 use Rattle.chip.specs.declared.Core.{Core}
 use Rattle.chip.specs.declared.PoweredUp.{PoweredUp}
-use Rattle.chip.specs.declared.Refusal.{Refusal}
 use Rattle.chip.specs.declared.Refusal.the-variants.{CycleLength}
-use Rattle.chip.specs.declared.Outcome.{Outcome}
 use Rattle.chip.specs.declared.Outcome.the-variants.{Done, Refused}
 
 -- the record that the trace text starts from: status bits 0, the longest cycle, reading 0

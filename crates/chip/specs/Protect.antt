@@ -1,6 +1,6 @@
 -- Which addresses are protected (004, table 2). BP1 BP0 = 00: none; 01: the upper quarter; 10: the upper half; 11: everything.
-use Prim.Native.Nat.{ℕ, _+_, _*_, _/_}
-use mathlib.Core.Bool.{Bool, true, false}
+use Prim.Native.Nat.{ℕ, _*_, _/_}
+use mathlib.Core.Bool.{Bool}
 use lib.Dec.{leb, ltb}
 use Rattle.laws.specs.Pick.{pick}
 use Rattle.chip.specs.Part.{Part}
@@ -8,7 +8,6 @@ use Rattle.chip.specs.Status.{bit, on}
 use Rattle.chip.specs.Refusals.{refusalNumber}
 use Rattle.chip.specs.Ranges.{inRanges}
 use Rattle.chip.specs.declared.Core.{Core}
-use Rattle.chip.specs.declared.Refusal.{Refusal}
 use Rattle.chip.specs.declared.Refusal.the-variants.{RecordRange, AddressRange}
 use Rattle.chip.specs.declared.Protection.{Protection}
 use Rattle.chip.specs.declared.Protection.the-variants.{Open, Protected, Unanswered}
@@ -39,7 +38,7 @@ protectionValue Open = 0
 protectionValue Protected = 1
 protectionValue (Unanswered r) = 0
 
--- which they are
+-- the number and the value, by the input
 abbrev pub questionNumber : Part → Core → ℕ → ℕ
 questionNumber P c a = pick (inRanges P c) (pick (ltb a (P .size)) 0 7) 2
 

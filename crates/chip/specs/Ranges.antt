@@ -1,6 +1,6 @@
 -- The ranges and ties that document 01 lists for the core record, and no more. A record outside them gets refusal 2.
 use Prim.Native.Nat.{ℕ}
-use mathlib.Core.Bool.{Bool, true, false, _&&_, _||_}
+use mathlib.Core.Bool.{Bool, _&&_, _||_}
 use lib.Dec.{leb, ltb, eqb}
 use Rattle.laws.specs.Pick.{pick}
 use Rattle.chip.specs.Part.{Part, pages}

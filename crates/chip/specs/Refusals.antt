@@ -1,4 +1,4 @@
--- Document 01's "Numbers given back": the number of each refusal that changes nothing, and of each answer that has no other value.
+-- Document 01's "Numbers given back": the number of each refusal, 1 to 8, and of each answer that has no other value.
 use Prim.Native.Nat.{ℕ}
 use mathlib.Core.Bool.{Bool, true, false}
 use Rattle.chip.specs.declared.Refusal.{Refusal}

@@ -12,7 +12,6 @@ use Rattle.chip.specs.Ranges.{inRanges}
 use Rattle.chip.specs.Refusals.{isDone}
 use Rattle.chip.specs.declared.Core.{Core}
 use Rattle.chip.specs.declared.Timed.{Timed}
-use Rattle.chip.specs.declared.Refusal.{Refusal}
 use Rattle.chip.specs.declared.Refusal.the-variants.{MemoryLength, RecordRange}
 use Rattle.chip.specs.declared.Outcome.{Outcome}
 use Rattle.chip.specs.declared.Outcome.the-variants.{Done, Refused}

@@ -63,7 +63,7 @@ pub struct Core {
     pub waits: Waiting,
 }
 
-// The refusals that change nothing; specs/Refusals.antt has their numbers.
+// The refusals 1 to 8, in their order; specs/Refusals.antt has their numbers.
 pub enum Refusal {
     MemoryLength,
     RecordRange,

@@ -1,6 +1,5 @@
 // Which addresses are protected (004, table 2).
 ghost use mathlib.Core.Path.{_≡_};
-ghost use mathlib.Core.Bool.{Bool};
 ghost use Rattle.chip.specs.Part.{m95512};
 ghost use Rattle.chip.specs.Protect.{lowestProtected, protects, protection, protectionNumber, protectionValue, questionNumber, questionValue};
 use crate::Core;

@@ -1,7 +1,7 @@
 // The status byte, SRWD 0 0 0 BP1 BP0 WEL WIP, by shifts and masks.
 ghost use mathlib.Core.Path.{_≡_};
 ghost use Prim.Native.Nat.{_<_};
-ghost use Rattle.chip.specs.Status.{bit, statusByte, bitOf, writable};
+ghost use Rattle.chip.specs.Status.{statusByte, bitOf, writable};
 ghost use Rattle.chip.specs.Records.{running, status};
 use crate::Core;
 

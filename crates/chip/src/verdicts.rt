@@ -80,7 +80,7 @@ fn is_unknown(i: Instruction) -> bool
     }
 }
 
-// The first test that fails, in the table's order; fewer than eight bits are no instruction.
+// The first test that fails: cycle, WEL, count, protection, hold, unknown code. Fewer than eight bits are no instruction.
 pub fn judge(
     i: Instruction,
     bits: usize,

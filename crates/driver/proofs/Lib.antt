@@ -1,3 +1,4 @@
+-- The driver's theorems (Polls to Results, Cases, Ones), and before them the facts that the functions' proofs share.
 pub mod Playing
 pub mod Frames
 pub mod Ready

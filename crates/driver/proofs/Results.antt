@@ -254,9 +254,11 @@ module _ (i limit a : ℕ) (bytes : List ℕ) (d : Device) (g : Given i limit a 
             frames = λ idle. l .counts ∙ (let one = sym (r .frames-first) ∙ rests-idle idle .frames-first in omega (arith, one, t .1 .0, ap (λ (x : ℕ). whole-run .pages * (2 + roundedUp x i)) (r .cycle)));
           }
 
-  -- 9: no page done and none stored, and a cycle still runs; its wait made as many polls as its limit
+  -- 9: no page done and none stored, and a cycle still runs; its wait made as many polls as its limit. The memory is as it was, or, where a page's
+  -- wait ran out, as it is once a cycle that was already running has ended
   pub record TimedOut : Type 0 where
     pub pages : whole-run .pages ≡ 0
+    pub memory : (exit .memory ≡ d .memory) ⊎ (exit .memory ≡ onceEnded m95512 (d .core) (d .memory))
     pub left : 0 < exit .core .left
     pub frames : (sent (whole-run .acts) ≡ limit) ⊎ (sent (whole-run .acts) ≡ sent (firstWait m95512 i limit d) + (2 + limit))
 
@@ -264,13 +266,14 @@ module _ (i limit a : ℕ) (bytes : List ℕ) (d : Device) (g : Given i limit a 
   run-timed-out e = by first-ends
     where
       by : First → TimedOut
-      by (uses-limit l) = record { pages = l .pages; left = l .runs; frames = inl (l .frames) }
+      by (uses-limit l) = record { pages = l .pages; memory = inl (l .memory); left = l .runs; frames = inl (l .frames) }
       by (ends n r) =
           let l = run-leaves n r in
           let t = subst (λ (x : Ending). Tells m95512 i limit a (length bytes) (rested .core) x parts 0 (whole-run .pages) (l .frames) (exit .core)) e (l .tells) in
           let few = t .1 .1 .0 in
           record {
             pages = t .0;
+            memory = inr (l .memory ∙ ap (λ (k : ℕ). overwritten a (pieces 65536 128 a bytes k) (onceEnded m95512 (d .core) (d .memory))) (t .0) ∙ ap (λ (s : List ℕ). overwritten a s (onceEnded m95512 (d .core) (d .memory))) (pieces-none 65536 128 a bytes) ∙ overwritten-none a (onceEnded m95512 (d .core) (d .memory)));
             left = omega (arith, t .1 .1 .1);
             frames = inr (l .counts ∙ omega (arith, t .1 .0, r .frames-first));
           }

@@ -9,7 +9,6 @@ use Rattle.chip.specs.Part.{Part}
 use Rattle.chip.specs.Ranges.{inRanges}
 use Rattle.chip.specs.Refusals.{refusalNumber, isDone}
 use Rattle.chip.specs.declared.Core.{Core}
-use Rattle.chip.specs.declared.Refusal.{Refusal}
 use Rattle.chip.specs.declared.Refusal.the-variants.{MemoryLength, RecordRange, AddressRange, PollRange}
 use Rattle.chip.specs.declared.Outcome.{Outcome}
 use Rattle.chip.specs.declared.Outcome.the-variants as outcome

@@ -1,6 +1,6 @@
 -- The public frame call, for every input: the refusals in their order, the answer, the record and the output.
 use Prim.Native.Nat.{ℕ, _+_, _*_, _-_}
-use mathlib.Core.Bool.{Bool, true, false, _&&_}
+use mathlib.Core.Bool.{Bool, _&&_}
 use mathlib.Core.List.{List}
 use lib.ListN.{length}
 use lib.Dec.{eqb, leb}
@@ -10,7 +10,6 @@ use Rattle.chip.specs.Records.{running, status}
 use Rattle.chip.specs.Ranges.{inRanges}
 use Rattle.chip.specs.Refusals.{refusalNumber, isDone}
 use Rattle.chip.specs.declared.Core.{Core}
-use Rattle.chip.specs.declared.Refusal.{Refusal}
 use Rattle.chip.specs.declared.Refusal.the-variants.{MemoryLength, RecordRange, FrameLength, BitCount, OutputLength}
 use Rattle.chip.specs.declared.Outcome.{Outcome}
 use Rattle.chip.specs.declared.Outcome.the-variants.{Done, Refused}

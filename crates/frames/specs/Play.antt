@@ -1,6 +1,6 @@
 -- Any list of frames and clock readings, played over a record and a memory; and which cells its executed WRITEs address.
 use Prim.Native.Nat.{ℕ, _*_, _-_, _/_}
-use mathlib.Core.Bool.{Bool, true, false, _&&_, _||_}
+use mathlib.Core.Bool.{Bool, false, _&&_, _||_}
 use mathlib.Core.List.{List, [], _∷_}
 use Rattle.chip.specs.Part.{Part}
 use Rattle.chip.specs.Latches.{inPage, marked}

@@ -9,7 +9,7 @@ ghost use Rattle.laws.specs.Table.{table};
 ghost use Rattle.chip.specs.Part.{m95512};
 ghost use Rattle.frames.specs.Bytes.{instruction, address};
 ghost use Rattle.frames.specs.Answers.{bitsFit};
-ghost use Rattle.frames.specs.Shown.{byteOut, padded, paddedAt, output, undriven};
+ghost use Rattle.frames.specs.Shown.{byteOut, padded, output, undriven};
 use crate::fields::address_of;
 use chip::Instruction;
 

@@ -1,6 +1,6 @@
 -- The public calls, for every input: the refusals in their order, the device that follows and the memory.
 use Prim.Native.Nat.{ℕ}
-use mathlib.Core.Bool.{Bool, true, false}
+use mathlib.Core.Bool.{Bool}
 use mathlib.Core.List.{List, [], _∷_}
 use lib.ListN.{length}
 use lib.Dec.{eqb}
@@ -9,14 +9,10 @@ use Rattle.chip.specs.Part.{Part}
 use Rattle.chip.specs.Records.{status}
 use Rattle.chip.specs.Power.{poweredUp}
 use Rattle.chip.specs.Refusals.{refusalNumber, isDone}
-use Rattle.chip.specs.declared.Core.{Core}
-use Rattle.chip.specs.declared.Refusal.{Refusal}
 use Rattle.chip.specs.declared.Refusal.the-variants.{MemoryLength, RecordRange, OutputLength}
 use Rattle.chip.specs.declared.Outcome.{Outcome}
 use Rattle.chip.specs.declared.Outcome.the-variants.{Done, Refused}
 use Rattle.pins.specs.declared.Device.{Device}
-use Rattle.pins.specs.declared.Event.{Event}
-use Rattle.pins.specs.declared.Level.{Level}
 use Rattle.pins.specs.declared.Stepped.{Stepped}
 use Rattle.pins.specs.declared.QAnswer.{QAnswer}
 use Rattle.pins.specs.declared.QAnswer.the-variants.{Shows, Unanswered}

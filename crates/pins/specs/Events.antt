@@ -1,8 +1,8 @@
 -- The events: a device takes one and hands back the device that follows. Setting a pin to the level it has changes nothing.
 use Prim.Native.Nat.{ℕ, _+_, _*_, _/_, _%_, _^_}
-use mathlib.Core.Bool.{Bool, true, false, not, _&&_}
-use mathlib.Core.List.{List, [], _∷_}
-use lib.Dec.{eqb, leb}
+use mathlib.Core.Bool.{Bool, false, not, _&&_}
+use mathlib.Core.List.{List}
+use lib.Dec.{eqb}
 use Rattle.laws.specs.Pick.{pick}
 use Rattle.chip.specs.Part.{Part}
 use Rattle.chip.specs.Status.{bit, on}

@@ -1,6 +1,6 @@
 -- An unheld falling edge moves Q to the next data bit; and what Q shows.
 use Prim.Native.Nat.{ℕ, _+_, _-_, _%_}
-use mathlib.Core.Bool.{Bool, true, false, not, _&&_}
+use mathlib.Core.Bool.{Bool, false, not, _&&_}
 use mathlib.Core.List.{List}
 use lib.ListN.{getD}
 use lib.Dec.{eqb, leb, ltb}
@@ -16,7 +16,7 @@ use Rattle.pins.specs.declared.Frame.{Frame}
 use Rattle.pins.specs.declared.Device.{Device}
 use Rattle.pins.specs.declared.Level.{Level}
 use Rattle.pins.specs.declared.Level.the-variants.{Zero, One, Z}
-use Rattle.pins.specs.Devices.{withOut, withAddress, counting}
+use Rattle.pins.specs.Devices.{withOut, withAddress}
 
 -- data output: RDSR after its code; READ after its address, if no cycle ran at the eighth edge
 abbrev pub outputs : Part → Instruction → ℕ → Bool → Bool

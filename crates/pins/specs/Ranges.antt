@@ -1,6 +1,6 @@
 -- The ranges and ties that document 01 lists for the device, and no more. A record outside them gets refusal 2.
 use Prim.Native.Nat.{ℕ, _+_, _-_, _%_, _^_}
-use mathlib.Core.Bool.{Bool, true, false, not, _&&_, _||_}
+use mathlib.Core.Bool.{Bool, false, not, _&&_, _||_}
 use lib.Dec.{eqb, leb, ltb}
 use Rattle.laws.specs.Pick.{pick}
 use Rattle.chip.specs.Part.{Part}
@@ -78,7 +78,7 @@ fieldsFit P i f =
 abbrev pub frameFits : Part → Frame → Bool
 frameFits P f = countsFit P f && codeFits f && fieldsFit P (decode (f .code)) f
 
--- not selected means an empty frame part
+-- not selected means an empty frame part: before its first whole byte a frame's code is 00h, which is no instruction, so every other field is 0
 abbrev pub emptyFits : Device → Bool
 emptyFits x = selected x || eqb (x .frame .taken) 0 && eqb (x .frame .bits) 0
 

@@ -1,6 +1,6 @@
 // The events, with no refusal: each hands back the device that follows.
 ghost use mathlib.Core.Path.{_≡_};
-ghost use mathlib.Core.Bool.{not, _&&_};
+ghost use mathlib.Core.Bool.{not};
 ghost use Rattle.chip.specs.Part.{m95512};
 ghost use Rattle.chip.specs.Status.{on};
 ghost use Rattle.chip.specs.Time.{timedMemory};

@@ -1,8 +1,6 @@
 // An unheld falling edge moves Q to the next data bit; and what Q shows.
 ghost use mathlib.Core.Path.{_≡_};
-ghost use mathlib.Core.Bool.{not, _&&_};
 ghost use Prim.Native.Nat.{_+_, _-_, _%_, _<_};
-ghost use lib.Dec.{leb};
 ghost use lib.ListN.{getD};
 ghost use Rattle.chip.specs.Part.{m95512};
 ghost use Rattle.chip.specs.Status.{bitOf};

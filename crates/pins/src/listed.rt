@@ -2,8 +2,7 @@
 ghost use mathlib.Core.Path.{_≡_};
 ghost use lib.ListN.{length};
 ghost use Rattle.chip.specs.Part.{m95512};
-ghost use Rattle.chip.specs.Refusals.{isDone, number};
-ghost use Rattle.laws.specs.Pick.{pick};
+ghost use Rattle.chip.specs.Refusals.{number};
 ghost use Rattle.pins.specs.Answers.{answer, answerMemory, playOutcome, playNumber, played, playedQ};
 use crate::Device;
 use crate::Stepped;

@@ -1,8 +1,8 @@
 // Is a device inside its ranges. Each part of the test has a definition of its own.
 ghost use mathlib.Core.Path.{_≡_};
-ghost use mathlib.Core.Bool.{not, _&&_, _||_};
+ghost use mathlib.Core.Bool.{_&&_};
 ghost use Prim.Native.Nat.{_-_, _%_, _^_, _<_};
-ghost use lib.Dec.{eqb, leb, ltb};
+ghost use lib.Dec.{eqb, ltb};
 ghost use Rattle.chip.specs.Part.{m95512};
 ghost use Rattle.chip.specs.Instructions.{decode};
 ghost use Rattle.pins.specs.Ranges.{pinsFit, heldFits, partFits, countsFit, codeFits, addressFits, valued, latches, outFits, fieldsFit, frameFits, emptyFits, ranFits, deviceFits};

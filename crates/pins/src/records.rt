@@ -1,10 +1,10 @@
 // The device record, made of another.
 ghost use mathlib.Core.Path.{_≡_};
-ghost use mathlib.Core.Bool.{not, _&&_};
+ghost use mathlib.Core.Bool.{not};
 ghost use Rattle.chip.specs.Part.{m95512};
 ghost use Prim.Native.Nat.{_+_, min};
-ghost use Rattle.chip.specs.Status.{bit, on};
-ghost use Rattle.pins.specs.Devices.{restingPins, noFrame, resting, withByte, withCode, withValue, withOut, withAddress, withLatch, withHeld, frontOf, whole};
+ghost use Rattle.chip.specs.Status.{bit};
+ghost use Rattle.pins.specs.Devices.{noFrame, resting, withByte, withCode, withValue, withOut, withAddress, withLatch, withHeld, frontOf, whole};
 use crate::Device;
 use crate::Frame;
 use crate::Front;

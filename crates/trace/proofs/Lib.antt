@@ -1,3 +1,4 @@
+-- Theorems on texts, and the facts that the functions' proofs share.
 pub mod Cases
 pub mod Hand
 pub mod Runs
