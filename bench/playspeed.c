@@ -1,6 +1,6 @@
 /* playspeed PLAY PLAIN FOLDER [PREFIX..]: makes two traces of a million lines in FOLDER, READ frames and WRITE frames of 32 bytes, sees that both players
  * put out the same, then runs them alternately with their output thrown away and prints the least processor time of each and the ratio plain/play
- * (1.00 is as fast as plain C). PREFIX is what stands before a program's name (an emulator and its words). */
+ * (1.00 is as fast as plain C); and, once, the time of a script that only numbers the lines (numbered.awk, in the folder it is run in). PREFIX is what stands before a program's name (an emulator and its words). */
 #define _DEFAULT_SOURCE
 #include <fcntl.h>
 #include <stdint.h>
@@ -131,8 +131,14 @@ int main(int count, char **words)
             if (t < plain)
                 plain = t;
         }
+        char *awk[] = {"awk", "-f", 0};
         printf("a million lines of %s frames\tplay %.1f ns a line\tplain C %.1f ns a line\tratio %.2f\n", writes ? "WRITE" : "READ", play * 1e9 / LINES, plain * 1e9 / LINES,
                plain / play);
+        if (system("command -v awk >/dev/null 2>&1") == 0) {
+            double script = run(awk, "numbered.awk", in, "/dev/null");
+            printf("\ta script that only numbers them\t%.1f ns a line\tplay is %.1f times as fast\n", script * 1e9 / LINES, script / play);
+        } else
+            printf("\tno awk here to compare with\n");
     }
     return 0;
 }
