@@ -1,0 +1,131 @@
+-- An answer crosses to C as its number and its values, and nothing of it is lost: from these it is put together again. Records cross as they are.
+use mathlib.Core.Path.{_≡_, refl, ap, _∙_}
+use mathlib.Core.Bool.{false}
+use Prim.Native.Nat.{ℕ, _≤_}
+use native.Mathlib.Omega.{arith}
+use lib.Dec.{eqb}
+use borrow.Author.Tests.{ne-eqb}
+use Rattle.laws.specs.Pick.{pick, at-yes, at-no}
+use Rattle.chip.specs.Refusals.{refusalNumber, number}
+use Rattle.chip.specs.Protect.{protectionNumber, protectionValue}
+use Rattle.chip.specs.declared.Refusal.{Refusal}
+use Rattle.chip.specs.declared.Refusal.the-variants.{MemoryLength, RecordRange, FrameLength, BitCount, OutputLength, CycleLength, AddressRange, PollRange}
+use Rattle.chip.specs.declared.Outcome.{Outcome}
+use Rattle.chip.specs.declared.Outcome.the-variants as outcome
+use Rattle.chip.specs.declared.Protection.{Protection}
+use Rattle.chip.specs.declared.Protection.the-variants as protection
+use Rattle.frames.specs.Answers as frames
+use Rattle.frames.specs.declared.Answer as frame-answer
+use Rattle.frames.specs.declared.Answer.the-variants as frame
+use Rattle.pins.specs.Answers.{qNumber, qValue, statusNumber, statusValue}
+use Rattle.pins.specs.declared.Level.{Level}
+use Rattle.pins.specs.declared.Level.the-variants.{Zero, One, Z}
+use Rattle.pins.specs.declared.QAnswer.{QAnswer}
+use Rattle.pins.specs.declared.QAnswer.the-variants as q
+use Rattle.pins.specs.declared.StatusAnswer.{StatusAnswer}
+use Rattle.pins.specs.declared.StatusAnswer.the-variants as status
+use Rattle.driver.specs.Answers as driver
+use Rattle.driver.specs.declared.Answer as driver-answer
+use Rattle.driver.specs.declared.Answer.the-variants as driven
+
+-- ---- a number back to its refusal
+
+abbrev pub refusalOf : ℕ → Refusal
+refusalOf n =
+    pick (eqb n 1) MemoryLength
+    (pick (eqb n 2) RecordRange
+    (pick (eqb n 3) FrameLength
+    (pick (eqb n 4) BitCount (pick (eqb n 5) OutputLength (pick (eqb n 6) CycleLength (pick (eqb n 7) AddressRange PollRange))))))
+
+pub refusal-kept : (r : Refusal) → refusalOf (refusalNumber r) ≡ r
+unfolding pick
+refusal-kept MemoryLength = refl
+refusal-kept RecordRange = refl
+refusal-kept FrameLength = refl
+refusal-kept BitCount = refl
+refusal-kept OutputLength = refl
+refusal-kept CycleLength = refl
+refusal-kept AddressRange = refl
+refusal-kept PollRange = refl
+
+refusal-range : (r : Refusal) → (1 ≤ refusalNumber r) × (refusalNumber r ≤ 8)
+refusal-range MemoryLength = (omega arith, omega arith)
+refusal-range RecordRange = (omega arith, omega arith)
+refusal-range FrameLength = (omega arith, omega arith)
+refusal-range BitCount = (omega arith, omega arith)
+refusal-range OutputLength = (omega arith, omega arith)
+refusal-range CycleLength = (omega arith, omega arith)
+refusal-range AddressRange = (omega arith, omega arith)
+refusal-range PollRange = (omega arith, omega arith)
+
+-- a refusal is told from what is done (0) and from the endings of a run (9 and 10)
+not-done : (r : Refusal) → eqb (refusalNumber r) 0 ≡ false
+not-done r =
+    let other : refusalNumber r ≡ 0 → ⊥ = λ e. omega (arith, refusal-range r .0) in
+    ne-eqb _ _ other
+
+not-late : (r : Refusal) → eqb (refusalNumber r) 9 ≡ false
+not-late r =
+    let other : refusalNumber r ≡ 9 → ⊥ = λ e. omega (arith, refusal-range r .1) in
+    ne-eqb _ _ other
+
+not-untaken : (r : Refusal) → eqb (refusalNumber r) 10 ≡ false
+not-untaken r =
+    let other : refusalNumber r ≡ 10 → ⊥ = λ e. omega (arith, refusal-range r .1) in
+    ne-eqb _ _ other
+
+-- ---- each kind of answer, from its number and its values
+
+abbrev pub outcomeOf : ℕ → Outcome
+outcomeOf n = pick (eqb n 0) outcome.Done (outcome.Refused (refusalOf n))
+
+pub outcome-kept : (o : Outcome) → outcomeOf (number o) ≡ o
+outcome-kept outcome.Done = at-yes _ _ refl
+outcome-kept (outcome.Refused r) = at-no _ _ (not-done r) ∙ ap outcome.Refused (refusal-kept r)
+
+abbrev pub protectionOf : ℕ → ℕ → Protection
+protectionOf n v = pick (eqb n 0) (pick (eqb v 1) protection.Protected protection.Open) (protection.Unanswered (refusalOf n))
+
+pub protection-kept : (x : Protection) → protectionOf (protectionNumber x) (protectionValue x) ≡ x
+protection-kept protection.Open = at-yes _ _ refl ∙ at-no _ _ refl
+protection-kept protection.Protected = at-yes _ _ refl ∙ at-yes _ _ refl
+protection-kept (protection.Unanswered r) = at-no _ _ (not-done r) ∙ ap protection.Unanswered (refusal-kept r)
+
+abbrev pub frameOf : ℕ → ℕ → frame-answer.Answer
+frameOf n u = pick (eqb n 0) (frame.Shown u) (frame.Unshown (refusalOf n))
+
+pub frame-kept : (x : frame-answer.Answer) → frameOf (frames.answerNumber x) (frames.answerUndriven x) ≡ x
+frame-kept (frame.Shown u) = at-yes _ _ refl
+frame-kept (frame.Unshown r) = at-no _ _ (not-done r) ∙ ap frame.Unshown (refusal-kept r)
+
+abbrev pub levelOf : ℕ → Level
+levelOf v = pick (eqb v 0) Zero (pick (eqb v 1) One Z)
+
+abbrev pub qOf : ℕ → ℕ → QAnswer
+qOf n v = pick (eqb n 0) (q.Shows (levelOf v)) (q.Unanswered (refusalOf n))
+
+pub q-kept : (x : QAnswer) → qOf (qNumber x) (qValue x) ≡ x
+unfolding pick
+q-kept (q.Shows Zero) = refl
+q-kept (q.Shows One) = refl
+q-kept (q.Shows Z) = refl
+q-kept (q.Unanswered r) = at-no _ _ (not-done r) ∙ ap q.Unanswered (refusal-kept r)
+
+abbrev pub statusOf : ℕ → ℕ → StatusAnswer
+statusOf n v = pick (eqb n 0) (status.Byte v) (status.Unanswered (refusalOf n))
+
+pub status-kept : (x : StatusAnswer) → statusOf (statusNumber x) (statusValue x) ≡ x
+status-kept (status.Byte v) = at-yes _ _ refl
+status-kept (status.Unanswered r) = at-no _ _ (not-done r) ∙ ap status.Unanswered (refusal-kept r)
+
+abbrev pub runOf : ℕ → ℕ → ℕ → driver-answer.Answer
+runOf n pages frames =
+    pick (eqb n 0) (driven.Done (record { pages = pages; frames = frames }))
+    (pick (eqb n 9) (driven.TimedOut (record { pages = pages; frames = frames }))
+    (pick (eqb n 10) (driven.NotTaken (record { pages = pages; frames = frames })) (driven.Refused (refusalOf n))))
+
+pub run-kept : (x : driver-answer.Answer) → runOf (driver.answerNumber x) (driver.answerPages x) (driver.answerFrames x) ≡ x
+run-kept (driven.Done s) = at-yes _ _ refl
+run-kept (driven.TimedOut s) = at-no _ _ refl ∙ at-yes _ _ refl
+run-kept (driven.NotTaken s) = at-no _ _ refl ∙ at-no _ _ refl ∙ at-yes _ _ refl
+run-kept (driven.Refused r) = at-no _ _ (not-done r) ∙ at-no _ _ (not-late r) ∙ at-no _ _ (not-untaken r) ∙ ap driven.Refused (refusal-kept r)
