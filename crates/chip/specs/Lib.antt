@@ -9,6 +9,7 @@ pub mod Records
 pub mod Ranges
 pub mod Verdicts
 pub mod Effects
+pub mod Output
 pub mod Time
 pub mod Power
 pub mod Cells

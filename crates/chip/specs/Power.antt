@@ -1,6 +1,8 @@
 -- Power-up, and the device as delivered.
 use Prim.Native.Nat.{ℕ}
 use mathlib.Core.Bool.{Bool, false}
+use mathlib.Core.List.{List}
+use lib.ListN.{replicate}
 use Rattle.laws.specs.Pick.{pick}
 use Rattle.chip.specs.Part.{Part}
 use Rattle.chip.specs.Records.{idle}
@@ -13,6 +15,10 @@ use Rattle.chip.specs.declared.Outcome.the-variants.{Done, Refused}
 -- the record that the trace text starts from: status bits 0, the longest cycle, reading 0
 abbrev pub delivered : Part → Core
 delivered P = idle P false false false (P .longest) 0
+
+-- with every byte FFh
+abbrev pub deliveredMemory : Part → List ℕ
+deliveredMemory P = replicate (P .size) 0xff
 
 -- its number in document 01: 6 where the cycle length is not 1 to the longest
 abbrev pub powerUpNumber : Part → ℕ → ℕ
