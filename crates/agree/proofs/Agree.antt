@@ -25,8 +25,9 @@ use Rattle.frames.proofs.Padding.{few-unused}
 use Rattle.frames.proofs.Kept.{framed-within}
 use Rattle.pins.specs.declared.Pins.{Pins}
 use Rattle.pins.specs.declared.Device.{Device}
-use Rattle.pins.specs.Devices.{noFrame}
-use Rattle.pins.specs.Ranges.{pinsFit, heldFits, frameFits, emptyFits, ranFits, deviceFits}
+use Rattle.edges.specs.Frames.{noFrame}
+use Rattle.pins.specs.Ranges.{pinsFit, heldFits, emptyFits, ranFits, deviceFits}
+use Rattle.edges.specs.Ranges.{frameFits}
 use Rattle.agree.specs.Drawings.{Sendable, flat, bitsOf}
 use Rattle.agree.specs.Reports.{watched, framesPlayed, Agreement}
 use Rattle.agree.proofs.Facts.{Good, m95512-good, bit-on}

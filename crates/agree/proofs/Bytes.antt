@@ -18,11 +18,12 @@ use Rattle.chip.specs.Instructions.{decode}
 use Rattle.chip.specs.declared.Core.{Core}
 use Rattle.chip.specs.declared.Latch.{Latch}
 use Rattle.chip.specs.declared.Instruction.{Instruction}
-use Rattle.pins.specs.declared.Frame.{Frame}
-use Rattle.pins.specs.declared.Level.the-variants.{Zero, One}
-use Rattle.pins.specs.Devices.{noFrame}
-use Rattle.pins.specs.Rising.{risen, wholeByte, shiftedIn}
-use Rattle.pins.specs.Falling.{fallen, outputs, levelOf}
+use Rattle.edges.specs.declared.Frame.{Frame}
+use Rattle.edges.specs.declared.Level.the-variants.{Zero, One}
+use Rattle.edges.specs.Frames.{noFrame}
+use Rattle.edges.specs.Rising.{risen, wholeByte, shiftedIn}
+use Rattle.edges.specs.Falling.{fallen, levelOf}
+use Rattle.chip.specs.Output.{outputs}
 use Rattle.agree.specs.Drawings.{flat}
 use Rattle.agree.specs.Reports.{asOne}
 use Rattle.agree.proofs.Facts.{Good, on-bit}

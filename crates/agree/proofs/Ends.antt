@@ -24,8 +24,8 @@ use Rattle.chip.specs.declared.Verdict.the-variants.{Executed, CycleRan, WelOff
 use Rattle.chip.specs.declared.Instruction.{Instruction}
 use Rattle.chip.specs.declared.Instruction.the-variants.{Wren, Wrdi, Rdsr, Wrsr, Read, Write, Silence}
 use Rattle.chip.proofs.Judged.{passed}
-use Rattle.pins.specs.declared.Frame.{Frame}
-use Rattle.pins.specs.Devices.{noFrame}
+use Rattle.edges.specs.declared.Frame.{Frame}
+use Rattle.edges.specs.Frames.{noFrame}
 use Rattle.frames.specs.Bytes.{instruction, addressTo, address, payload, latchedFrom, written}
 use Rattle.frames.specs.After.{after}
 use Rattle.agree.proofs.Facts.{Good, on-bit, min-leb, min-eqb, leb-cong, ltb-cong, eqb-cong}

@@ -18,9 +18,9 @@ use Rattle.chip.specs.declared.Core.{Core}
 use Rattle.chip.specs.declared.Latch.{Latch}
 use Rattle.chip.specs.declared.Instruction.{Instruction}
 use Rattle.chip.specs.declared.Instruction.the-variants.{Wren, Wrdi, Rdsr, Wrsr, Read, Write, Silence}
-use Rattle.pins.specs.declared.Frame.{Frame}
-use Rattle.pins.specs.Devices.{noFrame}
-use Rattle.pins.specs.Falling.{outputs}
+use Rattle.edges.specs.declared.Frame.{Frame}
+use Rattle.edges.specs.Frames.{noFrame}
+use Rattle.chip.specs.Output.{outputs}
 use Rattle.frames.specs.Bytes.{instruction, addressTo, address}
 use Rattle.frames.specs.Shown.{byteOut}
 use Rattle.agree.proofs.Facts.{Good, on-bit, leb-min, min-leb}

@@ -17,10 +17,11 @@ use Rattle.chip.specs.declared.Core.{Core}
 use Rattle.chip.specs.declared.Latch.{Latch}
 use Rattle.chip.specs.declared.Instruction.{Instruction}
 use Rattle.chip.specs.declared.Instruction.the-variants.{Wren, Wrdi, Rdsr, Wrsr, Read, Write, Silence}
-use Rattle.pins.specs.declared.Frame.{Frame}
-use Rattle.pins.specs.Devices.{noFrame}
-use Rattle.pins.specs.Rising.{wholeByte, taking}
-use Rattle.pins.specs.Falling.{fallen, outputs, loading}
+use Rattle.edges.specs.declared.Frame.{Frame}
+use Rattle.edges.specs.Frames.{noFrame}
+use Rattle.edges.specs.Rising.{wholeByte, taking}
+use Rattle.edges.specs.Falling.{fallen, loading}
+use Rattle.chip.specs.Output.{outputs}
 use Rattle.agree.proofs.Facts.{Good, on-bit, min-eqb, min-next}
 
 -- bits shown once k bits of a byte are taken, in data output and outside it

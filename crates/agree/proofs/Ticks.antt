@@ -12,11 +12,11 @@ use Rattle.chip.specs.Protect.{protects}
 use Rattle.chip.specs.Verdicts.{verdict, isExecuted}
 use Rattle.chip.specs.Effects.{effect}
 use Rattle.chip.specs.declared.Core.{Core}
-use Rattle.pins.specs.declared.Frame.{Frame}
-use Rattle.pins.specs.declared.Level.{Level}
-use Rattle.pins.specs.declared.Level.the-variants.{Z}
-use Rattle.pins.specs.Rising.{risen}
-use Rattle.pins.specs.Falling.{fallen, levelOf}
+use Rattle.edges.specs.declared.Frame.{Frame}
+use Rattle.edges.specs.declared.Level.{Level}
+use Rattle.edges.specs.declared.Level.the-variants.{Z}
+use Rattle.edges.specs.Rising.{risen}
+use Rattle.edges.specs.Falling.{fallen, levelOf}
 use Rattle.agree.specs.Reports.{asOne}
 
 abbrev pub tick : Part → List ℕ → Core → Bool → Frame → Frame

@@ -20,12 +20,14 @@ use Rattle.chip.specs.declared.Instruction.the-variants.{Wren, Wrdi, Rdsr, Wrsr
 use Rattle.chip.proofs.Within.{Within}
 use Rattle.chip.proofs.Passing.{timed-within, timed-length}
 use Rattle.frames.specs.Answers.{framed, framedOutput}
-use Rattle.pins.specs.declared.Frame.{Frame}
+use Rattle.edges.specs.declared.Frame.{Frame}
 use Rattle.pins.specs.declared.Event.{Event}
 use Rattle.pins.specs.declared.Event.the-variants.{S, C, D, W, Hold, Time}
-use Rattle.pins.specs.Devices.{noFrame}
-use Rattle.pins.specs.Rising.{risen}
-use Rattle.pins.specs.Falling.{fallen, outputs, loading, q}
+use Rattle.edges.specs.Frames.{noFrame}
+use Rattle.edges.specs.Rising.{risen}
+use Rattle.edges.specs.Falling.{fallen, loading}
+use Rattle.chip.specs.Output.{outputs}
+use Rattle.pins.specs.Devices.{q}
 use Rattle.pins.specs.Events.{onS, onC, onD, onW, onHold, onTime}
 use Rattle.pins.specs.Answers.{Bench}
 use Rattle.agree.specs.Drawings.{Act, mode0, mode3, Phase, between, inside, paused, sOf, cOf, holdOf, stays, Sendable, bitsOf}

@@ -12,10 +12,10 @@ use Rattle.frames.specs.Answers.{framed, framedOutput}
 use Rattle.pins.specs.declared.Device.{Device}
 use Rattle.pins.specs.declared.Event.{Event}
 use Rattle.pins.specs.declared.Event.the-variants.{S, C, D, W, Hold, Time}
-use Rattle.pins.specs.declared.Level.{Level}
-use Rattle.pins.specs.declared.Level.the-variants.{Zero, One, Z}
+use Rattle.edges.specs.declared.Level.{Level}
+use Rattle.edges.specs.declared.Level.the-variants.{Zero, One, Z}
 use Rattle.pins.specs.Devices.{selected, counting}
-use Rattle.pins.specs.Falling.{q}
+use Rattle.pins.specs.Devices.{q}
 use Rattle.pins.specs.Events.{stepped, steppedMemory}
 use Rattle.pins.specs.Ranges.{deviceFits}
 use Rattle.pins.specs.Answers.{Bench}

@@ -18,8 +18,8 @@ use Rattle.frames.specs.Answers as frames
 use Rattle.frames.specs.declared.Answer as frame-answer
 use Rattle.frames.specs.declared.Answer.the-variants as frame
 use Rattle.pins.specs.Answers.{qNumber, qValue, statusNumber, statusValue}
-use Rattle.pins.specs.declared.Level.{Level}
-use Rattle.pins.specs.declared.Level.the-variants.{Zero, One, Z}
+use Rattle.edges.specs.declared.Level.{Level}
+use Rattle.edges.specs.declared.Level.the-variants.{Zero, One, Z}
 use Rattle.pins.specs.declared.QAnswer.{QAnswer}
 use Rattle.pins.specs.declared.QAnswer.the-variants as q
 use Rattle.pins.specs.declared.StatusAnswer.{StatusAnswer}

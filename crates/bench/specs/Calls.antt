@@ -19,7 +19,8 @@ use Rattle.pins.specs.declared.Device.{Device}
 use Rattle.pins.specs.Devices.{resting}
 use Rattle.pins.specs.Ranges.{deviceFits}
 use Rattle.pins.specs.Events.{onTime}
-use Rattle.pins.specs.Answers.{answer, recordOutcome, recordNumber, memoryOutcome, memoryNumber, qAnswer, qValue, statusAnswer, statusValue, powered, played, playOutcome, playNumber}
+use Rattle.pins.specs.Answers.{answer, recordOutcome, recordNumber, memoryOutcome, memoryNumber, qAnswer, qValue, statusAnswer, statusValue, powered, played}
+use Rattle.lists.specs.Answers.{playOutcome, playNumber}
 use Rattle.bench.specs.declared.FrameAnswer.{FrameAnswer}
 use Rattle.bench.specs.declared.DeviceAnswer.{DeviceAnswer}
 use Rattle.bench.specs.declared.Value.{Value}

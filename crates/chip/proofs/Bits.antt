@@ -1,9 +1,10 @@
 -- Bits as the code has them, and as the definitions have them.
-use Prim.Native.Nat.{ℕ, _/_, _%_, _^_}
+use Prim.Native.Nat.{ℕ, _/_, _%_, _^_, _≤_}
 use mathlib.Core.Bool.{Bool, true, false}
 use mathlib.Core.Path.{_≡_, refl}
 use mir.Val.{boolByte}
 use lib.Bits.{bitAnd, and-mask}
+use lib.Dec.{lit≤}
 use Rattle.laws.specs.Pick.{pick}
 use Rattle.chip.specs.Status.{bit, bitOf}
 
@@ -20,3 +21,7 @@ pub pick-bit : (b : Bool) → pick b 1 0 ≡ bit b
 unfolding pick
 pick-bit true = refl
 pick-bit false = refl
+
+pub bit-small : (b : Bool) → bit b ≤ 1
+bit-small true = lit≤ tt
+bit-small false = lit≤ tt

@@ -1,29 +1,29 @@
 -- An event that is taken, and one that is refused: the answer, and its number in document 01.
 use mathlib.Core.Path.{_≡_, refl, ap, sym, _∙_}
 use mathlib.Core.List.{List}
-use mathlib.Core.Bool.{Bool, true, false}
+use mathlib.Core.Bool.{true, false}
 use Prim.Native.Nat.{ℕ}
 use lib.ListN.{length}
 use lib.Dec.{eqb}
 use borrow.Author.Tests.{eq-eqb, ne-eqb}
 use Rattle.laws.specs.Pick.{pick, at-yes, at-no, yes-so, no-so, pick-ap, pick-cong}
 use Rattle.chip.specs.Part.{Part}
-use Rattle.chip.specs.Refusals.{number, refusalNumber}
+use Rattle.chip.specs.Refusals.{number}
 use Rattle.chip.specs.declared.Refusal.{Refusal}
-use Rattle.chip.specs.declared.Refusal.the-variants.{MemoryLength, RecordRange, OutputLength}
+use Rattle.chip.specs.declared.Refusal.the-variants.{MemoryLength, RecordRange}
 use Rattle.chip.specs.declared.Outcome.{Outcome}
 use Rattle.chip.specs.declared.Outcome.the-variants.{Done, Refused}
 use Rattle.pins.specs.declared.Device.{Device}
 use Rattle.pins.specs.declared.Stepped.{Stepped}
 use Rattle.pins.specs.Ranges.{deviceFits}
-use Rattle.pins.specs.Answers.{steppedTo, answer, answerMemory, recordOutcome, memoryOutcome, recordNumber, memoryNumber, playOutcome, playNumber}
+use Rattle.pins.specs.Answers.{steppedTo, answer, answerMemory, recordOutcome, memoryOutcome, recordNumber, memoryNumber}
 
 -- the answer, once the outcome is known
-done-so : {o : Outcome} {r : Stepped} {y y′ : Device} (x : Device) → o ≡ Done → y′ ≡ y → r ≡ steppedTo Done y′ → r ≡ answer o y x
+pub done-so : {o : Outcome} {r : Stepped} {y y′ : Device} (x : Device) → o ≡ Done → y′ ≡ y → r ≡ steppedTo Done y′ → r ≡ answer o y x
 unfolding pick
 done-so x e p q = rw (q, e, p) refl
 
-refused-so : {o : Outcome} {f : Refusal} {r : Stepped} {x : Device} (y : Device) → o ≡ Refused f → r ≡ steppedTo (Refused f) x → r ≡ answer o y x
+pub refused-so : {o : Outcome} {f : Refusal} {r : Stepped} {x : Device} (y : Device) → o ≡ Refused f → r ≡ steppedTo (Refused f) x → r ≡ answer o y x
 unfolding pick
 refused-so y e q = rw (q, e) refl
 
@@ -83,35 +83,3 @@ kept-so n m e = rw e refl
 pub left-so : {o : Outcome} {n n′ : List ℕ} (m : List ℕ) → o ≡ Done → n′ ≡ n → n′ ≡ answerMemory o n m
 unfolding pick
 left-so m e p = rw (e, p) refl
-
--- ---- a list of events: 1, 2, 5
-
-module _ (P : Part) (x : Device) (m : List ℕ) (len room : ℕ) where
-  play-number : {o : Outcome} → playOutcome P x m len room ≡ o → number o ≡ playNumber P x m len room
-  play-number e =
-      ap number (sym e)
-      ∙ pick-ap number (eqb (length m) (P .size)) _ _
-      ∙ pick-cong (eqb (length m) (P .size)) 1 (λ p. pick-ap number (deviceFits P x) _ _
-      ∙ pick-cong (deviceFits P x) 2 (λ q. pick-ap number (eqb room len) _ _))
-
-  pub play-done : length m ≡ P .size → deviceFits P x ≡ true → room ≡ len → playOutcome P x m len room ≡ Done
-  play-done l h r = sym (yes-so _ (eq-eqb _ _ l) (yes-so _ h (yes-so _ (eq-eqb _ _ r) refl)))
-
-  pub play-output : length m ≡ P .size → deviceFits P x ≡ true → (room ≡ len → ⊥) → playOutcome P x m len room ≡ Refused OutputLength
-  play-output l h r = sym (yes-so _ (eq-eqb _ _ l) (yes-so _ h (no-so _ (ne-eqb _ _ r) refl)))
-
-  pub play-record : length m ≡ P .size → deviceFits P x ≡ false → playOutcome P x m len room ≡ Refused RecordRange
-  play-record l h = sym (yes-so _ (eq-eqb _ _ l) (no-so _ h refl))
-
-  pub play-length : (length m ≡ P .size → ⊥) → playOutcome P x m len room ≡ Refused MemoryLength
-  play-length l = at-no _ _ (ne-eqb _ _ l)
-
-  pub play-taken : {y y′ : Device} {n n′ : List ℕ} {v v′ : List ℕ} (out : List ℕ) → playOutcome P x m len room ≡ Done → y′ ≡ y → n′ ≡ n → v′ ≡ v
-      → (steppedTo Done y′ ≡ answer (playOutcome P x m len room) y x)
-      × ((0 ≡ playNumber P x m len room) × ((n′ ≡ answerMemory (playOutcome P x m len room) n m) × (v′ ≡ answerMemory (playOutcome P x m len room) v out)))
-  play-taken out o p q r = (done-so x o p refl, (play-number o, (left-so m o q, left-so out o r)))
-
-  pub play-untaken : {f : Refusal} (y : Device) (n v out : List ℕ) → playOutcome P x m len room ≡ Refused f
-      → (steppedTo (Refused f) x ≡ answer (playOutcome P x m len room) y x)
-      × ((refusalNumber f ≡ playNumber P x m len room) × ((m ≡ answerMemory (playOutcome P x m len room) n m) × (out ≡ answerMemory (playOutcome P x m len room) v out)))
-  play-untaken y n v out o = (refused-so y o refl, (play-number o, (kept-so n m o, kept-so v out o)))

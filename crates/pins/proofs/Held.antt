@@ -3,17 +3,14 @@ use mathlib.Core.Path.{_≡_, refl, ap, sym, _∙_}
 use mathlib.Core.Bool.{Bool, true, false, not, _&&_}
 use Prim.Native.Nat.{ℕ, _+_, _≤_}
 use native.Mathlib.Omega.{arith}
-use lib.Dec.{leb, lit≤}
+use lib.Dec.{leb}
 use borrow.Author.Tests.{le-leb, leb-true, eq-eqb, eqb-true, eqb-false}
 use Rattle.laws.specs.Pick.{at-yes, at-no, pick-case}
 use Rattle.laws.specs.And.{and-5-out}
 use Rattle.chip.specs.Status.{bit, on}
+use Rattle.chip.proofs.Bits.{bit-small}
 use Rattle.pins.specs.declared.Pins.{Pins}
 use Rattle.pins.specs.Ranges.{pinsFit, heldFits}
-
-pub bit-small : (b : Bool) → bit b ≤ 1
-bit-small true = lit≤ tt
-bit-small false = lit≤ tt
 
 -- a level is 0 or 1
 pub hold-small : (p : Pins) → pinsFit p ≡ true → p .hold ≤ 1

@@ -1,20 +1,14 @@
 -- Theorems on the pin model, and the facts that the functions' proofs share.
 pub mod Answering
 pub mod Stills
-pub mod Playing
-pub mod Quick
 pub mod Ones
-pub mod Sound
 pub mod Parts
 pub mod Held
 pub mod Levels
 pub mod Unselected
-pub mod Untouched
 pub mod Showing
 pub mod Pausing
 pub mod HeldDrop
-pub mod Fields
-pub mod Edges
 pub mod Deciding
 pub mod Fits
 pub mod CellRule

@@ -21,8 +21,6 @@ use Rattle.pins.proofs.Device.status.Kinds as status
 use Rattle.pins.proofs.Device.status.Reads as status-reads
 use Rattle.pins.proofs.Device.in_ranges.Kinds as in-ranges
 use Rattle.pins.proofs.Device.in_ranges.Reads as in-ranges-reads
-use Rattle.pins.proofs.listed.play.Kinds as play
-use Rattle.pins.proofs.listed.play.Reads as play-reads
 
 pub power-up-one : OneResult power-up.ps power-up.r power-up-reads.Post
 power-up-one κs a z z′ e e′ p q = same (p .0) (q .0)
@@ -56,12 +54,3 @@ status-one κs a z z′ e e′ p q = same (p .0) (q .0)
 
 pub in-ranges-one : OneResult in-ranges.ps in-ranges.r in-ranges-reads.Post
 in-ranges-one κs a z z′ e e′ p q = same p q
-
-pub play-one : OneResult play.ps play.r play-reads.Post
-play-one κs a z z′ e e′ p q = same (p .0) (q .0)
-
-pub play-memory : OneExit play.ps play.r play-reads.Post (λ κs e. now (e .1 .0))
-play-memory κs a z z′ e e′ p q = same (p .1 .1 .0) (q .1 .1 .0)
-
-pub play-output : OneExit play.ps play.r play-reads.Post (λ κs e. now (e .1 .1 .1 .0))
-play-output κs a z z′ e e′ p q = same (p .1 .1 .1) (q .1 .1 .1)

@@ -9,13 +9,13 @@ use Rattle.laws.specs.Pick.{pick, at-yes, at-no, pick-case, and-left, and-right
 use Rattle.laws.specs.And.{never}
 use Rattle.chip.specs.Part.{Part}
 use Rattle.chip.specs.Status.{bit, on}
-use Rattle.pins.specs.declared.Frame.{Frame}
+use Rattle.edges.specs.declared.Frame.{Frame}
 use Rattle.pins.specs.declared.Device.{Device}
 use Rattle.pins.specs.declared.Event.{Event}
 use Rattle.pins.specs.declared.Event.the-variants.{S, C, D, W, Hold, Time}
-use Rattle.pins.specs.declared.Level.the-variants.{Z}
-use Rattle.pins.specs.Devices.{withC, withHold, withPins, selected, counting}
-use Rattle.pins.specs.Falling.{fallen, q}
+use Rattle.edges.specs.declared.Level.the-variants.{Z}
+use Rattle.pins.specs.Devices.{withC, withHold, withPins, selected, counting, q}
+use Rattle.edges.specs.Falling.{fallen}
 use Rattle.pins.specs.Events.{renewed, lowering, onC, onD, onW, onHold, onTime, stepped, eventOf}
 use Rattle.pins.specs.Answers.{Bench, afterEvent, played}
 use Rattle.pins.proofs.Showing.{shows-same, z-held, hold-frame}

@@ -11,16 +11,17 @@ use Rattle.chip.specs.Part.{Part}
 use Rattle.chip.specs.Status.{bit, on}
 use Rattle.chip.specs.Records.{running}
 use Rattle.chip.specs.Instructions.{decode}
-use Rattle.pins.specs.declared.Frame.{Frame}
+use Rattle.edges.specs.declared.Frame.{Frame}
 use Rattle.pins.specs.declared.Device.{Device}
-use Rattle.pins.specs.declared.Level.the-variants.{Z}
-use Rattle.pins.specs.Devices.{withC, withByte, withPins, selected, counting}
-use Rattle.pins.specs.Rising.{shiftedIn, wholeByte, risen}
-use Rattle.pins.specs.Falling.{outputs, q}
+use Rattle.edges.specs.declared.Level.the-variants.{Z}
+use Rattle.pins.specs.Devices.{withC, withPins, selected, counting, q}
+use Rattle.edges.specs.Frames.{withByte}
+use Rattle.edges.specs.Rising.{shiftedIn, wholeByte, risen}
+use Rattle.chip.specs.Output.{outputs}
 use Rattle.pins.specs.Ranges.{deviceFits}
 use Rattle.pins.specs.Events.{raising, onS, onC, onD, onW, onHold, onTime}
 use Rattle.pins.proofs.Parts.{parts}
-use Rattle.pins.proofs.Untouched.{taking-same}
+use Rattle.edges.proofs.Untouched.{taking-same}
 
 -- ---- Z
 

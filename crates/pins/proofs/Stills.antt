@@ -8,10 +8,11 @@ use Rattle.chip.specs.Part.{Part}
 use Rattle.chip.specs.Status.{on}
 use Rattle.chip.specs.Instructions.{decode}
 use Rattle.chip.specs.declared.Core.{Core}
-use Rattle.pins.specs.declared.Frame.{Frame}
+use Rattle.edges.specs.declared.Frame.{Frame}
 use Rattle.pins.specs.declared.Device.{Device}
 use Rattle.pins.specs.Devices.{withFrame, counting}
-use Rattle.pins.specs.Falling.{outputs, fallen}
+use Rattle.chip.specs.Output.{outputs}
+use Rattle.edges.specs.Falling.{fallen}
 
 -- neither choice is taken, or both come to the same
 unmoved : (x : Device) (g : Frame) (t o d : Bool) → o ≡ d → (t && d) ≡ false → x ≡ pick t (withFrame (pick o g (x .frame)) x) x

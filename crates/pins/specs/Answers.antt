@@ -9,7 +9,7 @@ use Rattle.chip.specs.Part.{Part}
 use Rattle.chip.specs.Records.{status}
 use Rattle.chip.specs.Power.{poweredUp}
 use Rattle.chip.specs.Refusals.{refusalNumber, isDone}
-use Rattle.chip.specs.declared.Refusal.the-variants.{MemoryLength, RecordRange, OutputLength}
+use Rattle.chip.specs.declared.Refusal.the-variants.{MemoryLength, RecordRange}
 use Rattle.chip.specs.declared.Outcome.{Outcome}
 use Rattle.chip.specs.declared.Outcome.the-variants.{Done, Refused}
 use Rattle.pins.specs.declared.Device.{Device}
@@ -18,9 +18,9 @@ use Rattle.pins.specs.declared.QAnswer.{QAnswer}
 use Rattle.pins.specs.declared.QAnswer.the-variants.{Shows, Unanswered}
 use Rattle.pins.specs.declared.StatusAnswer.{StatusAnswer}
 use Rattle.pins.specs.declared.StatusAnswer.the-variants as status-answer
-use Rattle.pins.specs.Devices.{resting}
+use Rattle.pins.specs.Devices.{resting, q}
 use Rattle.pins.specs.Ranges.{deviceFits}
-use Rattle.pins.specs.Falling.{q, levelNumber}
+use Rattle.edges.specs.Falling.{levelNumber}
 use Rattle.pins.specs.Events.{stepped, steppedMemory, eventOf}
 
 -- ---- an event
@@ -80,7 +80,7 @@ statusValue (status-answer.Unanswered r) = 0
 abbrev pub powered : Part → ℕ → Bool → Bool → Bool → ℕ → Stepped
 powered P n s b a t = steppedTo (poweredUp P n s b a t .outcome) (resting P (poweredUp P n s b a t .core))
 
--- ---- a list of events at once: the single events one after another, with Q after each
+-- ---- a list of events: the single events one after another
 
 -- a device and the memory lent to it
 pub record Bench : Type 0 where
@@ -97,15 +97,3 @@ afterEvent P e b =
 unfoldable pub played : Part → List ℕ → Bench → Bench
 played P [] b = b
 played P (e ∷ es) b = played P es (afterEvent P e b)
-
-unfoldable pub playedQ : Part → List ℕ → Bench → List ℕ
-playedQ P [] b = []
-playedQ P (e ∷ es) b = levelNumber (q (afterEvent P e b .device)) ∷ playedQ P es (afterEvent P e b)
-
--- 1, 2, and 5 for an output that has not the list's length
-abbrev pub playOutcome : Part → Device → List ℕ → ℕ → ℕ → Outcome
-playOutcome P x m len room =
-    pick (eqb (length m) (P .size)) (pick (deviceFits P x) (pick (eqb room len) Done (Refused OutputLength)) (Refused RecordRange)) (Refused MemoryLength)
-
-abbrev pub playNumber : Part → Device → List ℕ → ℕ → ℕ → ℕ
-playNumber P x m len room = pick (eqb (length m) (P .size)) (pick (deviceFits P x) (pick (eqb room len) 0 5) 2) 1

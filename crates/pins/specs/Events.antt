@@ -17,9 +17,10 @@ use Rattle.chip.specs.declared.Verdict.{Verdict}
 use Rattle.pins.specs.declared.Device.{Device}
 use Rattle.pins.specs.declared.Event.{Event}
 use Rattle.pins.specs.declared.Event.the-variants.{S, C, D, W, Hold, Time}
-use Rattle.pins.specs.Devices.{withS, withC, withD, withW, withHold, noFrame, withPins, withHeld, withFrame, withCore, selected, counting}
-use Rattle.pins.specs.Rising.{risen}
-use Rattle.pins.specs.Falling.{fallen}
+use Rattle.pins.specs.Devices.{withS, withC, withD, withW, withHold, withPins, withHeld, withFrame, withCore, selected, counting}
+use Rattle.edges.specs.Frames.{noFrame}
+use Rattle.edges.specs.Rising.{risen}
+use Rattle.edges.specs.Falling.{fallen}
 
 -- ---- S
 

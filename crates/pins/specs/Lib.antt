@@ -1,8 +1,5 @@
--- The pin model, by edges: what a counted rising edge takes, what an unheld falling edge shows, how held is renewed, what deselect decides.
+-- The pin model, over the edges of the clock: how held is renewed, what deselect decides, what each event leaves.
 pub mod Devices
-pub mod Rising
-pub mod Falling
 pub mod Events
-pub mod Ways
 pub mod Ranges
 pub mod Answers

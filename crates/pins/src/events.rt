@@ -4,17 +4,17 @@ ghost use mathlib.Core.Bool.{not};
 ghost use Rattle.chip.specs.Part.{m95512};
 ghost use Rattle.chip.specs.Status.{on};
 ghost use Rattle.chip.specs.Time.{timedMemory};
-ghost use Rattle.pins.specs.Events.{selecting, judgedNow, executedNow, decided, deselecting, onS, renewed, raising, lowering, onC, onD, onW, onHold, onTime, stepped, steppedMemory, eventOf};
+ghost use Rattle.pins.specs.Events.{selecting, judgedNow, executedNow, decided, deselecting, onS, renewed, raising, lowering, onC, onD, onW, onHold, onTime, stepped, steppedMemory};
 use crate::Device;
 use crate::Event;
-use crate::Frame;
-use crate::falling::outputs;
-use crate::records::bit;
-use crate::rising::shifted_in;
 use chip::Core;
 use chip::Instruction;
 use chip::Verdict;
 use chip::judge;
+use edges::Frame;
+use edges::bit;
+use edges::outputs;
+use edges::shifted_in;
 
 impl Device {
     // S falling selects and starts an empty frame; with C low and HOLD low it starts held.
@@ -206,7 +206,7 @@ impl Device {
     }
 
     // One event of any kind.
-    pub(crate) fn stepped(self, event: Event, memory: &mut [u8]) -> Device
+    pub fn stepped(self, event: Event, memory: &mut [u8]) -> Device
         ensures { λ r. ⌜ r ≡ stepped m95512 (now (memory .entry)) event self ⌝ }
         ensures { λ _. ⌜ now (memory .exit) ≡ steppedMemory m95512 event self (now (memory .entry)) ⌝ }
     {
@@ -218,21 +218,5 @@ impl Device {
             Event::Hold(level) => self.on_hold(level),
             Event::Time(reading) => self.on_time(reading, memory),
         }
-    }
-}
-
-// Every number stands for one event: the low 32 bits are the reading, or the level in the lowest; the three above them are the kind.
-pub(crate) fn event_of(number: u64) -> Event
-    ensures { λ r. ⌜ r ≡ eventOf number ⌝ }
-{
-    let kind = number / 4294967296 % 8;
-    let level = number % 2 == 1;
-    match kind {
-        0 => Event::S(level),
-        1 => Event::C(level),
-        2 => Event::D(level),
-        3 => Event::W(level),
-        4 => Event::Hold(level),
-        _ => Event::Time((number % 4294967296) as u32),
     }
 }

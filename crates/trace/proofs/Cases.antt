@@ -2,10 +2,11 @@
 use mathlib.Core.Path.{_≡_, refl}
 use mathlib.Core.List.{[], _∷_}
 use Rattle.laws.specs.Pick.{pick}
-use Rattle.pins.specs.Answers.{played, playedQ}
+use Rattle.pins.specs.Answers.{played}
+use Rattle.lists.specs.Answers.{playedQ}
 use Rattle.pins.specs.Events.{onS, onC}
-use Rattle.pins.specs.Rising.{risen}
-use Rattle.pins.specs.Falling.{q}
+use Rattle.edges.specs.Rising.{risen}
+use Rattle.pins.specs.Devices.{q}
 use Rattle.trace.specs.Digits.{digits, decimal}
 use Rattle.trace.specs.Lines.{event, bad, kindOf, digitsSay, lineSays}
 use Rattle.trace.specs.Texts.{firstLine, afterLine, goodLines, hasBad, header, goodLine, badLine, printed, textOutput}

@@ -7,7 +7,8 @@ use native.Mathlib.Omega.{arith}
 use lib.ListN.{length, take, drop, length-drop}
 use lib.Seq.{take-add, length-take-le}
 use Rattle.chip.specs.Part.{m95512}
-use Rattle.pins.specs.Answers.{Bench, played, playedQ}
+use Rattle.pins.specs.Answers.{Bench, played}
+use Rattle.lists.specs.Answers.{playedQ}
 use Rattle.trace.specs.declared.Line.{Line}
 use Rattle.trace.specs.Reading.{read, found, lineFits}
 use Rattle.trace.specs.Texts.{printed}

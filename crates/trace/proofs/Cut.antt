@@ -10,9 +10,10 @@ use borrow.Author.Tests.{eqb-true, eqb-false, ne-eqb}
 use Rattle.laws.specs.Pick.{pick}
 use Rattle.laws.specs.And.{and-3-in}
 use Rattle.chip.specs.Part.{m95512}
-use Rattle.pins.specs.Answers.{Bench, played, playedQ}
+use Rattle.pins.specs.Answers.{Bench, played}
+use Rattle.lists.specs.Answers.{playedQ}
 use Rattle.pins.specs.Ranges.{deviceFits}
-use Rattle.pins.proofs.Sound.{m95512-sound}
+use Rattle.edges.proofs.Sound.{m95512-sound}
 use Rattle.pins.proofs.Fits.{Sized, played-fits, played-sized, powered-fits}
 use Rattle.trace.specs.declared.Line.{Line}
 use Rattle.trace.specs.declared.Player.{Player}

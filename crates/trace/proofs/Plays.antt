@@ -9,8 +9,10 @@ use Rattle.chip.specs.declared.Outcome.{Outcome}
 use Rattle.chip.specs.declared.Outcome.the-variants.{Done}
 use Rattle.pins.specs.declared.Device.{Device}
 use Rattle.pins.specs.declared.Stepped.{Stepped}
-use Rattle.pins.specs.Falling.{q, levelNumber}
-use Rattle.pins.specs.Answers.{Bench, answer, answerMemory, afterEvent, played, playedQ}
+use Rattle.pins.specs.Devices.{q}
+use Rattle.edges.specs.Falling.{levelNumber}
+use Rattle.pins.specs.Answers.{Bench, answer, answerMemory, afterEvent, played}
+use Rattle.lists.specs.Answers.{playedQ}
 
 pub done-device : {o : Outcome} {r : Stepped} (y x : Device) → o ≡ Done → r ≡ answer o y x → r .device ≡ y
 unfolding pick

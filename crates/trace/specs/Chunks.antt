@@ -11,7 +11,8 @@ use Rattle.chip.specs.declared.Refusal.{Refusal}
 use Rattle.chip.specs.declared.Refusal.the-variants.{MemoryLength, RecordRange, OutputLength}
 use Rattle.pins.specs.declared.Device.{Device}
 use Rattle.pins.specs.Ranges.{deviceFits}
-use Rattle.pins.specs.Answers.{Bench, played, playedQ}
+use Rattle.pins.specs.Answers.{Bench, played}
+use Rattle.lists.specs.Answers.{playedQ}
 use Rattle.trace.specs.declared.Line.{Line}
 use Rattle.trace.specs.declared.Player.{Player}
 use Rattle.trace.specs.declared.Answer.{Answer}

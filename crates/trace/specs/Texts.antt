@@ -8,7 +8,8 @@ use Rattle.laws.specs.Pick.{pick}
 use Rattle.chip.specs.Part.{m95512}
 use Rattle.chip.specs.Power.{delivered}
 use Rattle.pins.specs.Devices.{resting}
-use Rattle.pins.specs.Answers.{Bench, played, playedQ}
+use Rattle.pins.specs.Answers.{Bench, played}
+use Rattle.lists.specs.Answers.{playedQ}
 use Rattle.trace.specs.Digits.{decimal}
 use Rattle.trace.specs.Lines.{Said, event, bad, isEmpty, lineSays}
 

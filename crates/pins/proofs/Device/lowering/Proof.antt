@@ -8,7 +8,8 @@ use Rattle.chip.specs.Status.{on}
 use Rattle.chip.specs.Instructions.{decode}
 use Rattle.pins.specs.Devices.{withC, withPins, withFrame, counting}
 use Rattle.pins.specs.Events.{renewed}
-use Rattle.pins.specs.Falling.{outputs, fallen}
+use Rattle.chip.specs.Output.{outputs}
+use Rattle.edges.specs.Falling.{fallen}
 use Rattle.pins.proofs.Stills.{still}
 use native.Mathlib.Omega.{arith}
 use borrow.Author.Needs.{needs}

@@ -1,7 +1,7 @@
 use mathlib.Core.Path.{refl, ap}
 use Rattle.laws.specs.Pick.{yes-so, no-so, lt-so, ge-so}
 use Rattle.pins.specs.Devices.{withC, withPins, withFrame}
-use Rattle.pins.specs.Rising.{risen}
+use Rattle.edges.specs.Rising.{risen}
 use borrow.Author.Needs.{needs}
 use Rattle.pins.proofs.Device.raising.Statement.{statement}
 use Rattle.pins.proofs.Device.raising.Tie as tie

@@ -1,4 +1,4 @@
-use Rattle.pins.specs.Falling.{q}
+use Rattle.pins.specs.Devices.{q}
 use borrow.Author.Needs.{needs}
 use Rattle.pins.proofs.Device.shows.Statement.{statement}
 use Rattle.pins.proofs.Device.shows.Tie as tie

@@ -5,7 +5,8 @@ use native.Mathlib.Omega.{arith}
 use lib.ListN.{length, take}
 use lib.Seq.{length-take-le}
 use Rattle.chip.specs.Part.{m95512}
-use Rattle.pins.specs.Answers.{Bench, played, playedQ}
+use Rattle.pins.specs.Answers.{Bench, played}
+use Rattle.lists.specs.Answers.{playedQ}
 use Rattle.trace.specs.Texts.{printed}
 use Rattle.trace.specs.Put.{put}
 use Rattle.trace.specs.Chunks.{playedLines, shownLines}

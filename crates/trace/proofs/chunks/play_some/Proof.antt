@@ -1,16 +1,17 @@
 use mathlib.Core.Path.{_≡_, ap, _∙_}
 use lib.ListN.{length}
 use Rattle.chip.specs.Part.{m95512}
-use Rattle.pins.specs.Answers.{Bench, played, playedQ}
+use Rattle.pins.specs.Answers.{Bench, played}
+use Rattle.lists.specs.Answers.{playedQ}
 use Rattle.pins.specs.Ranges.{deviceFits}
-use Rattle.pins.proofs.Answering.{play-done}
-use Rattle.pins.proofs.Sound.{m95512-sound}
+use Rattle.lists.proofs.Answering.{play-done}
+use Rattle.edges.proofs.Sound.{m95512-sound}
 use Rattle.pins.proofs.Fits.{played-fits}
 use Rattle.trace.proofs.Plays.{done-device, done-memory}
 use borrow.Author.Needs.{needs}
 use Rattle.trace.proofs.chunks.play_some.Statement.{statement}
 use Rattle.trace.proofs.chunks.play_some.Tie as tie
-use Rattle.pins.proofs.play.Reads as play-reads
+use Rattle.lists.proofs.play.Reads as play-reads
 
 marked-requires : tie.Need-marked-requires
 marked-requires c κs = search needs

@@ -1,0 +1,51 @@
+-- An unheld falling edge moves Q to the next data bit; and what Q shows.
+use Prim.Native.Nat.{ℕ, _+_, _-_, _%_}
+use mathlib.Core.Bool.{not, _&&_}
+use mathlib.Core.List.{List}
+use lib.ListN.{getD}
+use lib.Dec.{eqb, leb, ltb}
+use Rattle.laws.specs.Pick.{pick}
+use Rattle.chip.specs.Part.{Part}
+use Rattle.chip.specs.Status.{on, bitOf}
+use Rattle.chip.specs.Records.{status}
+use Rattle.chip.specs.Instructions.{decode}
+use Rattle.chip.specs.Output.{outputs}
+use Rattle.chip.specs.declared.Core.{Core}
+use Rattle.chip.specs.declared.Instruction.{Instruction}
+use Rattle.chip.specs.declared.Instruction.the-variants.{Wren, Wrdi, Rdsr, Wrsr, Read, Write, Silence}
+use Rattle.edges.specs.declared.Frame.{Frame}
+use Rattle.edges.specs.declared.Level.{Level}
+use Rattle.edges.specs.declared.Level.the-variants.{Zero, One, Z}
+use Rattle.edges.specs.Frames.{withOut, withAddress}
+
+-- the next data byte, of which bit 7 shows: the status as it is now; the cell at the address, which then goes up and rolls over
+abbrev pub loading : Part → List ℕ → Core → Instruction → Frame → Frame
+loading P m c Wren f = f
+loading P m c Wrdi f = f
+loading P m c Rdsr f = withOut (status c) 1 f
+loading P m c Wrsr f = f
+loading P m c Read f = withAddress ((f .address + 1) % P .size) (withOut (getD m (f .address) 0) 1 f)
+loading P m c Write f = f
+loading P m c Silence f = f
+
+-- 1 to 7 bits shown: the next one; none or all eight: the next byte
+unfoldable pub fallen : Part → List ℕ → Core → Frame → Frame
+fallen P m c f =
+    pick (outputs P (decode (f .code)) (f .taken) (on (f .ran)))
+    (pick (leb 1 (f .shown) && ltb (f .shown) 8) (withOut (f .out) (f .shown + 1) f) (loading P m c (decode (f .code)) f))
+    f
+
+-- ---- Q
+
+abbrev pub levelOf : ℕ → Level
+levelOf b = pick (eqb b 1) One Zero
+
+-- Z when not selected, when held and outside data output; k bits shown: bit 8 − k shows
+abbrev pub levelShown : ℕ → ℕ → ℕ → ℕ → Level
+levelShown s held shown out = pick (not (on s) && not (on held) && leb 1 shown) (levelOf (bitOf (8 - shown) out)) Z
+
+-- the values of document 01: 0, 1 and Z, which is 2 where a number is wanted
+abbrev pub levelNumber : Level → ℕ
+levelNumber Zero = 0
+levelNumber One = 1
+levelNumber Z = 2

@@ -1,0 +1,66 @@
+-- The ranges of the frame in hand: fields that the frame has not reached are 0.
+use Prim.Native.Nat.{ℕ, _+_, _-_, _%_, _^_}
+use mathlib.Core.Bool.{Bool, false, not, _&&_, _||_}
+use lib.Dec.{eqb, leb, ltb}
+use Rattle.laws.specs.Pick.{pick}
+use Rattle.chip.specs.Part.{Part}
+use Rattle.chip.specs.Status.{on}
+use Rattle.chip.specs.Instructions.{decode}
+use Rattle.chip.specs.Latches.{latchFits}
+use Rattle.chip.specs.Output.{outputs}
+use Rattle.chip.specs.declared.Instruction.{Instruction}
+use Rattle.chip.specs.declared.Instruction.the-variants.{Wren, Wrdi, Rdsr, Wrsr, Read, Write, Silence}
+use Rattle.edges.specs.declared.Frame.{Frame}
+
+-- bits taken of the current byte, and the values of those bits and no others
+abbrev pub partFits : ℕ → ℕ → Bool
+partFits n v = leb n 7 && ltb v (2 ^ n)
+
+-- whole bytes taken, staying at the part's most, and bits taken
+abbrev pub countsFit : Part → Frame → Bool
+countsFit P f = leb (f .taken) (P .most) && partFits (f .bits) (f .part)
+
+-- the instruction byte, and whether a cycle ran at the eighth edge: from one whole byte on
+abbrev pub codeFits : Frame → Bool
+codeFits f = pick (eqb (f .taken) 0) (eqb (f .code) 0 && eqb (f .ran) 0) (leb (f .ran) 1)
+
+-- the address of READ and WRITE: below the memory's size, with the bytes that are not yet taken at 0; of the others it is 0
+abbrev pub addressFits : Part → Instruction → ℕ → ℕ → Bool
+addressFits P Wren n a = eqb a 0
+addressFits P Wrdi n a = eqb a 0
+addressFits P Rdsr n a = eqb a 0
+addressFits P Wrsr n a = eqb a 0
+addressFits P Read n a = ltb a (P .size) && eqb (a % 256 ^ (P .addressBytes + 1 - n)) 0
+addressFits P Write n a = ltb a (P .size) && eqb (a % 256 ^ (P .addressBytes + 1 - n)) 0
+addressFits P Silence n a = eqb a 0
+
+-- the data byte of WRSR: from two whole bytes on
+abbrev pub valued : Instruction → ℕ → Bool
+valued Wren n = false
+valued Wrdi n = false
+valued Rdsr n = false
+valued Wrsr n = leb 2 n
+valued Read n = false
+valued Write n = false
+valued Silence n = false
+
+-- the latch of WRITE: from its first data byte on
+abbrev pub latches : Part → Instruction → ℕ → Bool
+latches P Wren n = false
+latches P Wrdi n = false
+latches P Rdsr n = false
+latches P Wrsr n = false
+latches P Read n = false
+latches P Write n = leb (P .addressBytes + 2) n
+latches P Silence n = false
+
+-- the output byte and its bits shown: 0 outside data output, and the byte reads 0 where no bit shows
+abbrev pub outFits : Part → Instruction → Frame → Bool
+outFits P i f = pick (eqb (f .shown) 0) (eqb (f .out) 0) (leb (f .shown) 8 && outputs P i (f .taken) (on (f .ran)))
+
+abbrev pub fieldsFit : Part → Instruction → Frame → Bool
+fieldsFit P i f =
+    addressFits P i (f .taken) (f .address) && (valued i (f .taken) || eqb (f .value) 0) && outFits P i f && latchFits P (latches P i (f .taken)) (f .latch)
+
+abbrev pub frameFits : Part → Frame → Bool
+frameFits P f = countsFit P f && codeFits f && fieldsFit P (decode (f .code)) f

@@ -1,0 +1,109 @@
+// An unheld falling edge moves Q to the next data bit; and what Q shows.
+ghost use mathlib.Core.Path.{_≡_};
+ghost use Prim.Native.Nat.{_+_, _-_, _%_, _<_};
+ghost use lib.ListN.{getD};
+ghost use Rattle.chip.specs.Part.{m95512};
+ghost use Rattle.chip.specs.Status.{bitOf};
+ghost use Rattle.chip.specs.declared.Instruction.the-variants.{Read};
+ghost use Rattle.chip.specs.Output.{outputs};
+ghost use Rattle.edges.specs.Falling.{loading, levelShown, levelNumber};
+use crate::Frame;
+use crate::Level;
+use chip::Core;
+use chip::Instruction;
+
+// Data output: RDSR after its code; READ after its address, if no cycle ran at the eighth edge.
+pub fn outputs(i: Instruction, taken: u8, ran: bool) -> bool
+    ensures { λ r. ⌜ r ≡ outputs m95512 i taken ran ⌝ }
+{
+    match i {
+        Instruction::Wren => false,
+        Instruction::Wrdi => false,
+        Instruction::Rdsr => 1 <= taken,
+        Instruction::Wrsr => false,
+        Instruction::Read => (3 <= taken) & !ran,
+        Instruction::Write => false,
+        Instruction::Silence => false,
+    }
+}
+
+pub fn cell(memory: &[u8], address: u32) -> u8
+    ensures { λ r. ⌜ r ≡ getD (now (memory .entry)) address 0 ⌝ }
+{
+    let at = address as usize;
+    if at < memory.len() {
+        return memory[at];
+    }
+    0
+}
+
+pub fn one_up(address: u32) -> u32
+    ensures { λ r. ⌜ r ≡ (address + 1) % 65536 ⌝ }
+{
+    (address % 65536 + 1) % 65536
+}
+
+impl Frame {
+    fn load_cell(self, memory: &[u8], core: Core) -> Frame
+        ensures { λ r. ⌜ r ≡ loading m95512 (now (memory .entry)) core Read self ⌝ }
+    {
+        let address = self.address;
+        self.with_out(cell(memory, address), 1)
+            .with_address(one_up(address))
+    }
+
+    // The next data byte, of which bit 7 shows.
+    pub fn loading(self, memory: &[u8], core: Core, i: Instruction) -> Frame
+        ensures { λ r. ⌜ r ≡ loading m95512 (now (memory .entry)) core i self ⌝ }
+    {
+        match i {
+            Instruction::Wren => self,
+            Instruction::Wrdi => self,
+            Instruction::Rdsr => self.with_out(core.status(), 1),
+            Instruction::Wrsr => self,
+            Instruction::Read => self.load_cell(memory, core),
+            Instruction::Write => self,
+            Instruction::Silence => self,
+        }
+    }
+}
+
+impl Level {
+    // 0, 1, or 2 for Z.
+    pub fn number(self) -> u8
+        ensures { λ r. ⌜ r ≡ levelNumber self ⌝ }
+    {
+        match self {
+            Level::Zero => 0,
+            Level::One => 1,
+            Level::Z => 2,
+        }
+    }
+}
+
+// Bit k of a byte.
+fn bit_of(k: u8, byte: u8) -> u8
+    requires { ⌜ k < 8 ⌝ }
+    ensures { λ r. ⌜ r ≡ bitOf k byte ⌝ }
+{
+    byte >> k & 1
+}
+
+fn bits_left(shown: u8) -> u8
+    ensures { λ r. ⌜ r ≡ 8 - shown ⌝ }
+{
+    if shown < 8 { 8 - shown } else { 0 }
+}
+
+// What Q shows, of the four fields that say it.
+pub fn level_of(s: u8, held: u8, shown: u8, out: u8) -> Level
+    ensures { λ r. ⌜ r ≡ levelShown s held shown out ⌝ }
+{
+    if !(s == 1) & !(held == 1) & (1 <= shown) {
+        if bit_of(bits_left(shown), out) == 1 {
+            return Level::One;
+        }
+        return Level::Zero;
+    }
+    Level::Z
+}

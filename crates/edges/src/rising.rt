@@ -1,0 +1,122 @@
+// A counted rising edge takes the bit on D, high bit first.
+ghost use mathlib.Core.Path.{_≡_};
+ghost use Prim.Native.Nat.{_+_, _*_, _-_, _/_, _%_, _^_, _<_};
+ghost use Rattle.chip.specs.Part.{m95512};
+ghost use Rattle.chip.specs.Latches.{latched, nextCell};
+ghost use Rattle.chip.specs.declared.Instruction.the-variants.{Wrsr, Read, Write};
+ghost use Rattle.edges.specs.Rising.{shiftedIn, addressByte, latchByte, taking, wholeByte};
+use crate::Frame;
+use chip::Instruction;
+use chip::Latch;
+
+// A byte with one more bit at its low end.
+pub fn shifted_in(part: u8, d: u8) -> u8
+    ensures { λ r. ⌜ r ≡ shiftedIn part d ⌝ }
+{
+    if d == 1 {
+        return (part % 128) * 2 + 1;
+    }
+    (part % 128) * 2
+}
+
+// One more address byte goes to its place, by the whole bytes before it: the first one is the high byte.
+fn joined(address: u32, before: u8, byte: u8) -> u32
+    ensures { λ r. ⌜ r ≡ (address + byte * 256 ^ (2 - before)) % 65536 ⌝ }
+{
+    let low = address % 65536;
+    let value = byte as u32;
+    if before == 0 {
+        return low;
+    }
+    if before == 1 {
+        return (low + value * 256) % 65536;
+    }
+    (low + value) % 65536
+}
+
+// The next cell of the page that an address is in.
+fn next_address(address: u32) -> u32
+    ensures { λ r. ⌜ r ≡ address / 128 * 128 + nextCell m95512 address ⌝ }
+{
+    address / 128 * 128 + chip::next_cell(address as usize) as u32
+}
+
+fn latched(latch: Latch, cell: usize, byte: u8) -> Latch
+    requires { ⌜ cell < 128 ⌝ }
+    ensures { λ r. ⌜ r ≡ latched cell byte latch ⌝ }
+{
+    let mut next = latch;
+    next.bytes[cell] = byte;
+    next.marks[cell] = 1;
+    next
+}
+
+impl Frame {
+    fn address_byte(self, before: u8, byte: u8) -> Frame
+        ensures { λ r. ⌜ r ≡ addressByte m95512 before byte self ⌝ }
+    {
+        self.with_address(joined(self.address, before, byte))
+    }
+
+    // A data byte goes to its cell, and the address moves to the next cell of the page.
+    fn latch_byte(self, byte: u8) -> Frame
+        ensures { λ r. ⌜ r ≡ latchByte m95512 byte self ⌝ }
+    {
+        let address = self.address;
+        let latch = latched(self.latch, (address % 128) as usize, byte);
+        self.with_latch(latch).with_address(next_address(address))
+    }
+
+    fn write_byte(self, before: u8, byte: u8) -> Frame
+        ensures { λ r. ⌜ r ≡ taking m95512 Write before byte self ⌝ }
+    {
+        if before <= 2 {
+            return self.address_byte(before, byte);
+        }
+        self.latch_byte(byte)
+    }
+
+    fn read_byte(self, before: u8, byte: u8) -> Frame
+        ensures { λ r. ⌜ r ≡ taking m95512 Read before byte self ⌝ }
+    {
+        if before <= 2 {
+            return self.address_byte(before, byte);
+        }
+        self
+    }
+
+    fn status_byte(self, before: u8, byte: u8) -> Frame
+        ensures { λ r. ⌜ r ≡ taking m95512 Wrsr before byte self ⌝ }
+    {
+        if before == 1 {
+            return self.with_value(byte);
+        }
+        self
+    }
+
+    // What a whole byte is for, by the instruction and by the whole bytes before it.
+    fn taking(self, i: Instruction, before: u8, byte: u8) -> Frame
+        ensures { λ r. ⌜ r ≡ taking m95512 i before byte self ⌝ }
+    {
+        match i {
+            Instruction::Wren => self,
+            Instruction::Wrdi => self,
+            Instruction::Rdsr => self,
+            Instruction::Wrsr => self.status_byte(before, byte),
+            Instruction::Read => self.read_byte(before, byte),
+            Instruction::Write => self.write_byte(before, byte),
+            Instruction::Silence => self,
+        }
+    }
+
+    // The first whole byte is the code; every later one is the instruction's.
+    pub fn whole_byte(self, running: bool, byte: u8) -> Frame
+        ensures { λ r. ⌜ r ≡ wholeByte m95512 running byte self ⌝ }
+    {
+        if self.taken == 0 {
+            return self.with_byte().with_code(byte, running);
+        }
+        self.with_byte()
+            .taking(chip::decode(self.code), self.taken, byte)
+    }
+}

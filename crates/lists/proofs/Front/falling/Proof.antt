@@ -1,0 +1,100 @@
+use mathlib.Core.Path.{_≡_, ap, sym, _∙_}
+use mathlib.Core.Bool.{not, _&&_}
+use Prim.Native.Nat.{_<_}
+use native.Mathlib.Omega.{arith}
+use lib.Dec.{leb, ltb}
+use borrow.Author.Tests.{ltb-true}
+use Rattle.laws.specs.Pick.{and-left, and-right}
+use Rattle.chip.specs.Part.{m95512}
+use Rattle.chip.specs.Status.{on}
+use Rattle.chip.specs.Instructions.{decode}
+use Rattle.lists.specs.Ways.{whole}
+use Rattle.chip.specs.Output.{outputs}
+use Rattle.pins.proofs.Stills.{still}
+use Rattle.lists.proofs.Quick.{next-bit, next-cell, down, down-counted}
+use borrow.Author.Needs.{needs}
+use Rattle.lists.proofs.Front.falling.Statement.{statement}
+use Rattle.lists.proofs.Front.falling.Tie as tie
+
+decode-requires : tie.Need-decode-requires
+decode-requires c κs = search needs
+
+outputs-requires : tie.Need-outputs-requires
+outputs-requires c κs = search needs
+
+bit-requires : tie.Need-bit-requires
+bit-requires c κs = search needs
+
+add-t18 : tie.Need-add-t18
+add-t18 c =
+    let s = c .before .before .before .before .before .before .before .before .before .before .before .args .self in
+    let small : s .shown < 8 = ltb-true (s .shown) 8 (and-right (leb 1 (s .shown)) (ltb (s .shown) 8) (c .if2 .taken)) in
+    omega arith
+
+returns : tie.Need-returns
+returns c =
+    let b = c .before .before in
+    let at = b .before .before .before .before .before .before .before .before .before in
+    let s = at .args .self in
+    let m = at .args .memory .now in
+    let drives = b .before .before .before .outputs .result in
+    let o : outputs m95512 (decode (s .code)) (s .taken) (on (s .ran)) ≡ drives =
+    sym (b .before .before .before .outputs .ensures ∙ ap (λ i. outputs m95512 i (s .taken) (on (s .ran))) (b .before .before .before .before .before .decode .ensures)) in
+    let counted = not (on (s .s)) && not (on (s .held)) in
+    let both = c .before .if1 .taken in
+    λ l k. down-counted m95512 m (whole s l k) _ _ (at .pre) (b .bit .ensures) (and-left counted drives both)
+    (next-bit m95512 m k (whole s l k .frame) (o ∙ and-right counted drives both) (c .if2 .taken))
+
+reads-requires : tie.Need-reads-requires
+reads-requires c κs = search needs
+
+cell-requires : tie.Need-cell-requires
+cell-requires c κs = search needs
+
+one-up-requires : tie.Need-one-up-requires
+one-up-requires c κs = search needs
+
+returns-2 : tie.Need-returns-2
+returns-2 c =
+    let b = c .before .before .before .before .before .before in
+    let at = b .before .before .before .before .before .before .before .before .before in
+    let s = at .args .self in
+    let m = at .args .memory .now in
+    let drives = b .before .before .before .outputs .result in
+    let o : outputs m95512 (decode (s .code)) (s .taken) (on (s .ran)) ≡ drives =
+    sym (b .before .before .before .outputs .ensures ∙ ap (λ i. outputs m95512 i (s .taken) (on (s .ran))) (b .before .before .before .before .before .decode .ensures)) in
+    let counted = not (on (s .s)) && not (on (s .held)) in
+    let both = c .before .before .before .before .before .if1 .taken in
+    let read = sym (b .before .before .before .before .before .decode .ensures) ∙ c .before .before .before .reads .ensures (c .before .before .if3 .taken) in
+    λ l k. down-counted m95512 m (whole s l k) _ _ (at .pre) (b .bit .ensures) (and-left counted drives both)
+    (next-cell m95512 m k (whole s l k .frame) (o ∙ and-right counted drives both) _ _ (c .before .before .before .before .if2 .left) read (c .before .cell .ensures) (c .one-up .ensures))
+
+returns-3 : tie.Need-returns-3
+returns-3 c = search needs
+
+returns-4 : tie.Need-returns-4
+returns-4 c =
+    let b = c .before in
+    let at = b .before .before .before .before .before .before .before .before .before in
+    let s = at .args .self in
+    let m = at .args .memory .now in
+    let drives = b .before .before .before .outputs .result in
+    let o : outputs m95512 (decode (s .code)) (s .taken) (on (s .ran)) ≡ drives =
+    sym (b .before .before .before .outputs .ensures ∙ ap (λ i. outputs m95512 i (s .taken) (on (s .ran))) (b .before .before .before .before .before .decode .ensures)) in
+    λ l k. down m95512 m (whole s l k) _ (whole s l k) (at .pre) (b .bit .ensures) (still m95512 m k (whole s l k) drives o (c .if1 .left))
+
+pub falling-spec : {M : Type 1} → statement M
+falling-spec =
+    tie.close
+    (tie.spec
+    decode-requires
+    outputs-requires
+    bit-requires
+    add-t18
+    returns
+    reads-requires
+    cell-requires
+    one-up-requires
+    returns-2
+    returns-3
+    returns-4)

@@ -1,0 +1,94 @@
+// A list of events at once: the ranges are checked once, and then the events are taken one after another.
+ghost use mathlib.Core.Path.{_≡_};
+ghost use lib.ListN.{length};
+ghost use Rattle.chip.specs.Part.{m95512};
+ghost use Rattle.chip.specs.Refusals.{number};
+ghost use Rattle.pins.specs.Events.{eventOf};
+ghost use Rattle.pins.specs.Answers.{answer, answerMemory, played};
+ghost use Rattle.lists.specs.Answers.{playOutcome, playNumber, playedQ};
+use crate::fronts::front_of;
+use chip::Outcome;
+use chip::Refusal;
+use edges::level_of;
+use pins::Device;
+use pins::Event;
+use pins::Stepped;
+
+// Every number stands for one event: the low 32 bits are the reading, or the level in the lowest; the three above them are the kind.
+fn event_of(number: u64) -> Event
+    ensures { λ r. ⌜ r ≡ eventOf number ⌝ }
+{
+    let kind = number / 4294967296 % 8;
+    let level = number % 2 == 1;
+    match kind {
+        0 => Event::S(level),
+        1 => Event::C(level),
+        2 => Event::D(level),
+        3 => Event::W(level),
+        4 => Event::Hold(level),
+        _ => Event::Time((number % 4294967296) as u32),
+    }
+}
+
+// The events one after another, and Q after each. The front is held apart, so that most events move numbers and copy no record.
+fn play_all(device: Device, memory: &mut [u8], events: &[u64], out: &mut [u8]) -> Device
+    requires { ⌜ length (now out) ≡ length (now events) ⌝ }
+    ensures { λ r. ⌜ r ≡ played m95512 (now (events .entry)) (record { device = device; memory = now (memory .entry) }) .device ⌝ }
+    ensures { λ _. ⌜ now (memory .exit) ≡ played m95512 (now (events .entry)) (record { device = device; memory = now (memory .entry) }) .memory ⌝ }
+    ensures { λ _. ⌜ now (out .exit) ≡ playedQ m95512 (now (events .entry)) (record { device = device; memory = now (memory .entry) }) ⌝ }
+{
+    let frame = device.frame;
+    let mut front = front_of(device);
+    let mut latch = frame.latch;
+    let mut core = device.core;
+    let mut i: usize = 0;
+    while i < events.len() {
+        let event = event_of(events[i]);
+        let way = front.quick(event, memory);
+        if way.is_whole() {
+            let next = front.whole(latch, core).stepped(event, memory);
+            let frame = next.frame;
+            front = front_of(next);
+            latch = frame.latch;
+            core = next.core;
+        } else {
+            front = front.moved(way);
+        }
+        out[i] = level_of(front.s, front.held, front.shown, front.out).number();
+        i += 1;
+    }
+    front.whole(latch, core)
+}
+
+// A lent list of events, each a number, and a lent output for Q after each: 0, 1, or 2 for Z. Refusals 1, 2, and 5 for an output of another
+// length, with everything as it was.
+pub fn play(device: Device, memory: &mut [u8], events: &[u64], out: &mut [u8]) -> Stepped
+    ensures { λ r. ⌜ r ≡ answer (playOutcome m95512 device (now (memory .entry)) (length (now (events .entry))) (length (now (out .entry)))) (played m95512 (now (events .entry)) (record { device = device; memory = now (memory .entry) }) .device) device ⌝ }
+    ensures { λ r. ⌜ number (r .outcome) ≡ playNumber m95512 device (now (memory .entry)) (length (now (events .entry))) (length (now (out .entry))) ⌝ }
+    ensures { λ _. ⌜ now (memory .exit) ≡ answerMemory (playOutcome m95512 device (now (memory .entry)) (length (now (events .entry))) (length (now (out .entry)))) (played m95512 (now (events .entry)) (record { device = device; memory = now (memory .entry) }) .memory) (now (memory .entry)) ⌝ }
+    ensures { λ _. ⌜ now (out .exit) ≡ answerMemory (playOutcome m95512 device (now (memory .entry)) (length (now (events .entry))) (length (now (out .entry)))) (playedQ m95512 (now (events .entry)) (record { device = device; memory = now (memory .entry) })) (now (out .entry)) ⌝ }
+{
+    if memory.len() == 65536 {
+        if device.in_ranges() {
+            if out.len() == events.len() {
+                let next = play_all(device, memory, events, out);
+                return Stepped {
+                    outcome: Outcome::Done,
+                    device: next,
+                };
+            }
+            return Stepped {
+                outcome: Outcome::Refused(Refusal::OutputLength),
+                device: device,
+            };
+        }
+        return Stepped {
+            outcome: Outcome::Refused(Refusal::RecordRange),
+            device: device,
+        };
+    }
+    Stepped {
+        outcome: Outcome::Refused(Refusal::MemoryLength),
+        device: device,
+    }
+}
