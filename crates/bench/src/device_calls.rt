@@ -175,5 +175,5 @@ pub extern "C" fn cartvesper_device_play(
     ensures { λ _. ⌜ now (memory .exit) ≡ answerMemory (playOutcome m95512 device (now (memory .entry)) (length (now (events .entry))) (length (now (out .entry)))) (played m95512 (now (events .entry)) (record { device = device; memory = now (memory .entry) }) .memory) (now (memory .entry)) ⌝ }
     ensures { λ _. ⌜ now (out .exit) ≡ answerMemory (playOutcome m95512 device (now (memory .entry)) (length (now (events .entry))) (length (now (out .entry)))) (playedQ m95512 (now (events .entry)) (record { device = device; memory = now (memory .entry) })) (now (out .entry)) ⌝ }
 {
-    answered(pins::play(device, memory, events, out))
+    answered(lists::play(device, memory, events, out))
 }

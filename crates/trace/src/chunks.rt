@@ -22,7 +22,7 @@ use crate::print::put_bad;
 use crate::print::put_bytes;
 use chip::Refusal;
 use pins::Device;
-use pins::play;
+use lists::play;
 
 // An array has its length by its type; the proofs ask for that of the latch's marks.
 fn marked(device: Device) -> bool
