@@ -11,18 +11,19 @@ use Rattle.chip.specs.declared.Outcome.the-variants.{Done, Refused}
 use Rattle.edges.specs.Falling.{levelNumber}
 use Rattle.pins.specs.declared.Device.{Device}
 use Rattle.pins.specs.Devices.{q}
-use Rattle.pins.specs.Ranges.{deviceFits}
-use Rattle.pins.specs.Answers.{Bench, afterEvent}
+use Rattle.pins.specs.Answers.{Bench, afterEvent, memoryChoice}
 
 -- Q after each event of a list
 unfoldable pub playedQ : Part → List ℕ → Bench → List ℕ
 playedQ P [] b = []
 playedQ P (e ∷ es) b = levelNumber (q (afterEvent P e b .device)) ∷ playedQ P es (afterEvent P e b)
 
--- 1, 2, and 5 for an output that has not the list's length
+-- refusals 1, 2, and 5 for an output that has not the list's length
+abbrev pub playChoice : {A : Type 0} → Part → Device → List ℕ → ℕ → ℕ → A → A → A → A → A
+playChoice P x m len room wrong outside short done = memoryChoice P x m wrong outside (pick (eqb room len) done short)
+
 abbrev pub playOutcome : Part → Device → List ℕ → ℕ → ℕ → Outcome
-playOutcome P x m len room =
-    pick (eqb (length m) (P .size)) (pick (deviceFits P x) (pick (eqb room len) Done (Refused OutputLength)) (Refused RecordRange)) (Refused MemoryLength)
+playOutcome P x m len room = playChoice P x m len room (Refused MemoryLength) (Refused RecordRange) (Refused OutputLength) Done
 
 abbrev pub playNumber : Part → Device → List ℕ → ℕ → ℕ → ℕ
-playNumber P x m len room = pick (eqb (length m) (P .size)) (pick (deviceFits P x) (pick (eqb room len) 0 5) 2) 1
+playNumber P x m len room = playChoice P x m len room 1 2 5 0

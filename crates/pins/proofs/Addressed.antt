@@ -37,31 +37,14 @@ use Rattle.edges.specs.Falling.{loading, fallen}
 use Rattle.edges.specs.Ranges.{latches}
 use Rattle.pins.specs.Ranges.{deviceFits}
 use Rattle.pins.specs.Events.{judgedNow, renewed, onS, onC, onD, onW, onHold, onTime, stepped, eventOf}
+use Rattle.pins.specs.Cells.{inFrame, writes, touched, dataFor, takes, addressed}
 use Rattle.pins.specs.Answers.{Bench, afterEvent, played}
 use Rattle.edges.proofs.Sound.{Sound}
 use Rattle.edges.proofs.Parts.{FrameFits}
 use Rattle.pins.proofs.Parts.{Fits, parts}
 use Rattle.edges.proofs.Edges.{no-latch-fits}
 use Rattle.pins.proofs.Fits.{Sized, stepped-fits, stepped-sized}
-use Rattle.pins.proofs.CellRule.{inFrame, writes, touched, untouched-cell}
-
--- the next whole byte of the frame is a data byte of a WRITE, for cell i
-abbrev pub dataFor : Part → ℕ → Frame → Bool
-dataFor P i f = isWrite (decode (f .code)) && not (leb (f .taken) (P .addressBytes)) && eqb (f .address) i
-
--- the event takes it: the eighth counted edge of the byte
-abbrev pub takes : Part → ℕ → Event → Device → Bool
-takes P i (S level) x = false
-takes P i (C level) x = level && not (on (x .pins .c)) && counting x && not (ltb (x .frame .bits) 7) && dataFor P i (x .frame)
-takes P i (D level) x = false
-takes P i (W level) x = false
-takes P i (Hold level) x = false
-takes P i (Time t) x = false
-
--- .. at some event of a list
-unfoldable pub addressed : Part → ℕ → List ℕ → Bench → Bool
-addressed P i [] b = false
-addressed P i (e ∷ es) b = takes P i (eventOf e) (b .device) || addressed P i es (afterEvent P e b)
+use Rattle.pins.proofs.CellRule.{untouched-cell}
 
 -- ---- a latch in which nothing may be marked
 

@@ -1,7 +1,7 @@
 -- Demand 2's cell rule over events: only a clock reading that ends a cycle changes a cell, and only one that a WRITE has addressed.
 use mathlib.Core.Path.{_≡_, refl, ap, sym, _∙_}
 use mathlib.Core.List.{List, [], _∷_}
-use mathlib.Core.Bool.{Bool, true, false, not, _&&_, _||_}
+use mathlib.Core.Bool.{Bool, true, false, not, _&&_}
 use Prim.Native.Nat.{ℕ, _-_, _*_, _/_, _<_}
 use lib.ListN.{length, getD}
 use lib.Dec.{eqb}
@@ -21,28 +21,19 @@ use Rattle.chip.specs.declared.Instruction.{Instruction}
 use Rattle.chip.specs.declared.Instruction.the-variants.{Wren, Wrdi, Rdsr, Wrsr, Read, Write, Silence}
 use Rattle.chip.proofs.Within.{Within}
 use Rattle.chip.proofs.Passing.{timed-length, cell-rule}
-use Rattle.edges.specs.declared.Frame.{Frame}
 use Rattle.pins.specs.declared.Device.{Device}
 use Rattle.pins.specs.declared.Event.{Event}
 use Rattle.pins.specs.declared.Event.the-variants.{S, C, D, W, Hold, Time}
 use Rattle.pins.specs.Devices.{withC, withPins, counting}
 use Rattle.pins.specs.Ranges.{deviceFits}
 use Rattle.pins.specs.Events.{judgedNow, decided, renewed, onS, onC, onD, onW, onHold, onTime, stepped, steppedMemory, eventOf}
+use Rattle.pins.specs.Cells.{endsCycle, inFrame, writes, touched}
 use Rattle.pins.specs.Answers.{Bench, afterEvent, played}
 use Rattle.edges.proofs.Sound.{Sound}
 use Rattle.pins.proofs.Parts.{parts}
 use Rattle.pins.proofs.Fits.{Sized, stepped-fits, stepped-sized}
 
 -- ---- one event
-
--- the event is a reading that ends the running cycle
-abbrev pub endsCycle : Event → Core → Bool
-endsCycle (S level) c = false
-endsCycle (C level) c = false
-endsCycle (D level) c = false
-endsCycle (W level) c = false
-endsCycle (Hold level) c = false
-endsCycle (Time t) c = ends t c
 
 -- what stands in cell i after any event
 module _ (P : Part) (x : Device) (m : List ℕ) (size : length m ≡ P .size) (w : Within P (x .core)) (i : ℕ) (h : i < P .size) where
@@ -69,24 +60,6 @@ event-length P x m (Hold level) = refl
 event-length P x m (Time t) = timed-length P t (x .core) m
 
 -- ---- which events make a cell wait
-
--- cell i is marked in a frame's latch, in the page of its address
-abbrev pub inFrame : Part → Frame → ℕ → Bool
-inFrame P f i = inPage P (f .address / P .page) i && marked (f .latch) (i - f .address / P .page * P .page)
-
--- a deselect that is executed as a WRITE of cell i
-abbrev pub writes : Part → ℕ → Event → Device → Bool
-writes P i (S level) x = level && not (on (x .pins .s)) && isExecuted (judgedNow P x) && isWrite (decode (x .frame .code)) && inFrame P (x .frame) i
-writes P i (C level) x = false
-writes P i (D level) x = false
-writes P i (W level) x = false
-writes P i (Hold level) x = false
-writes P i (Time t) x = false
-
--- .. at some event of a list
-unfoldable pub touched : Part → ℕ → List ℕ → Bench → Bool
-touched P i [] b = false
-touched P i (e ∷ es) b = writes P i (eventOf e) (b .device) || touched P i es (afterEvent P e b)
 
 effect-awaits : (P : Part) (j : Instruction) (v p : ℕ) (l : Latch) (c : Core) (i : ℕ)
     → (isWrite j && (inPage P p i && marked l (i - p * P .page))) ≡ false → awaited P c i ≡ false → awaited P (effect P j v p l c) i ≡ false

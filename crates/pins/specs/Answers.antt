@@ -25,19 +25,25 @@ use Rattle.pins.specs.Events.{stepped, steppedMemory, eventOf}
 
 -- ---- an event
 
--- 2; and, where memory is lent, 1 before it
+-- refusal 2; and, where memory is lent, 1 before it
+abbrev pub recordChoice : {A : Type 0} → Part → Device → A → A → A
+recordChoice P x outside done = pick (deviceFits P x) done outside
+
+abbrev pub memoryChoice : {A : Type 0} → Part → Device → List ℕ → A → A → A → A
+memoryChoice P x m wrong outside done = pick (eqb (length m) (P .size)) (recordChoice P x outside done) wrong
+
 abbrev pub recordOutcome : Part → Device → Outcome
-recordOutcome P x = pick (deviceFits P x) Done (Refused RecordRange)
+recordOutcome P x = recordChoice P x (Refused RecordRange) Done
 
 abbrev pub memoryOutcome : Part → Device → List ℕ → Outcome
-memoryOutcome P x m = pick (eqb (length m) (P .size)) (recordOutcome P x) (Refused MemoryLength)
+memoryOutcome P x m = memoryChoice P x m (Refused MemoryLength) (Refused RecordRange) Done
 
 -- their numbers in document 01
 abbrev pub recordNumber : Part → Device → ℕ
-recordNumber P x = pick (deviceFits P x) 0 2
+recordNumber P x = recordChoice P x 2 0
 
 abbrev pub memoryNumber : Part → Device → List ℕ → ℕ
-memoryNumber P x m = pick (eqb (length m) (P .size)) (recordNumber P x) 1
+memoryNumber P x m = memoryChoice P x m 1 2 0
 
 abbrev pub steppedTo : Outcome → Device → Stepped
 steppedTo o x = record { outcome = o; device = x }
@@ -53,7 +59,7 @@ answerMemory o after m = pick (isDone o) after m
 -- ---- what a device shows
 
 abbrev pub qAnswer : Part → Device → QAnswer
-qAnswer P x = pick (deviceFits P x) (Shows (q x)) (Unanswered RecordRange)
+qAnswer P x = recordChoice P x (Unanswered RecordRange) (Shows (q x))
 
 abbrev pub qNumber : QAnswer → ℕ
 qNumber (Shows l) = 0
@@ -65,7 +71,7 @@ qValue (Shows l) = levelNumber l
 qValue (Unanswered r) = 0
 
 abbrev pub statusAnswer : Part → Device → StatusAnswer
-statusAnswer P x = pick (deviceFits P x) (status-answer.Byte (status (x .core))) (status-answer.Unanswered RecordRange)
+statusAnswer P x = recordChoice P x (status-answer.Unanswered RecordRange) (status-answer.Byte (status (x .core)))
 
 abbrev pub statusNumber : StatusAnswer → ℕ
 statusNumber (status-answer.Byte v) = 0
