@@ -13,8 +13,7 @@ use Rattle.chip.specs.Part.{Part, m95512}
 use Rattle.frames.specs.Answers.{bitsFit, longestFrame}
 use Rattle.pins.specs.declared.Event.{Event}
 use Rattle.pins.specs.declared.Event.the-variants.{S, C, D, W, Hold, Time}
-use Rattle.agree.specs.Drawings.{Act, send, reading, protect, Mode, mode0, mode3, rest, Phase, between, inside, Sendable, flat, bitsOf}
-use Rattle.agree.specs.Drawings.{Wave, data′, end′, clock′, reading′, protect′, select′, rise′, fall′, deselect′, hold′, idle′, resume′}
+use Rattle.agree.specs.Drawings.{Act, send, reading, protect, Mode, mode0, mode3, rest, Phase, between, inside, Sendable, flat, bitsOf, Wave, data′, end′, clock′, reading′, protect′, select′, rise′, fall′, deselect′, hold′, idle′, resume′}
 
 -- ---- bytes that can be sent, by tests
 

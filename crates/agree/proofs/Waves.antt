@@ -30,8 +30,7 @@ use Rattle.chip.specs.Output.{outputs}
 use Rattle.pins.specs.Devices.{q}
 use Rattle.pins.specs.Events.{onS, onC, onD, onW, onHold, onTime}
 use Rattle.pins.specs.Answers.{Bench}
-use Rattle.agree.specs.Drawings.{Act, mode0, mode3, Phase, between, inside, paused, sOf, cOf, holdOf, stays, Sendable, bitsOf}
-use Rattle.agree.specs.Drawings.{Wave, data′, stay′, end′, clock′, reading′, protect′, select′, rise′, fall′, deselect′, hold′, idle′, resume′}
+use Rattle.agree.specs.Drawings.{Act, mode0, mode3, Phase, between, inside, paused, sOf, cOf, holdOf, stays, Sendable, bitsOf, Wave, data′, stay′, end′, clock′, reading′, protect′, select′, rise′, fall′, deselect′, hold′, idle′, resume′}
 use Rattle.agree.specs.Reports.{Report, asOne, watched, framesPlayed}
 use Rattle.agree.proofs.Ticks.{tick, shows, seenOf, endOf, decidesAt, decides}
 

@@ -14,11 +14,9 @@ use Rattle.pins.specs.declared.Event.{Event}
 use Rattle.pins.specs.declared.Event.the-variants.{S, C, D, W, Hold, Time}
 use Rattle.edges.specs.declared.Level.{Level}
 use Rattle.edges.specs.declared.Level.the-variants.{Zero, One, Z}
-use Rattle.pins.specs.Devices.{selected, counting}
-use Rattle.pins.specs.Devices.{q}
-use Rattle.pins.specs.Events.{stepped, steppedMemory}
+use Rattle.pins.specs.Devices.{selected, counting, q}
 use Rattle.pins.specs.Ranges.{deviceFits}
-use Rattle.pins.specs.Answers.{Bench}
+use Rattle.pins.specs.Answers.{Bench, next}
 use Rattle.agree.specs.Drawings.{Act, send, reading, protect, bitsOf, Wave, between}
 
 -- after each frame: the output bits at its counted clocks, then the memory and the record (status, time left, what waits)
@@ -52,9 +50,6 @@ isEnd (D b) x = false
 isEnd (W b) x = false
 isEnd (Hold b) x = false
 isEnd (Time t) x = false
-
-abbrev pub next : Part → Event → Bench → Bench
-next P e b = record { device = stepped P (b .memory) e (b .device); memory = steppedMemory P e (b .device) (b .memory) }
 
 -- seen: the bits at the counted clocks since the frame began
 unfoldable pub watched : Part → List Event → List Bool → Bench → List Report

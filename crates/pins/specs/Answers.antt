@@ -13,6 +13,7 @@ use Rattle.chip.specs.declared.Refusal.the-variants.{MemoryLength, RecordRange}
 use Rattle.chip.specs.declared.Outcome.{Outcome}
 use Rattle.chip.specs.declared.Outcome.the-variants.{Done, Refused}
 use Rattle.pins.specs.declared.Device.{Device}
+use Rattle.pins.specs.declared.Event.{Event}
 use Rattle.pins.specs.declared.Stepped.{Stepped}
 use Rattle.pins.specs.declared.QAnswer.{QAnswer}
 use Rattle.pins.specs.declared.QAnswer.the-variants.{Shows, Unanswered}
@@ -93,12 +94,12 @@ pub record Bench : Type 0 where
   pub device : Device
   pub memory : List ℕ
 
+-- after one event; and after one that is given as a number
+abbrev pub next : Part → Event → Bench → Bench
+next P e b = record { device = stepped P (b .memory) e (b .device); memory = steppedMemory P e (b .device) (b .memory) }
+
 abbrev pub afterEvent : Part → ℕ → Bench → Bench
-afterEvent P e b =
-    record {
-      device = stepped P (b .memory) (eventOf e) (b .device);
-      memory = steppedMemory P (eventOf e) (b .device) (b .memory);
-    }
+afterEvent P n b = next P (eventOf n) b
 
 unfoldable pub played : Part → List ℕ → Bench → Bench
 played P [] b = b
