@@ -19,7 +19,7 @@ use Rattle.pins.specs.declared.Device.{Device}
 use Rattle.pins.specs.Devices.{resting}
 use Rattle.pins.specs.Ranges.{deviceFits}
 use Rattle.pins.specs.Events.{onTime}
-use Rattle.pins.specs.Answers.{answer, recordOutcome, recordNumber, memoryOutcome, memoryNumber, qAnswer, qValue, statusAnswer, statusValue, powered, played}
+use Rattle.pins.specs.Answers.{answer, recordOutcome, recordNumber, memoryOutcome, memoryNumber, qAsked, statusAsked, powered, played}
 use Rattle.lists.specs.Answers.{playOutcome, playNumber}
 use Rattle.bench.specs.declared.FrameAnswer.{FrameAnswer}
 use Rattle.bench.specs.declared.DeviceAnswer.{DeviceAnswer}
@@ -96,10 +96,10 @@ abbrev pub deviceReadingCall : Part → Device → ℕ → List ℕ → DeviceAn
 deviceReadingCall P x t m = deviceAnswer (memoryNumber P x m) (answer (memoryOutcome P x m) (onTime P t x) x .device)
 
 abbrev pub qCall : Part → Device → Value
-qCall P x = valueAnswer (recordNumber P x) (qValue (qAnswer P x))
+qCall P x = valueAnswer (recordNumber P x) (qAsked P x)
 
 abbrev pub deviceStatusCall : Part → Device → Value
-deviceStatusCall P x = valueAnswer (recordNumber P x) (statusValue (statusAnswer P x))
+deviceStatusCall P x = valueAnswer (recordNumber P x) (statusAsked P x)
 
 abbrev pub deviceInRangesCall : Part → Device → Value
 deviceInRangesCall P x = pick (deviceFits P x) (valueAnswer 0 1) (valueAnswer 2 0)

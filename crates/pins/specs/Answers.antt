@@ -71,6 +71,10 @@ abbrev pub qValue : QAnswer → ℕ
 qValue (Shows l) = levelNumber l
 qValue (Unanswered r) = 0
 
+-- the value, by the input
+abbrev pub qAsked : Part → Device → ℕ
+qAsked P x = recordChoice P x 0 (levelNumber (q x))
+
 abbrev pub statusAnswer : Part → Device → StatusAnswer
 statusAnswer P x = recordChoice P x (status-answer.Unanswered RecordRange) (status-answer.Byte (status (x .core)))
 
@@ -81,6 +85,9 @@ statusNumber (status-answer.Unanswered r) = refusalNumber r
 abbrev pub statusValue : StatusAnswer → ℕ
 statusValue (status-answer.Byte v) = v
 statusValue (status-answer.Unanswered r) = 0
+
+abbrev pub statusAsked : Part → Device → ℕ
+statusAsked P x = recordChoice P x 0 (status (x .core))
 
 -- ---- power-up: the pins at rest around chip's record
 

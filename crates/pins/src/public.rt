@@ -6,7 +6,7 @@ ghost use Rattle.chip.specs.Refusals.{number};
 ghost use Rattle.chip.specs.Time.{timedMemory};
 ghost use Rattle.chip.specs.declared.Outcome.the-variants.{Done, Refused};
 ghost use Rattle.pins.specs.Events.{onS, onC, onD, onW, onHold, onTime};
-ghost use Rattle.pins.specs.Answers.{steppedTo, recordOutcome, memoryOutcome, recordNumber, memoryNumber, answer, answerMemory, qAnswer, qNumber, statusAnswer, statusNumber, powered};
+ghost use Rattle.pins.specs.Answers.{steppedTo, recordOutcome, memoryOutcome, recordNumber, memoryNumber, answer, answerMemory, qAnswer, qNumber, qValue, qAsked, statusAnswer, statusNumber, statusValue, statusAsked, powered};
 use crate::Device;
 use crate::QAnswer;
 use crate::StatusAnswer;
@@ -124,6 +124,7 @@ impl Device {
     pub fn q(self) -> QAnswer
         ensures { λ r. ⌜ r ≡ qAnswer m95512 self ⌝ }
         ensures { λ r. ⌜ qNumber r ≡ recordNumber m95512 self ⌝ }
+        ensures { λ r. ⌜ qValue r ≡ qAsked m95512 self ⌝ }
     {
         if self.in_ranges() {
             return QAnswer::Shows(self.shows());
@@ -135,6 +136,7 @@ impl Device {
     pub fn status(self) -> StatusAnswer
         ensures { λ r. ⌜ r ≡ statusAnswer m95512 self ⌝ }
         ensures { λ r. ⌜ statusNumber r ≡ recordNumber m95512 self ⌝ }
+        ensures { λ r. ⌜ statusValue r ≡ statusAsked m95512 self ⌝ }
     {
         let core = self.core;
         if self.in_ranges() {

@@ -12,7 +12,7 @@ value-requires : tie.Need-value-requires
 value-requires c κs = search needs
 
 returns : tie.Need-returns
-returns c = rw (c .before .number .ensures, c .value .ensures, c .before .before .q .ensures .1, c .before .before .q .ensures .0)
+returns c = rw (c .before .number .ensures, c .value .ensures, c .before .before .q .ensures .1 .0, c .before .before .q .ensures .1 .1)
 
 pub cartvesper-device-q-spec : {M : Type 1} → statement M
 cartvesper-device-q-spec = tie.close (tie.spec q-requires number-requires value-requires returns)
