@@ -25,7 +25,6 @@ use Rattle.bench.specs.declared.FrameAnswer.{FrameAnswer}
 use Rattle.bench.specs.declared.DeviceAnswer.{DeviceAnswer}
 use Rattle.bench.specs.declared.Value.{Value}
 use Rattle.driver.specs.Answers as driver
-use Rattle.split.specs.Split.{splitRefusal, splitParts, splitAddress, splitLength}
 use Rattle.bench.specs.declared.DriverAnswer.{DriverAnswer}
 
 -- ---- answers put together
@@ -109,7 +108,7 @@ playCall P x m es room =
     deviceAnswer (playNumber P x m (length es) room)
     (answer (playOutcome P x m (length es) room) (played P es (record { device = x; memory = m }) .device) x .device)
 
--- ---- the driver, and the split
+-- ---- the driver
 
 abbrev pub driverAnswer : ℕ → ℕ → ℕ → Core → DriverAnswer
 driverAnswer n p f c = record { number = n; pages = p; frames = f; core = c }
@@ -118,15 +117,3 @@ abbrev pub writeCall : Part → Core → List ℕ → ℕ → List ℕ → ℕ �
 writeCall P c m a bytes interval limit =
     let r = driver.driven P c m a bytes interval limit in
     driverAnswer (driver.answerNumber (r .answer)) (driver.answerPages (r .answer)) (driver.answerFrames (r .answer)) (r .core)
-
-abbrev pub partRefusalCall : Part → ℕ → ℕ → ℕ → ℕ
-partRefusalCall P a n k = splitRefusal (P .size) (P .page) a n k
-
-abbrev pub partCountCall : Part → ℕ → ℕ → ℕ → ℕ
-partCountCall P a n k = splitParts (P .size) (P .page) a n k
-
-abbrev pub partAddressCall : Part → ℕ → ℕ → ℕ → ℕ
-partAddressCall P a n k = splitAddress (P .size) (P .page) a n k
-
-abbrev pub partLengthCall : Part → ℕ → ℕ → ℕ → ℕ
-partLengthCall P a n k = splitLength (P .size) (P .page) a n k

@@ -7,6 +7,7 @@ use crate::CoreAnswer;
 use crate::Value;
 use chip::Core;
 
+// Power-up. 2 for a flag that is not 0 or 1, then 6 for the cycle length; both leave the delivered record.
 #[no_mangle]
 pub extern "C" fn cartvesper_power_up(
     cycle: u32,
@@ -32,6 +33,7 @@ pub extern "C" fn cartvesper_power_up(
     }
 }
 
+// A clock reading, which may end a cycle and store its page. 1, 2.
 #[no_mangle]
 pub extern "C" fn cartvesper_clock_reading(
     core: Core,
@@ -50,6 +52,7 @@ pub extern "C" fn cartvesper_clock_reading(
     }
 }
 
+// 1 for a record inside its ranges; 2 and 0 for one outside them.
 #[no_mangle]
 pub extern "C" fn cartvesper_core_in_ranges(core: Core) -> Value
     ensures { λ r. ⌜ r ≡ inRangesCall m95512 core ⌝ }
@@ -66,6 +69,7 @@ pub extern "C" fn cartvesper_core_in_ranges(core: Core) -> Value
     }
 }
 
+// The status byte. 2.
 #[no_mangle]
 pub extern "C" fn cartvesper_core_status(core: Core) -> Value
     ensures { λ r. ⌜ r ≡ statusCall m95512 core ⌝ }
@@ -88,6 +92,7 @@ fn wide(byte: u8) -> u32
     byte as u32
 }
 
+// 1 where the address is protected. 2, then 7.
 #[no_mangle]
 pub extern "C" fn cartvesper_core_protected(core: Core, address: u32) -> Value
     ensures { λ r. ⌜ r ≡ protectedCall m95512 core address ⌝ }

@@ -48,6 +48,7 @@ fn end(address: u64, length: u64, part: u64) -> u64
     edge
 }
 
+// 7 where the run leaves the memory or has no such part, else 0.
 #[no_mangle]
 pub extern "C" fn cartvesper_split_refusal(address: u64, length: u64, part: u64) -> u64
     ensures { λ r. ⌜ r ≡ splitRefusal 65536 128 address length part ⌝ }
@@ -58,6 +59,7 @@ pub extern "C" fn cartvesper_split_refusal(address: u64, length: u64, part: u64)
     0
 }
 
+// How many page parts the run has; 0 where the refusal is 7.
 #[no_mangle]
 pub extern "C" fn cartvesper_split_parts(address: u64, length: u64, part: u64) -> u64
     ensures { λ r. ⌜ r ≡ splitParts 65536 128 address length part ⌝ }
@@ -69,6 +71,7 @@ pub extern "C" fn cartvesper_split_parts(address: u64, length: u64, part: u64) -
     0
 }
 
+// Where part k starts; 0 where the refusal is 7.
 #[no_mangle]
 pub extern "C" fn cartvesper_split_address(address: u64, length: u64, part: u64) -> u64
     ensures { λ r. ⌜ r ≡ splitAddress 65536 128 address length part ⌝ }
@@ -79,6 +82,7 @@ pub extern "C" fn cartvesper_split_address(address: u64, length: u64, part: u64)
     0
 }
 
+// How long part k is; 0 where the refusal is 7.
 #[no_mangle]
 pub extern "C" fn cartvesper_split_length(address: u64, length: u64, part: u64) -> u64
     ensures { λ r. ⌜ r ≡ splitLength 65536 128 address length part ⌝ }

@@ -21,8 +21,8 @@ use crate::print::print;
 use crate::print::put_bad;
 use crate::print::put_bytes;
 use chip::Refusal;
-use pins::Device;
 use lists::play;
+use pins::Device;
 
 // An array has its length by its type; the proofs ask for that of the latch's marks.
 fn marked(device: Device) -> bool
