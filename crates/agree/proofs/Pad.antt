@@ -11,7 +11,7 @@ use native.Mathlib.Nat.{mul-add-div-right, div-eq-of-lt, div-div-eq-div-mul}
 use Rattle.laws.specs.Pick.{pick, at-yes, at-no}
 use Rattle.laws.specs.Table.{from}
 use Rattle.frames.specs.Shown.{padded}
-use Rattle.agree.specs.Drawings.{bits8, flat}
+use Rattle.agree.specs.Drawings.{lowBits, flat}
 
 high : (p d v : ℕ) → 0 < p → (v / p * p + (p - 1)) / (p * d) ≡ v / (p * d)
 high p d v h =
@@ -19,7 +19,7 @@ high p d v h =
     ∙ ap (λ y. y / d) (mul-add-div-right h (v / p) (p - 1) ∙ ap (λ y. v / p + y) (div-eq-of-lt (omega arith)) ∙ omega arith)
     ∙ div-div-eq-div-mul v p d
 
-last-byte : (u v : ℕ) → u < 8 → take (8 - u) (bits8 (padded u v) ++ []) ≡ take (8 - u) (bits8 v ++ [])
+last-byte : (u v : ℕ) → u < 8 → take (8 - u) (lowBits 8 (padded u v) ++ []) ≡ take (8 - u) (lowBits 8 v ++ [])
 last-byte zero v l = simp (high 1 1 v (omega arith), high 1 2 v (omega arith), high 1 4 v (omega arith), high 1 8 v (omega arith), high 1 16 v (omega arith), high 1 32 v (omega arith), high 1 64 v (omega arith), high 1 128 v (omega arith))
 last-byte (suc zero) v l = simp (high 2 1 v (omega arith), high 2 2 v (omega arith), high 2 4 v (omega arith), high 2 8 v (omega arith), high 2 16 v (omega arith), high 2 32 v (omega arith), high 2 64 v (omega arith))
 last-byte (suc (suc zero)) v l = simp (high 4 1 v (omega arith), high 4 2 v (omega arith), high 4 4 v (omega arith), high 4 8 v (omega arith), high 4 16 v (omega arith), high 4 32 v (omega arith))
@@ -40,14 +40,14 @@ module _ (g : ℕ → ℕ) (len u : ℕ) (few : u < 8) where
   pad-bits (suc zero) j n e h =
       let last : j + 1 ≡ len = omega arith in
       let count : n ≡ 8 - u = omega arith in
-      ap (λ x. take n (bits8 x ++ [])) (at-yes _ _ (eq-eqb (j + 1) len last))
-      ∙ ap (λ y. take y (bits8 (padded u (g j)) ++ [])) count
+      ap (λ x. take n (lowBits 8 x ++ [])) (at-yes _ _ (eq-eqb (j + 1) len last))
+      ∙ ap (λ y. take y (lowBits 8 (padded u (g j)) ++ [])) count
       ∙ last-byte u (g j) few
-      ∙ ap (λ y. take y (bits8 (g j) ++ [])) (sym count)
+      ∙ ap (λ y. take y (lowBits 8 (g j) ++ [])) (sym count)
   pad-bits (suc (suc k)) j n e h =
       let other : eqb (j + 1) len ≡ false = ne-eqb (j + 1) len (λ q. omega arith) in
       let count : n ≡ suc (suc (suc (suc (suc (suc (suc (suc (n - 8)))))))) = omega arith in
-      ap (λ x. take n (bits8 x ++ flat (from (suc j) (suc k) Padded))) (at-no _ _ other)
-      ∙ ap (λ y. take y (bits8 (g j) ++ flat (from (suc j) (suc k) Padded))) count
-      ∙ ap (λ l. bits8 (g j) ++ l) (pad-bits (suc k) (suc j) (n - 8) (omega arith) (omega arith))
-      ∙ ap (λ y. take y (bits8 (g j) ++ flat (from (suc j) (suc k) g))) (sym count)
+      ap (λ x. take n (lowBits 8 x ++ flat (from (suc j) (suc k) Padded))) (at-no _ _ other)
+      ∙ ap (λ y. take y (lowBits 8 (g j) ++ flat (from (suc j) (suc k) Padded))) count
+      ∙ ap (λ l. lowBits 8 (g j) ++ l) (pad-bits (suc k) (suc j) (n - 8) (omega arith) (omega arith))
+      ∙ ap (λ y. take y (lowBits 8 (g j) ++ flat (from (suc j) (suc k) g))) (sym count)

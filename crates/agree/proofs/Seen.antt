@@ -95,10 +95,10 @@ module _ (P : Part) (G : Good P) (m : List ℕ) (c : Core) where
   Cell A n = byteOut P Read (running c) (λ _. status c) m A n
 
   cell-on : (A j : ℕ) → running c ≡ false → P .addressBytes + 1 ≤ j → Cell A j ≡ getD m ((A + (j - (P .addressBytes + 1))) % P .size) 0
-  cell-on A j b k = at-yes _ _ (and-both (not (running c)) (leb (P .addressBytes + 1) j) (ap not b) (le-leb (P .addressBytes + 1) j k))
+  cell-on A j b k = at-yes _ _ (and-both (leb (P .addressBytes + 1) j) (not (running c)) (le-leb (P .addressBytes + 1) j k) (ap not b))
 
   cell-off : (A j : ℕ) → j < P .addressBytes + 1 → Cell A j ≡ 255
-  cell-off A j k = at-no _ _ (and-no-right (not (running c)) (leb (P .addressBytes + 1) j) (lt-leb (P .addressBytes + 1) j k))
+  cell-off A j k = at-no _ _ (and-no-left (leb (P .addressBytes + 1) j) (not (running c)) (lt-leb (P .addressBytes + 1) j k))
 
   -- the cell a is loaded
   abbrev Rd : ℕ → ℕ → ℕ → Frame
@@ -198,7 +198,7 @@ module _ (P : Part) (G : Good P) (m : List ℕ) (c : Core) where
   tail-table Wrsr b v vs e r = hush-table Wrsr v (address P (v ∷ vs)) vs e (λ n. refl) (λ n. refl)
   tail-table Read true v vs e r =
       hush-table Read v (address P (v ∷ vs)) vs e (λ n. and-no-right (leb (P .addressBytes + 1) n) (not (running c)) (ap not r))
-      (λ n. sym (at-no _ _ (and-no-left (not (running c)) (leb (P .addressBytes + 1) n) (ap not r))))
+      (λ n. sym (at-no _ _ (and-no-right (leb (P .addressBytes + 1) n) (not (running c)) (ap not r))))
   tail-table Read false v vs e r = read-table v (P .addressBytes) vs e r refl
   tail-table Write b v vs e r = hush-table Write v (address P (v ∷ vs)) vs e (λ n. refl) (λ n. refl)
   tail-table Silence b v vs e r = hush-table Silence v (address P (v ∷ vs)) vs e (λ n. refl) (λ n. refl)

@@ -3,7 +3,7 @@ use Prim.Native.Nat.{ℕ}
 use mathlib.Core.Bool.{Bool, true, false}
 use mathlib.Core.List.{List, [], _∷_, _++_}
 use mathlib.Core.Path.{_≡_, refl, sym, subst}
-use lib.ListN.{getD, replicate, length-replicate}
+use lib.ListN.{getD, length-replicate}
 use Rattle.laws.specs.Pick.{pick}
 use Rattle.laws.specs.Each.{each}
 use Rattle.laws.specs.Table.{from, table}
@@ -14,7 +14,7 @@ use Rattle.chip.specs.Instructions.{decode}
 use Rattle.chip.specs.Verdicts.{verdict}
 use Rattle.chip.specs.Ranges.{inRanges}
 use Rattle.chip.specs.Time.{timed, timedMemory}
-use Rattle.chip.specs.Power.{delivered}
+use Rattle.chip.specs.Power.{delivered, deliveredMemory}
 use Rattle.frames.specs.Bytes.{latchedFrom}
 use Rattle.frames.specs.Shown.{output}
 use Rattle.frames.specs.Answers.{framed, framedOutput}
@@ -32,12 +32,9 @@ acts =
     send (0x06 ∷ []) 8 ∷ send (0x02 ∷ 0x00 ∷ 0x00 ∷ 0x00 ∷ []) 32 ∷ send (0x05 ∷ 0x00 ∷ []) 16 ∷ reading 5000
     ∷ send (0x05 ∷ 0x00 ∷ []) 16 ∷ send (0x03 ∷ 0x00 ∷ 0x00 ∷ 0x00 ∷ []) 32 ∷ []
 
--- a device as delivered, with W high, and a memory of FFh
-abbrev pub blank : List ℕ
-blank = replicate 65536 0xff
-
+-- a device as delivered, with W high
 pub run : List Report
-run = framesPlayed m95512 acts true (delivered m95512) blank
+run = framesPlayed m95512 acts true (delivered m95512) (deliveredMemory m95512)
 
 abbrev pub bitsSeen : List Report → List (List Bool)
 bitsSeen [] = []
@@ -73,11 +70,11 @@ frames-seen = record { bits = refl; registers = refl; cell = refl }
 -- ---- and so the pin model, from the same device, whatever drawing of the list
 
 abbrev pub bench : Bench
-bench = record { device = resting m95512 (delivered m95512); memory = blank }
+bench = record { device = resting m95512 (delivered m95512); memory = deliveredMemory m95512 }
 
 unselected : Unselected m95512 bench
 unfolding deviceFits inRanges each pick decode zeros
-unselected = record { fits = refl; up = refl; free = refl; memory = length-replicate {A = ℕ} 65536 0xff }
+unselected = record { fits = refl; up = refl; free = refl; memory = length-replicate {A = ℕ} (m95512 .size) 0xff }
 
 pub pins-seen : (es : List Event) → Wave m95512 (between false) false true [] acts es → Seen (watched m95512 es [] bench)
 unfolding Agreement run

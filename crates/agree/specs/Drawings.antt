@@ -1,5 +1,5 @@
 -- Drawings of a list of frames, clock readings and levels of Write Protect as pin changes.
-use Prim.Native.Nat.{ℕ, _<_, _≤_}
+use Prim.Native.Nat.{ℕ, zero, suc, _<_, _≤_}
 use mathlib.Core.Bool.{Bool, true, false, not, Bool·beq}
 use mathlib.Core.List.{List, [], _∷_, _++_}
 use mathlib.Core.Path.{_≡_}
@@ -23,14 +23,15 @@ pub record Sendable (P : Part) (s : List ℕ) (n : ℕ) : Type 0 where
   pub short : length s ≤ longestFrame P
   pub counted : bitsFit (length s) n ≡ true
 
--- the bits of a byte, high bit first; the bits of a frame of n bits
-abbrev pub bits8 : ℕ → List Bool
-bits8 v =
-    on (bitOf 7 v) ∷ on (bitOf 6 v) ∷ on (bitOf 5 v) ∷ on (bitOf 4 v) ∷ on (bitOf 3 v) ∷ on (bitOf 2 v) ∷ on (bitOf 1 v) ∷ on (bitOf 0 v) ∷ []
+-- the low k bits of a number, high bit first
+abbrev pub lowBits : ℕ → ℕ → List Bool
+lowBits zero v = []
+lowBits (suc k) v = on (bitOf k v) ∷ lowBits k v
 
+-- the bits of some bytes; the bits of a frame of n bits
 unfoldable pub flat : List ℕ → List Bool
 flat [] = []
-flat (v ∷ vs) = bits8 v ++ flat vs
+flat (v ∷ vs) = lowBits 8 v ++ flat vs
 
 abbrev pub bitsOf : List ℕ → ℕ → List Bool
 bitsOf s n = take n (flat s)

@@ -9,15 +9,16 @@ use Rattle.laws.specs.Table.{table}
 use Rattle.chip.specs.Part.{m95512}
 use Rattle.chip.specs.Records.{status, idle}
 use Rattle.chip.specs.Time.{elapsed}
-use Rattle.chip.specs.Power.{delivered}
+use Rattle.chip.specs.Power.{delivered, deliveredMemory}
 use Rattle.chip.specs.declared.Core.{Core}
 use Rattle.frames.specs.Answers.{framedOutput}
 use Rattle.frames.specs.Play.{Act, frame, reading, Device, played}
 use Rattle.split.specs.Split.{splitParts, splitLength}
-use Rattle.driver.specs.Sequence.{wren, sent, run}
+use Rattle.driver.specs.Sequence.{wren, sent, device, run}
 
+-- a record with a memory as delivered
 abbrev pub fresh : Core → Device
-fresh c = record { core = c; memory = replicate 65536 0xff }
+fresh c = device c (deliveredMemory m95512)
 
 -- frames and readings played on such a device
 abbrev pub after : List Act → Core → Device
@@ -55,8 +56,10 @@ abbrev pub run300 : List ℕ
 run300 = replicate 300 0x55
 
 pub record Starred : Type 0 where
-  -- a: the data runs past the page's end and back to its start
-  pub a : cells (stored frameA 56 (delivered m95512)) (0x007e ∷ 0x007f ∷ 0x0000 ∷ 0x0001 ∷ []) ≡ 0x11 ∷ 0x22 ∷ 0x33 ∷ 0x44 ∷ []
+  -- a: the data runs past the page's end and back to its start; the cell after it is as delivered
+  pub a :
+      cells (stored frameA 56 (delivered m95512)) (0x007e ∷ 0x007f ∷ 0x0000 ∷ 0x0001 ∷ 0x0002 ∷ [])
+      ≡ 0x11 ∷ 0x22 ∷ 0x33 ∷ 0x44 ∷ 0xff ∷ []
   -- b: with 55 or 57 bits, no cycle; with 56 there is one
   pub b-55 : begun frameA 55 (delivered m95512) ≡ 0
   pub b-57 : begun (frameA ++ (0x55 ∷ [])) 57 (delivered m95512) ≡ 0
@@ -75,8 +78,8 @@ pub record Starred : Type 0 where
       → framedOutput m95512 (delivered m95512) m (0x03 ∷ 0xff ∷ 0xff ∷ 0x00 ∷ 0x00 ∷ []) 40 (replicate 5 0x00)
       ≡ 0xff ∷ 0xff ∷ 0xff ∷ getD m 0xffff 0 ∷ getD m 0x0000 0 ∷ []
   -- g: four parts, of 28, 128, 128 and 16 bytes
-  pub g-parts : splitParts 65536 128 100 300 0 ≡ 4
-  pub g-lengths : table 4 (splitLength 65536 128 100 300) ≡ 28 ∷ 128 ∷ 128 ∷ 16 ∷ []
+  pub g-parts : splitParts (m95512 .size) (m95512 .page) 100 300 0 ≡ 4
+  pub g-lengths : table 4 (splitLength (m95512 .size) (m95512 .page) 100 300) ≡ 28 ∷ 128 ∷ 128 ∷ 16 ∷ []
   -- h: 29 frames at interval 1,000; at 700, the first poll and for each of four pages WREN, WRITE and 8 polls
   pub h-1000 : sent (run m95512 1000 5001 100 run300 (fresh (delivered m95512)) .acts) ≡ 29
   pub h-pages : run m95512 1000 5001 100 run300 (fresh (delivered m95512)) .pages ≡ 4

@@ -6,6 +6,7 @@ ghost use Rattle.bench.specs.Calls.{powerUpCall, readingCall, inRangesCa
 use crate::CoreAnswer;
 use crate::Value;
 use chip::Core;
+use chip::wide;
 
 // Power-up. 2 for a flag that is not 0 or 1, then 6 for the cycle length; both leave the delivered record.
 #[no_mangle]
@@ -84,12 +85,6 @@ pub extern "C" fn cartvesper_core_status(core: Core) -> Value
         number: 2,
         value: 0,
     }
-}
-
-fn wide(byte: u8) -> u32
-    ensures { λ r. ⌜ r ≡ byte ⌝ }
-{
-    byte as u32
 }
 
 // 1 where the address is protected. 2, then 7.

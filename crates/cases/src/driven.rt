@@ -1,8 +1,8 @@
 // Cases of the driver: g, h and l, a running cycle, a protected block in the middle of a run, and what is refused.
 use crate::say;
-use crate::wide;
 use chip::Core;
 use chip::power_up;
+use chip::wide;
 
 // 300 bytes that differ at their ends.
 fn bytes_300() -> [u8; 300] {

@@ -3,6 +3,7 @@
 use chip::Core;
 use chip::clock_reading;
 use chip::power_up;
+use chip::wide;
 use frames::frame;
 use libc::STDOUT_FILENO;
 
@@ -13,10 +14,6 @@ pub(crate) fn say(what: &[u8], number: u32) {
     io::write_all(STDOUT_FILENO, b"\t");
     io::print_decimal(STDOUT_FILENO, number as u64);
     io::write_all(STDOUT_FILENO, b"\n");
-}
-
-pub(crate) fn wide(byte: u8) -> u32 {
-    byte as u32
 }
 
 fn power(what: &[u8], cycle: u32) {

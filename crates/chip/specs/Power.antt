@@ -20,12 +20,16 @@ delivered P = idle P false false false (P .longest) 0
 abbrev pub deliveredMemory : Part → List ℕ
 deliveredMemory P = replicate (P .size) 0xff
 
--- its number in document 01: 6 where the cycle length is not 1 to the longest
-abbrev pub powerUpNumber : Part → ℕ → ℕ
-powerUpNumber P cycle = pick (cycleFits P cycle) 0 6
+-- what stands for refusal 6, where the cycle length is not 1 to the longest, and for none
+abbrev pub powerUpChoice : {A : Type 0} → Part → ℕ → A → A → A
+powerUpChoice P cycle six done = pick (cycleFits P cycle) done six
 
 -- a refusal leaves the delivered record, whatever else was given
 abbrev pub poweredUp : Part → ℕ → Bool → Bool → Bool → ℕ → PoweredUp
 poweredUp P cycle srwd bp1 bp0 t =
-    pick (cycleFits P cycle) (record { outcome = Done; core = idle P srwd bp1 bp0 cycle t })
-    (record { outcome = Refused CycleLength; core = delivered P })
+    powerUpChoice P cycle (record { outcome = Refused CycleLength; core = delivered P })
+    (record { outcome = Done; core = idle P srwd bp1 bp0 cycle t })
+
+-- its number in document 01
+abbrev pub powerUpNumber : Part → ℕ → ℕ
+powerUpNumber P cycle = powerUpChoice P cycle 6 0

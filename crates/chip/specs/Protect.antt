@@ -22,10 +22,12 @@ protects P c a = leb (lowestProtected P (on (c .bp1)) (on (c .bp0))) a
 
 -- ---- the public question, for every record and every number
 
--- 2 for a record outside its ranges, then 7 for an address that the memory lacks
+-- what stands for refusal 2, for 7 after it (an address that the memory lacks), and for no refusal
+abbrev pub questionChoice : {A : Type 0} → Part → Core → ℕ → A → A → A → A
+questionChoice P c a two seven done = pick (inRanges P c) (pick (ltb a (P .size)) done seven) two
+
 abbrev pub protection : Part → Core → ℕ → Protection
-protection P c a =
-    pick (inRanges P c) (pick (ltb a (P .size)) (pick (protects P c a) Protected Open) (Unanswered AddressRange)) (Unanswered RecordRange)
+protection P c a = questionChoice P c a (Unanswered RecordRange) (Unanswered AddressRange) (pick (protects P c a) Protected Open)
 
 -- the number of an answer in document 01, and its value: 1 for a protected address
 abbrev pub protectionNumber : Protection → ℕ
@@ -40,7 +42,7 @@ protectionValue (Unanswered r) = 0
 
 -- the number and the value, by the input
 abbrev pub questionNumber : Part → Core → ℕ → ℕ
-questionNumber P c a = pick (inRanges P c) (pick (ltb a (P .size)) 0 7) 2
+questionNumber P c a = questionChoice P c a 2 7 0
 
 abbrev pub questionValue : Part → Core → ℕ → ℕ
-questionValue P c a = pick (inRanges P c) (pick (ltb a (P .size)) (bit (protects P c a)) 0) 0
+questionValue P c a = questionChoice P c a 0 0 (bit (protects P c a))

@@ -42,12 +42,16 @@ timedMemory P t c m = pick (ends t c) (endedMemory P c m) m
 
 -- ---- the public clock reading, for every record and every memory
 
--- its number in document 01: 1 before 2
-abbrev pub readingNumber : Part → Core → List ℕ → ℕ
-readingNumber P c m = pick (eqb (length m) (P .size)) (pick (inRanges P c) 0 2) 1
+-- what stands for refusal 1, for 2 after it, and for no refusal
+abbrev pub readingChoice : {A : Type 0} → Part → Core → List ℕ → A → A → A → A
+readingChoice P c m one two done = pick (eqb (length m) (P .size)) (pick (inRanges P c) done two) one
 
 abbrev pub readingOutcome : Part → Core → List ℕ → Outcome
-readingOutcome P c m = pick (eqb (length m) (P .size)) (pick (inRanges P c) Done (Refused RecordRange)) (Refused MemoryLength)
+readingOutcome P c m = readingChoice P c m (Refused MemoryLength) (Refused RecordRange) Done
+
+-- its number in document 01
+abbrev pub readingNumber : Part → Core → List ℕ → ℕ
+readingNumber P c m = readingChoice P c m 1 2 0
 
 abbrev pub clockReading : Part → ℕ → Core → List ℕ → Timed
 clockReading P t c m =

@@ -30,6 +30,7 @@ pub use pages::next_cell;
 pub use protect::lowest_protected;
 pub use ranges::cycle_fits;
 pub use status::status_byte;
+pub use status::wide;
 pub use status::writable;
 pub use time::elapsed;
 pub use verdicts::judge;

@@ -39,6 +39,13 @@ pub(crate) fn bp0_of(value: u8) -> u8
     value >> 2 & 1
 }
 
+// A byte as a number of an answer.
+pub fn wide(byte: u8) -> u32
+    ensures { λ r. ⌜ r ≡ byte ⌝ }
+{
+    byte as u32
+}
+
 impl Core {
     // WIP: a cycle runs exactly when time is left.
     pub fn running(self) -> bool

@@ -1,4 +1,4 @@
--- Document 01's cases g and h of the definitions: 300 bytes from address 100 on, an idle device as delivered, cycle length 5,000.
+-- Document 01's case h of the definitions: 300 bytes from address 100 on, an idle device as delivered, cycle length 5,000.
 use mathlib.Core.Path.{_≡_, refl}
 use mathlib.Core.List.{List}
 use Prim.Native.Nat.{ℕ, zero, suc}
@@ -15,13 +15,13 @@ use Rattle.frames.specs.Bytes.{latchedFrom}
 use Rattle.split.specs.Split.{pageParts, count, edge, start, end, splitAddress, splitLength}
 use Rattle.split.specs.Pieces.{piece}
 use Rattle.frames.specs.Play.{Device}
-use Rattle.driver.specs.Sequence.{sent, more, firstWait, pageWait, pageActs, pagesFrom, run, Run, allDone, timedOut}
+use Rattle.driver.specs.Sequence.{sent, device, pollsOn, firstWait, pageWait, pageActs, pagesFrom, run}
 
 abbrev bytes : List ℕ
 bytes = replicate 300 0x55
 
 abbrev atRest : List ℕ → Device
-atRest m = record { core = delivered m95512; memory = m }
+atRest m = device (delivered m95512) m
 
 pub record CaseH (m : List ℕ) : Type 0 where
   pub frames : sent (run m95512 1000 5001 100 bytes (atRest m) .acts) ≡ 29
@@ -30,5 +30,5 @@ pub record CaseH (m : List ℕ) : Type 0 where
   pub frames-700 : sent (run m95512 700 5001 100 bytes (atRest m) .acts) ≡ 41
 
 pub case-h : (m : List ℕ) → CaseH m
-unfolding run pagesFrom pageActs pageWait firstWait more pick decode verdict timed zeros latchedFrom pageParts count edge start end splitAddress splitLength piece
+unfolding run pagesFrom pageActs pageWait firstWait pollsOn pick decode verdict timed zeros latchedFrom pageParts count edge start end splitAddress splitLength piece
 case-h m = record { frames = refl; pages = refl; frames-700 = refl }

@@ -12,7 +12,7 @@ use Rattle.frames.specs.Play.{Act, Device, played}
 use Rattle.driver.specs.declared.Driven.{Driven}
 use Rattle.driver.specs.declared.Answer.{Answer}
 use Rattle.driver.specs.Sequence.{sent, firstWait, Ending, allDone, timedOut, Run, stopped, begun, allParts, run}
-use Rattle.driver.specs.Answers.{endingAnswer, partsAnswer, runAnswer}
+use Rattle.driver.specs.Answers.{endingAnswer, countedAnswer, partsAnswer, runAnswer}
 use Rattle.driver.proofs.Playing.{played-append, sent-append}
 
 module _ (P : Part) (i limit a : ℕ) (bytes : List ℕ) (d : Device) where
@@ -65,7 +65,7 @@ module _ (P : Part) (i limit a : ℕ) (bytes : List ℕ) (d : Device) where
       let after : played P (parts .acts) rested ≡ played P (whole .acts) d =
       sym (ap (λ (x : Run). played P (x .acts) d) there ∙ played-append P first (parts .acts) d) in
       let answer : partsAnswer (sent first) parts ≡ runAnswer whole =
-      ap (λ (k : ℕ). endingAnswer (parts .ending) (record { pages = parts .pages; frames = k })) (sym (sent-append first (parts .acts))) ∙ ap runAnswer (sym there) in (
+      ap (λ (k : ℕ). countedAnswer k parts) (sym (sent-append first (parts .acts))) ∙ ap runAnswer (sym there) in (
         p
             ∙ rw (e, counted)
             (ap (λ (x : Answer). record { answer = x; core = played P (parts .acts) rested .core }) answer

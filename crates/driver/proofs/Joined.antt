@@ -8,7 +8,7 @@ use Rattle.chip.specs.Part.{Part, m95512}
 use Rattle.chip.specs.Records.{status}
 use Rattle.chip.specs.declared.Core.{Core}
 use Rattle.frames.specs.Play.{Act, Device, acted, played}
-use Rattle.driver.specs.Sequence.{sent, rdsr, latePoll, more, firstWait, pageWait, page, pageActs}
+use Rattle.driver.specs.Sequence.{sent, rdsr, latePoll, pollsOn, firstWait, pageWait, wrenAndWrite, pageActs}
 use Rattle.driver.specs.declared.waiting.Waited.{Waited}
 use Rattle.driver.proofs.Playing.{played-append, sent-append}
 use Rattle.driver.proofs.Frames.{poll-leaves}
@@ -42,18 +42,18 @@ pub rdsr-leaves : (d : Device) → acted m95512 rdsr d ≡ d
 rdsr-leaves d = ap (λ (c : Core). record { core = c; memory = d .memory }) (poll-leaves (d .core))
 
 module _ (i limit : ℕ) (d x : Device) where
-  pub first-wait : x ≡ d → Follows m95512 (firstWait m95512 i limit d) d (more m95512 i (limit - 1) x) x 1
+  pub first-wait : x ≡ d → Follows m95512 (firstWait m95512 i limit d) d (pollsOn m95512 i (limit - 1) x) x 1
   unfolding firstWait
-  first-wait e = follows m95512 (rdsr ∷ []) (more m95512 i (limit - 1)) d x (e ∙ sym (rdsr-leaves d))
+  first-wait e = follows m95512 (rdsr ∷ []) (pollsOn m95512 i (limit - 1)) d x (e ∙ sym (rdsr-leaves d))
 
-  pub page-wait : x ≡ played m95512 (latePoll i d) d → Follows m95512 (pageWait m95512 i limit d) d (more m95512 i (limit - 1) x) x 1
+  pub page-wait : x ≡ played m95512 (latePoll i d) d → Follows m95512 (pageWait m95512 i limit d) d (pollsOn m95512 i (limit - 1) x) x 1
   unfolding pageWait
-  page-wait e = follows m95512 (latePoll i d) (more m95512 i (limit - 1)) d x e
+  page-wait e = follows m95512 (latePoll i d) (pollsOn m95512 i (limit - 1)) d x e
 
-  pub page-acts : (a : ℕ) (bytes : List ℕ) → x ≡ played m95512 (page m95512 a bytes) d
+  pub page-acts : (a : ℕ) (bytes : List ℕ) → x ≡ played m95512 (wrenAndWrite m95512 a bytes) d
       → Follows m95512 (pageActs m95512 i limit a bytes d) d (pageWait m95512 i limit x) x 2
   unfolding pageActs
-  page-acts a bytes e = follows m95512 (page m95512 a bytes) (pageWait m95512 i limit) d x e
+  page-acts a bytes e = follows m95512 (wrenAndWrite m95512 a bytes) (pageWait m95512 i limit) d x e
 
 -- ---- a wait ends within its limit
 
@@ -65,10 +65,10 @@ module _ (P : Part) (i limit : ℕ) (d : Device) (some : 1 ≤ limit) where
   pub page-most : sent (pageWait P i limit d) ≤ limit
   unfolding pageWait
   page-most =
-      omega (arith, sent-append (latePoll i d) (more P i (limit - 1) (played P (latePoll i d) d)), sent-most P i (limit - 1) (played P (latePoll i d) d))
+      omega (arith, sent-append (latePoll i d) (pollsOn P i (limit - 1) (played P (latePoll i d) d)), sent-most P i (limit - 1) (played P (latePoll i d) d))
 
 -- and a page's frames are two more
 pub acts-most : (P : Part) (i limit a : ℕ) (bytes : List ℕ) (d : Device) → 1 ≤ limit → sent (pageActs P i limit a bytes d) ≤ limit + 2
 unfolding pageActs
 acts-most P i limit a bytes d h =
-    omega (arith, sent-append (page P a bytes) (pageWait P i limit (played P (page P a bytes) d)), page-most P i limit (played P (page P a bytes) d) h)
+    omega (arith, sent-append (wrenAndWrite P a bytes) (pageWait P i limit (played P (wrenAndWrite P a bytes) d)), page-most P i limit (played P (wrenAndWrite P a bytes) d) h)

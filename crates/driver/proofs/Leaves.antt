@@ -21,7 +21,7 @@ use Rattle.split.proofs.Whole.{pieces-more, before-part}
 use Rattle.frames.specs.Play.{Act, Device, acted, played}
 use Rattle.driver.specs.Sequence.{sent, wrdi, Ending, allDone, timedOut, notTaken, Run, stopped, pageDone, pagesFrom}
 use Rattle.driver.specs.Counts.{roundedUp, overwritten}
-use Rattle.driver.specs.Endings.{pageFrames, Tells}
+use Rattle.driver.specs.Endings.{pageFrames, Meaning}
 use Rattle.driver.proofs.Playing.{played-append, sent-append}
 use Rattle.driver.proofs.Parts.{Lies, lies}
 use Rattle.driver.proofs.Runs.{partActs, afterPart, pages-late, pages-untaken, pages-next, pages-none}
@@ -97,16 +97,16 @@ module _ (i limit : ℕ) (some : 0 < i) (small : i ≤ 5000) (polls : 1 ≤ limi
   parts = count 65536 128 a (length bytes)
 
   abbrev Told : Ending → ℕ → ℕ → ℕ → ℕ → Core → Type 0
-  Told = Tells m95512 i limit a (length bytes) c₀
+  Told = Meaning m95512 i limit a (length bytes) c₀
 
   abbrev frames-each : ℕ
   frames-each = pageFrames i c₀
 
-  tells-more : (e : Ending) (n k pages frames : ℕ) (c : Core) → c₀ .cycle ≤ limit * i → Told e n (suc k) pages frames c
+  meaning-more : (e : Ending) (n k pages frames : ℕ) (c : Core) → c₀ .cycle ≤ limit * i → Told e n (suc k) pages frames c
       → Told e (suc n) k (suc pages) (frames-each + frames) c
-  tells-more allDone n k pages frames c h t = (omega (arith, t .0), (omega (arith, t .1 .0, suc-mul n frames-each), t .1 .1))
-  tells-more timedOut n k pages frames c h t = absurd (omega (arith, t .1 .1 .0))
-  tells-more notTaken n k pages frames c h t =
+  meaning-more allDone n k pages frames c h t = (omega (arith, t .0), (omega (arith, t .1 .0, suc-mul n frames-each), t .1 .1))
+  meaning-more timedOut n k pages frames c h t = absurd (omega (arith, t .1 .1 .0))
+  meaning-more notTaken n k pages frames c h t =
       let at : suc k + pages ≡ k + suc pages = omega arith in
       (sym (ap (λ (j : ℕ). protects m95512 c₀ (splitAddress 65536 128 a (length bytes) j)) at) ∙ t .0, (omega (arith, t .1 .0, suc-mul pages frames-each), t .1 .1))
 
@@ -191,7 +191,7 @@ module _ (i limit : ℕ) (some : 0 < i) (small : i ≤ 5000) (polls : 1 ≤ limi
           ap (λ (x : Device). x .memory) y ∙ l .0 ∙ ap (λ (j : ℕ). overwritten a (pieces 65536 128 a bytes j) m₀) on-k,
           subst (λ (f : ℕ). Told (r .ending) (suc n) k (suc (r .pages)) f (played m95512 (acts ++ r .acts) d .core)) frames
               (subst (λ (x : Device). Told (r .ending) (suc n) k (suc (r .pages)) (frames-each + sent (r .acts)) (x .core)) (sym y)
-              (tells-more (r .ending) n k (r .pages) (sent (r .acts)) (played m95512 (r .acts) next .core) enough (l .1))),
+              (meaning-more (r .ending) n k (r .pages) (sent (r .acts)) (played m95512 (r .acts) next .core) enough (l .1))),
         )
 
     -- one of the three

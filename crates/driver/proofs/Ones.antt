@@ -8,4 +8,4 @@ pub write-one : OneResult write.ps write.r write-reads.Post
 write-one κs a z z′ e e′ p q = same (p .0) (q .0)
 
 pub write-memory : OneExit write.ps write.r write-reads.Post (λ κs e. now (e .1 .0))
-write-memory κs a z z′ e e′ p q = same (p .1 .1) (q .1 .1)
+write-memory κs a z z′ e e′ p q = same (p .1 .1 .1 .1) (q .1 .1 .1 .1)

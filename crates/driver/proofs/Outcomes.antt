@@ -1,4 +1,4 @@
--- What it says of an input that it is not refused, document 01's number of each answer, and what is handed back.
+-- What it says of an input that it is not refused, document 01's number and counts of each answer, and what is handed back.
 use mathlib.Core.Path.{_≡_, refl, ap, sym, _∙_}
 use mathlib.Core.Bool.{Bool, true, _&&_}
 use mathlib.Core.List.{List}
@@ -21,10 +21,11 @@ use Rattle.chip.specs.declared.Outcome.the-variants as outcome
 use Rattle.frames.proofs.Outcomes.{not-refused}
 use Rattle.frames.specs.Play.{Device, played}
 use Rattle.driver.specs.declared.Sent.{Sent}
+use Rattle.driver.specs.declared.Answer.{Answer}
 use Rattle.driver.specs.declared.Answer.the-variants.{Refused}
 use Rattle.driver.specs.declared.Driven.{Driven}
-use Rattle.driver.specs.Sequence.{Ending, allDone, timedOut, notTaken, Run, run}
-use Rattle.driver.specs.Answers.{answerNumber, endingAnswer, runAnswer, pollsFit, driveOutcome, endingNumber, driveNumber, answered, driven, drivenMemory}
+use Rattle.driver.specs.Sequence.{device, Ending, allDone, timedOut, notTaken, Run, run}
+use Rattle.driver.specs.Answers.{answerNumber, answerPages, answerFrames, endingAnswer, runAnswer, pollsFit, driveChoice, driveOutcome, endingNumber, driveNumber, drivePages, driveFrames, answered, driven, drivenMemory}
 
 -- the test that makes no sum
 pub fits-either : (a n m : ℕ) → n ≤ m → leb a (m - n) ≡ leb (a + n) m
@@ -58,30 +59,41 @@ module _ (c : Core) (size a len interval limit : ℕ) where
         limits = (leb-true _ _ (four .1 .1 .0), leb-true _ _ (four .1 .1 .1));
       }
 
--- ---- the numbers
+-- ---- the number and the counts
 
 ending-number : (e : Ending) (s : Sent) → answerNumber (endingAnswer e s) ≡ endingNumber e
 ending-number allDone s = refl
 ending-number timedOut s = refl
 ending-number notTaken s = refl
 
-module _ (P : Part) (c : Core) (size a len interval limit : ℕ) (r : Run) where
-  abbrev numbered : Outcome → ℕ
-  numbered o = answerNumber (answered o r)
+ending-pages : (e : Ending) (s : Sent) → answerPages (endingAnswer e s) ≡ s .pages
+ending-pages allDone s = refl
+ending-pages timedOut s = refl
+ending-pages notTaken s = refl
 
-  pub drive-number : numbered (driveOutcome P c size a len interval limit) ≡ driveNumber P c size a len interval limit (r .ending)
-  drive-number =
-      pick-ap numbered (eqb size (P .size)) _ _
-      ∙ pick-cong (eqb size (P .size)) 1 (λ m. pick-ap numbered (inRanges P c) _ _
-      ∙ pick-cong (inRanges P c) 2 (λ n. pick-ap numbered (leb (a + len) (P .size)) _ _
-      ∙ pick-cong (leb (a + len) (P .size)) 7 (λ f. pick-ap numbered (pollsFit P interval limit) _ _
-      ∙ pick-cong (pollsFit P interval limit) 8 (λ p. ending-number (r .ending) _))))
+ending-frames : (e : Ending) (s : Sent) → answerFrames (endingAnswer e s) ≡ s .frames
+ending-frames allDone s = refl
+ending-frames timedOut s = refl
+ending-frames notTaken s = refl
+
+module _ (P : Part) (c : Core) (size a len interval limit : ℕ) (r : Run) where
+  -- a function of the answer, taken past its four refusals
+  pub drive-by : (f : Answer → ℕ) {n : ℕ} → f (runAnswer r) ≡ n
+      → f (answered (driveOutcome P c size a len interval limit) r)
+      ≡ driveChoice P c size a len interval limit (f (Refused MemoryLength)) (f (Refused RecordRange)) (f (Refused AddressRange)) (f (Refused PollRange)) n
+  drive-by f e =
+      let of : Outcome → ℕ = λ o. f (answered o r) in
+      pick-ap of (eqb size (P .size)) _ _
+      ∙ pick-cong (eqb size (P .size)) (f (Refused MemoryLength)) (λ m. pick-ap of (inRanges P c) _ _
+      ∙ pick-cong (inRanges P c) (f (Refused RecordRange)) (λ n. pick-ap of (leb (a + len) (P .size)) _ _
+      ∙ pick-cong (leb (a + len) (P .size)) (f (Refused AddressRange)) (λ i. pick-ap of (pollsFit P interval limit) _ _
+      ∙ pick-cong (pollsFit P interval limit) (f (Refused PollRange)) (λ p. e))))
 
 -- ---- what is handed back and left in the memory: a run that is taken, and one that is refused
 
 module _ (P : Part) (c : Core) (m : List ℕ) (a : ℕ) (bytes : List ℕ) (interval limit : ℕ) where
   abbrev began : Device
-  began = record { core = c; memory = m }
+  began = device c m
 
   abbrev whole : Run
   whole = run P interval limit a bytes began
@@ -90,22 +102,37 @@ module _ (P : Part) (c : Core) (m : List ℕ) (a : ℕ) (bytes : List ℕ) (inte
   HandsBack r m′ =
       (r ≡ driven P c m a bytes interval limit)
       × ((answerNumber (r .answer) ≡ driveNumber P c (length m) a (length bytes) interval limit (whole .ending))
-      × (m′ ≡ drivenMemory P c m a bytes interval limit))
+      × ((answerPages (r .answer) ≡ drivePages P c m a bytes interval limit)
+      × ((answerFrames (r .answer) ≡ driveFrames P c m a bytes interval limit)
+      × (m′ ≡ drivenMemory P c m a bytes interval limit))))
+
+  by : (f : Answer → ℕ) {n : ℕ} (o : Outcome) → driveOutcome P c (length m) a (length bytes) interval limit ≡ o → f (runAnswer whole) ≡ n
+      → f (answered o whole)
+      ≡ driveChoice P c (length m) a (length bytes) interval limit (f (Refused MemoryLength)) (f (Refused RecordRange)) (f (Refused AddressRange)) (f (Refused PollRange)) n
+  by f o e h = ap (λ (x : Outcome). f (answered x whole)) (sym e) ∙ drive-by P c (length m) a (length bytes) interval limit whole f h
 
   numbers : (o : Outcome) → driveOutcome P c (length m) a (length bytes) interval limit ≡ o
       → answerNumber (answered o whole) ≡ driveNumber P c (length m) a (length bytes) interval limit (whole .ending)
-  numbers o e = ap (λ (x : Outcome). answerNumber (answered x whole)) (sym e) ∙ drive-number P c (length m) a (length bytes) interval limit whole
+  numbers o e = by answerNumber o e (ending-number (whole .ending) _)
+
+  pages : (o : Outcome) → driveOutcome P c (length m) a (length bytes) interval limit ≡ o
+      → answerPages (answered o whole) ≡ drivePages P c m a bytes interval limit
+  pages o e = by answerPages o e (ending-pages (whole .ending) _)
+
+  frames : (o : Outcome) → driveOutcome P c (length m) a (length bytes) interval limit ≡ o
+      → answerFrames (answered o whole) ≡ driveFrames P c m a bytes interval limit
+  frames o e = by answerFrames o e (ending-frames (whole .ending) _)
 
   pub drove : (r : Driven) (m′ : List ℕ) {o : Outcome} → o ≡ driveOutcome P c (length m) a (length bytes) interval limit → o ≡ outcome.Done
       → r ≡ record { answer = runAnswer whole; core = played P (whole .acts) began .core } → m′ ≡ played P (whole .acts) began .memory → HandsBack r m′
   unfolding driven drivenMemory pick
   drove r m′ found done p q =
       let e = sym found ∙ done in
-      rw (p, q) (rw e, (numbers outcome.Done e, rw e))
+      rw (p, q) (rw e, (numbers outcome.Done e, (pages outcome.Done e, (frames outcome.Done e, rw e))))
 
   pub refused : (n : Refusal) {o : Outcome} → o ≡ driveOutcome P c (length m) a (length bytes) interval limit → o ≡ outcome.Refused n
       → HandsBack (record { answer = Refused n; core = c }) m
   unfolding driven drivenMemory pick
   refused n found refuses =
       let e = sym found ∙ refuses in
-      (rw e, (numbers (outcome.Refused n) e, rw e))
+      (rw e, (numbers (outcome.Refused n) e, (pages (outcome.Refused n) e, (frames (outcome.Refused n) e, rw e))))

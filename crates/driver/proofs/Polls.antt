@@ -16,10 +16,10 @@ use Rattle.chip.specs.Time.{elapsed, ends, ended, endedMemory, timed, timedMemo
 use Rattle.chip.specs.declared.Core.{Core}
 use Rattle.chip.proofs.Passing.{on-core, no-end}
 use Rattle.frames.specs.Play.{Device, played}
-use Rattle.driver.specs.Sequence.{sent, latePoll, more}
+use Rattle.driver.specs.Sequence.{sent, latePoll, pollsOn}
 use Rattle.driver.specs.Counts.{roundedUp}
 use Rattle.driver.proofs.Frames.{poll-leaves}
-use Rattle.driver.proofs.Waits.{more-free, more-none, played-busy, sent-busy}
+use Rattle.driver.proofs.Waits.{polls-on-free, polls-on-none, played-busy, sent-busy}
 
 -- ---- a quotient, rounded up
 
@@ -117,8 +117,8 @@ module _ (i : ℕ) (some : 0 < i) (small : i ≤ 5000) where
 
   -- enough polls: the cycle ends
   pub record Waited (k : ℕ) (d : Device) : Type 0 where
-    pub polls : sent (more m95512 i k d) ≡ roundedUp (d .core .left) i
-    pub over : Over d (played m95512 (more m95512 i k d) d)
+    pub polls : sent (pollsOn m95512 i k d) ≡ roundedUp (d .core .left) i
+    pub over : Over d (played m95512 (pollsOn m95512 i k d) d)
 
   pub waited : (k : ℕ) (d : Device) → d .core .last < 2 ^ 32 → 0 < d .core .left → d .core .left ≤ k * i → Waited k d
   waited zero d low h l = absurd (omega (arith, zero-mul i))
@@ -133,7 +133,7 @@ module _ (i : ℕ) (some : 0 < i) (small : i ≤ 5000) where
             let w = waited k x (rw last (r .low)) (omega arith) (omega (arith, suc-mul k i)) in
             record {
               polls = sent-busy m95512 i d (suc k) k refl busy ∙ omega (arith, w .polls, ap (λ (n : ℕ). roundedUp n i) left, rounded-more (d .core .left) i some m);
-              over = subst (Over d) (sym (played-busy m95512 i d (suc k) k refl busy)) (over-after d x (played m95512 (more m95512 i k x) x) (d .core .left - i) r (w .over));
+              over = subst (Over d) (sym (played-busy m95512 i d (suc k) k refl busy)) (over-after d x (played m95512 (pollsOn m95512 i k x) x) (d .core .left - i) r (w .over));
             }
         | no m ↦
             let o = poll-over d low h (omega arith) in
@@ -141,21 +141,21 @@ module _ (i : ℕ) (some : 0 < i) (small : i ≤ 5000) where
             record {
               polls =
                   sent-busy m95512 i d (suc k) k refl busy
-                  ∙ omega (arith, ap sent (more-free m95512 i x k free), rounded-one (d .core .left) i h (omega arith));
+                  ∙ omega (arith, ap sent (polls-on-free m95512 i x k free), rounded-one (d .core .left) i h (omega arith));
               over =
                   subst (Over d)
-                  (sym (played-busy m95512 i d (suc k) k refl busy ∙ ap (λ acts. played m95512 acts x) (more-free m95512 i x k free))) o;
+                  (sym (played-busy m95512 i d (suc k) k refl busy ∙ ap (λ acts. played m95512 acts x) (polls-on-free m95512 i x k free))) o;
             }
       ]
 
   -- too few: it still runs
   pub record Late (k : ℕ) (d : Device) : Type 0 where
-    pub polls : sent (more m95512 i k d) ≡ k
-    pub runs : Runs d (played m95512 (more m95512 i k d) d) (d .core .left - k * i)
+    pub polls : sent (pollsOn m95512 i k d) ≡ k
+    pub runs : Runs d (played m95512 (pollsOn m95512 i k d) d) (d .core .left - k * i)
 
   pub late : (k : ℕ) (d : Device) → d .core .last < 2 ^ 32 → k * i < d .core .left → Late k d
   late zero d low l =
-      let none = more-none m95512 i d 0 refl in
+      let none = polls-on-none m95512 i d 0 refl in
       let all : d .core .left ≡ d .core .left - 0 * i = omega (arith, zero-mul i) in
       record {
         polls = ap sent none;
@@ -177,5 +177,5 @@ module _ (i : ℕ) (some : 0 < i) (small : i ≤ 5000) where
         polls = sent-busy m95512 i d (suc k) k refl busy ∙ omega (arith, w .polls);
         runs =
             subst (λ y. Runs d y (d .core .left - suc k * i)) (sym (played-busy m95512 i d (suc k) k refl busy))
-            (subst (Runs d (played m95512 (more m95512 i k x) x)) to (runs-after d x (played m95512 (more m95512 i k x) x) (d .core .left - i) (x .core .left - k * i) r (w .runs)));
+            (subst (Runs d (played m95512 (pollsOn m95512 i k x) x)) to (runs-after d x (played m95512 (pollsOn m95512 i k x) x) (d .core .left - i) (x .core .left - k * i) r (w .runs)));
       }

@@ -22,15 +22,15 @@ use Rattle.split.specs.Split.{count, splitAddress}
 use Rattle.split.specs.Pieces.{pieces}
 use Rattle.split.proofs.Whole.{pieces-none, whole}
 use Rattle.frames.specs.Play.{Device, played}
-use Rattle.driver.specs.Sequence.{sent, more, firstWait, Ending, allDone, timedOut, notTaken, Run, stopped, begun, allParts, run}
+use Rattle.driver.specs.Sequence.{sent, pollsOn, firstWait, Ending, allDone, timedOut, notTaken, Run, stopped, begun, allParts, run}
 use Rattle.driver.specs.Counts.{roundedUp, overwritten, onceEnded}
 use Rattle.driver.proofs.Playing.{played-append, sent-append}
 use Rattle.driver.proofs.Ready.{Ready, ready-played}
-use Rattle.driver.proofs.Waits.{more-free}
+use Rattle.driver.proofs.Waits.{polls-on-free}
 use Rattle.driver.proofs.Joined.{first-wait}
 use Rattle.driver.proofs.Polls.{waited, late}
 use Rattle.driver.proofs.Drives.{run-late, run-parts}
-use Rattle.driver.specs.Endings.{pageFrames, Tells}
+use Rattle.driver.specs.Endings.{pageFrames, Meaning}
 use Rattle.driver.proofs.Leaves.{Idle, parts-leave}
 use Rattle.driver.proofs.Stored.{overwritten-none}
 
@@ -77,7 +77,7 @@ module _ (i limit a : ℕ) (bytes : List ℕ) (d : Device) (g : Given i limit a 
   some-bytes : length bytes ≡ 0 → ⊥
   some-bytes e = let c = g .carries in omega arith
 
-  follows : (played m95512 (more m95512 i (limit - 1) d) d ≡ rested) × (sent (more m95512 i (limit - 1) d) + 1 ≡ first)
+  follows : (played m95512 (pollsOn m95512 i (limit - 1) d) d ≡ rested) × (sent (pollsOn m95512 i (limit - 1) d) + 1 ≡ first)
   follows = let f = first-wait i limit d d refl in (f .leaves, f .counts)
 
   cycle-some : 0 < d .core .cycle
@@ -96,7 +96,7 @@ module _ (i limit a : ℕ) (bytes : List ℕ) (d : Device) (g : Given i limit a 
   -- no cycle runs: one poll
   pub rests-idle : running (d .core) ≡ false → Rests 1
   rests-idle e =
-      let none = more-free m95512 i d (limit - 1) e in
+      let none = polls-on-free m95512 i d (limit - 1) e in
       let same : d ≡ rested = sym (ap (λ acts. played m95512 acts d) none) ∙ follows .0 in
       record {
         frames-first = omega (arith, follows .1, ap sent none);
@@ -159,7 +159,7 @@ module _ (i limit a : ℕ) (bytes : List ℕ) (d : Device) (g : Given i limit a 
     pub frames : ℕ
     pub counts : sent (r .acts) ≡ n + frames
     pub memory : played m95512 (r .acts) d .memory ≡ overwritten a (pieces 65536 128 a bytes (r .pages)) (onceEnded m95512 (d .core) (d .memory))
-    pub tells : Tells m95512 i limit a (length bytes) (rested .core) (r .ending) parts 0 (r .pages) frames (played m95512 (r .acts) d .core)
+    pub meaning : Meaning m95512 i limit a (length bytes) (rested .core) (r .ending) parts 0 (r .pages) frames (played m95512 (r .acts) d .core)
 
   pub run-leaves : (n : ℕ) → Rests n → Leaving n whole-run
   run-leaves n r =
@@ -185,7 +185,7 @@ module _ (i limit a : ℕ) (bytes : List ℕ) (d : Device) (g : Given i limit a 
         frames = sent (all .acts);
         counts = sent-append (firstWait m95512 i limit d) (all .acts) ∙ ap (λ (k : ℕ). k + sent (all .acts)) (r .frames-first);
         memory = sym (ap (λ (x : Device). x .memory) y) ∙ l .0 ∙ ap (λ (k : ℕ). overwritten a (pieces 65536 128 a bytes k) (rested .memory)) count-from ∙ ap (overwritten a (pieces 65536 128 a bytes (all .pages))) (r .memory);
-        tells = subst (λ (x : Device). Tells m95512 i limit a (length bytes) (rested .core) (all .ending) parts 0 (all .pages) (sent (all .acts)) (x .core)) y (l .1);
+        meaning = subst (λ (x : Device). Meaning m95512 i limit a (length bytes) (rested .core) (all .ending) parts 0 (all .pages) (sent (all .acts)) (x .core)) y (l .1);
       })
 
   -- ---- one of the two for every input
@@ -222,7 +222,7 @@ module _ (i limit a : ℕ) (bytes : List ℕ) (d : Device) (g : Given i limit a 
       by (uses-limit l) = absurd (done-late (sym e ∙ l .ending))
       by (ends n r) =
           let l = run-leaves n r in
-          let t = subst (λ (x : Ending). Tells m95512 i limit a (length bytes) (rested .core) x parts 0 (whole-run .pages) (l .frames) (exit .core)) e (l .tells) in
+          let t = subst (λ (x : Ending). Meaning m95512 i limit a (length bytes) (rested .core) x parts 0 (whole-run .pages) (l .frames) (exit .core)) e (l .meaning) in
           record {
             pages = t .0;
             memory = l .memory ∙ ap (λ (k : ℕ). overwritten a (pieces 65536 128 a bytes k) (onceEnded m95512 (d .core) (d .memory))) (t .0) ∙ ap (λ (s : List ℕ). overwritten a s (onceEnded m95512 (d .core) (d .memory))) (whole 65536 128 a bytes (omega arith) (g .inside));
@@ -245,7 +245,7 @@ module _ (i limit a : ℕ) (bytes : List ℕ) (d : Device) (g : Given i limit a 
       by (uses-limit l) = absurd (untaken-late (sym e ∙ l .ending))
       by (ends n r) =
           let l = run-leaves n r in
-          let t = subst (λ (x : Ending). Tells m95512 i limit a (length bytes) (rested .core) x parts 0 (whole-run .pages) (l .frames) (exit .core)) e (l .tells) in
+          let t = subst (λ (x : Ending). Meaning m95512 i limit a (length bytes) (rested .core) x parts 0 (whole-run .pages) (l .frames) (exit .core)) e (l .meaning) in
           record {
             memory = l .memory;
             wel = t .1 .1 .1;
@@ -269,7 +269,7 @@ module _ (i limit a : ℕ) (bytes : List ℕ) (d : Device) (g : Given i limit a 
       by (uses-limit l) = record { pages = l .pages; memory = inl (l .memory); left = l .runs; frames = inl (l .frames) }
       by (ends n r) =
           let l = run-leaves n r in
-          let t = subst (λ (x : Ending). Tells m95512 i limit a (length bytes) (rested .core) x parts 0 (whole-run .pages) (l .frames) (exit .core)) e (l .tells) in
+          let t = subst (λ (x : Ending). Meaning m95512 i limit a (length bytes) (rested .core) x parts 0 (whole-run .pages) (l .frames) (exit .core)) e (l .meaning) in
           let few = t .1 .1 .0 in
           record {
             pages = t .0;

@@ -23,11 +23,11 @@ use Rattle.chip.proofs.Passing.{on-core, no-end}
 use Rattle.frames.specs.Bytes.{address, written}
 use Rattle.frames.specs.After.{judged, after}
 use Rattle.frames.specs.Play.{Act, Device, played}
-use Rattle.driver.specs.Sequence.{sent, writeBytes, latePoll, more, pageWait, page, pageActs}
+use Rattle.driver.specs.Sequence.{sent, writeBytes, latePoll, pollsOn, pageWait, wrenAndWrite, pageActs}
 use Rattle.driver.specs.Counts.{roundedUp}
 use Rattle.driver.proofs.Playing.{played-append, sent-append}
 use Rattle.driver.proofs.Frames.{poll-leaves}
-use Rattle.driver.proofs.Waits.{more-free}
+use Rattle.driver.proofs.Waits.{polls-on-free}
 use Rattle.driver.proofs.Polls.{waited, late}
 
 abbrev wrenBytes : List ℕ
@@ -82,11 +82,11 @@ abbrev pub settled : ℕ → Core → Core
 settled t c = withTime t 0 (withoutCycle m95512 c)
 
 -- a wait of a device in which a cycle runs is polls while it does
-wait-running : (i limit : ℕ) (d : Device) → 1 ≤ limit → running (d .core) ≡ true → pageWait m95512 i limit d ≡ more m95512 i limit d
-unfolding pageWait more
+wait-running : (i limit : ℕ) (d : Device) → 1 ≤ limit → running (d .core) ≡ true → pageWait m95512 i limit d ≡ pollsOn m95512 i limit d
+unfolding pageWait pollsOn
 wait-running i limit d h r =
     let one : limit ≡ suc (limit - 1) = omega arith in
-    sym (ap (λ (n : ℕ). more m95512 i n d) one ∙ at-yes _ _ r)
+    sym (ap (λ (n : ℕ). pollsOn m95512 i n d) one ∙ at-yes _ _ r)
 
 module _ (i limit : ℕ) (some : 0 < i) (small : i ≤ 5000) (polls : 1 ≤ limit) (d : Device) (low : d .core .last < 2 ^ 32) (none : d .core .left ≡ 0)
     (cycle : 0 < d .core .cycle) (a : ℕ) (bytes : List ℕ) (inside : a < 65536) (carries : 0 < length bytes) where
@@ -95,7 +95,7 @@ module _ (i limit : ℕ) (some : 0 < i) (small : i ≤ 5000) (polls : 1 ≤ limi
 
   -- after WREN and WRITE
   abbrev begun : Device
-  begun = played m95512 (page m95512 a bytes) d
+  begun = played m95512 (wrenAndWrite m95512 a bytes) d
 
   abbrev enabled : Core
   enabled = withWel 1 (d .core)
@@ -115,11 +115,11 @@ module _ (i limit : ℕ) (some : 0 < i) (small : i ≤ 5000) (polls : 1 ≤ limi
 
   counted : (n : ℕ) → sent (pageWait m95512 i limit begun) ≡ n → sent acts ≡ 2 + n
   unfolding pageActs
-  counted n e = omega (arith, sent-append (page m95512 a bytes) (pageWait m95512 i limit begun), e)
+  counted n e = omega (arith, sent-append (wrenAndWrite m95512 a bytes) (pageWait m95512 i limit begun), e)
 
   leaves : left ≡ played m95512 (pageWait m95512 i limit begun) begun
   unfolding pageActs
-  leaves = played-append m95512 (page m95512 a bytes) (pageWait m95512 i limit begun) d
+  leaves = played-append m95512 (wrenAndWrite m95512 a bytes) (pageWait m95512 i limit begun) d
 
   -- ---- it is taken, and the polls suffice: its cycle ends
 
@@ -197,10 +197,10 @@ module _ (i limit : ℕ) (some : 0 < i) (small : i ≤ 5000) (polls : 1 ≤ limi
       let x = played m95512 (latePoll i begun) begun in
       let core : x .core ≡ withTime t 0 enabled =
       poll-leaves (timed m95512 t (begun .core)) ∙ on-core m95512 t (begun .core) still ∙ ap (λ (n : ℕ). withTime t n (begun .core)) spent ∙ ap (withTime t 0) c in
-      let over = more-free m95512 i x (limit - 1) (ap running core) in
-      let y : left ≡ x = leaves ∙ played-append m95512 (latePoll i begun) (more m95512 i (limit - 1) x) begun ∙ ap (λ (l : List Act). played m95512 l x) over in
+      let over = polls-on-free m95512 i x (limit - 1) (ap running core) in
+      let y : left ≡ x = leaves ∙ played-append m95512 (latePoll i begun) (pollsOn m95512 i (limit - 1) x) begun ∙ ap (λ (l : List Act). played m95512 l x) over in
       record {
-        frames = counted 1 (sent-append (latePoll i begun) (more m95512 i (limit - 1) x) ∙ omega (arith, ap sent over));
+        frames = counted 1 (sent-append (latePoll i begun) (pollsOn m95512 i (limit - 1) x) ∙ omega (arith, ap sent over));
         read = t;
         core = ap (λ (z : Device). z .core) y ∙ core;
         memory = ap (λ (z : Device). z .memory) y ∙ no-end m95512 t (begun .core) (d .memory) still;

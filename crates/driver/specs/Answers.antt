@@ -17,7 +17,7 @@ use Rattle.driver.specs.declared.Sent.{Sent}
 use Rattle.driver.specs.declared.Answer.{Answer}
 use Rattle.driver.specs.declared.Answer.the-variants.{Done, TimedOut, NotTaken, Refused}
 use Rattle.driver.specs.declared.Driven.{Driven}
-use Rattle.driver.specs.Sequence.{sent, Ending, allDone, timedOut, notTaken, Run, run}
+use Rattle.driver.specs.Sequence.{sent, device, Ending, allDone, timedOut, notTaken, Run, run}
 
 -- ---- the answer
 
@@ -41,18 +41,22 @@ answerFrames (TimedOut s) = s .frames
 answerFrames (NotTaken s) = s .frames
 answerFrames (Refused r) = 0
 
--- of a run, by its ending
+-- by the ending of a run
 abbrev pub endingAnswer : Ending → Sent → Answer
 endingAnswer allDone s = Done s
 endingAnswer timedOut s = TimedOut s
 endingAnswer notTaken s = NotTaken s
 
--- the page parts of one, after so many frames
-abbrev pub partsAnswer : ℕ → Run → Answer
-partsAnswer before r = endingAnswer (r .ending) (record { pages = r .pages; frames = before + sent (r .acts) })
+-- of a run in which so many frames were sent ..
+abbrev pub countedAnswer : ℕ → Run → Answer
+countedAnswer frames r = endingAnswer (r .ending) (record { pages = r .pages; frames = frames })
 
+-- .. its own, and, for its page parts, some before them
 abbrev pub runAnswer : Run → Answer
-runAnswer r = endingAnswer (r .ending) (record { pages = r .pages; frames = sent (r .acts) })
+runAnswer r = countedAnswer (sent (r .acts)) r
+
+abbrev pub partsAnswer : ℕ → Run → Answer
+partsAnswer before r = countedAnswer (before + sent (r .acts)) r
 
 -- ---- the refusals: 1, 2, 7, 8 in that order, also with no data
 
@@ -60,15 +64,19 @@ runAnswer r = endingAnswer (r .ending) (record { pages = r .pages; frames = sent
 abbrev pub pollsFit : Part → ℕ → ℕ → Bool
 pollsFit P interval limit = leb 1 interval && leb interval (P .longest) && leb 1 limit && leb limit (P .longest + 1)
 
-abbrev pub driveOutcome : Part → Core → ℕ → ℕ → ℕ → ℕ → ℕ → Outcome
-driveOutcome P c size a len interval limit =
+-- what stands for each of them, and for none
+abbrev pub driveChoice : {A : Type 0} → Part → Core → ℕ → ℕ → ℕ → ℕ → ℕ → A → A → A → A → A → A
+driveChoice P c size a len interval limit one two seven eight done =
     pick (eqb size (P .size))
     (pick (inRanges P c)
     (pick (leb (a + len) (P .size))
-    (pick (pollsFit P interval limit) outcome.Done (outcome.Refused PollRange))
-    (outcome.Refused AddressRange))
-    (outcome.Refused RecordRange))
-    (outcome.Refused MemoryLength)
+    (pick (pollsFit P interval limit) done
+    eight) seven) two) one
+
+abbrev pub driveOutcome : Part → Core → ℕ → ℕ → ℕ → ℕ → ℕ → Outcome
+driveOutcome P c size a len interval limit =
+    driveChoice P c size a len interval limit
+    (outcome.Refused MemoryLength) (outcome.Refused RecordRange) (outcome.Refused AddressRange) (outcome.Refused PollRange) outcome.Done
 
 -- the number of the answer
 abbrev pub endingNumber : Ending → ℕ
@@ -77,8 +85,16 @@ endingNumber timedOut = 9
 endingNumber notTaken = 10
 
 abbrev pub driveNumber : Part → Core → ℕ → ℕ → ℕ → ℕ → ℕ → Ending → ℕ
-driveNumber P c size a len interval limit e =
-    pick (eqb size (P .size)) (pick (inRanges P c) (pick (leb (a + len) (P .size)) (pick (pollsFit P interval limit) (endingNumber e) 8) 7) 2) 1
+driveNumber P c size a len interval limit e = driveChoice P c size a len interval limit 1 2 7 8 (endingNumber e)
+
+-- its pages done, and its frames sent: those of the run, 0 in a refusal
+abbrev pub drivePages : Part → Core → List ℕ → ℕ → List ℕ → ℕ → ℕ → ℕ
+drivePages P c m a bytes interval limit =
+    driveChoice P c (length m) a (length bytes) interval limit 0 0 0 0 (run P interval limit a bytes (device c m) .pages)
+
+abbrev pub driveFrames : Part → Core → List ℕ → ℕ → List ℕ → ℕ → ℕ → ℕ
+driveFrames P c m a bytes interval limit =
+    driveChoice P c (length m) a (length bytes) interval limit 0 0 0 0 (sent (run P interval limit a bytes (device c m) .acts))
 
 -- ---- what is handed back, and what is left in the memory
 
@@ -87,16 +103,16 @@ answered outcome.Done r = runAnswer r
 answered (outcome.Refused e) r = Refused e
 
 abbrev pub leaves : Part → Run → Core → List ℕ → Device
-leaves P r c m = played P (r .acts) (record { core = c; memory = m })
+leaves P r c m = played P (r .acts) (device c m)
 
 unfoldable pub driven : Part → Core → List ℕ → ℕ → List ℕ → ℕ → ℕ → Driven
 driven P c m a bytes interval limit =
     let o = driveOutcome P c (length m) a (length bytes) interval limit in
-    let r = run P interval limit a bytes (record { core = c; memory = m }) in
+    let r = run P interval limit a bytes (device c m) in
     record { answer = answered o r; core = pick (isDone o) (leaves P r c m .core) c }
 
 unfoldable pub drivenMemory : Part → Core → List ℕ → ℕ → List ℕ → ℕ → ℕ → List ℕ
 drivenMemory P c m a bytes interval limit =
     let o = driveOutcome P c (length m) a (length bytes) interval limit in
-    let r = run P interval limit a bytes (record { core = c; memory = m }) in
+    let r = run P interval limit a bytes (device c m) in
     pick (isDone o) (leaves P r c m .memory) m

@@ -15,10 +15,10 @@ abbrev pub pageFrames : ℕ → Core → ℕ
 pageFrames interval c₀ = 2 + roundedUp (c₀ .cycle) interval
 
 -- all parts done; or the first one's wait used its limit and its cycle still runs; or the next part is protected, and WRDI has cleared WEL
-abbrev pub Tells : Part → ℕ → ℕ → ℕ → ℕ → Core → Ending → ℕ → ℕ → ℕ → ℕ → Core → Type 0
-Tells P interval limit a len c₀ allDone n k pages frames c = (pages ≡ n) × ((frames ≡ n * pageFrames interval c₀) × (c .left ≡ 0))
-Tells P interval limit a len c₀ timedOut n k pages frames c =
+abbrev pub Meaning : Part → ℕ → ℕ → ℕ → ℕ → Core → Ending → ℕ → ℕ → ℕ → ℕ → Core → Type 0
+Meaning P interval limit a len c₀ allDone n k pages frames c = (pages ≡ n) × ((frames ≡ n * pageFrames interval c₀) × (c .left ≡ 0))
+Meaning P interval limit a len c₀ timedOut n k pages frames c =
     (pages ≡ 0) × ((frames ≡ 2 + limit) × ((limit * interval < c₀ .cycle) × (c .left ≡ c₀ .cycle - limit * interval)))
-Tells P interval limit a len c₀ notTaken n k pages frames c =
+Meaning P interval limit a len c₀ notTaken n k pages frames c =
     (protects P c₀ (splitAddress (P .size) (P .page) a len (k + pages)) ≡ true)
     × ((frames ≡ pages * pageFrames interval c₀ + 4) × ((c .left ≡ 0) × (c .wel ≡ 0)))

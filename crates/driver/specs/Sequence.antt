@@ -51,8 +51,8 @@ sent (reading t ∷ acts) = sent acts
 abbrev pub device : Core → List ℕ → Device
 device c m = record { core = c; memory = m }
 
-abbrev pub through : Part → (Device → List Act) → Core → List ℕ → Device
-through P acts c m = played P (acts (device c m)) (device c m)
+abbrev pub playedFrom : Part → (Device → List Act) → Core → List ℕ → Device
+playedFrom P acts c m = played P (acts (device c m)) (device c m)
 
 -- ---- a wait
 
@@ -65,26 +65,26 @@ abbrev pub latePoll : ℕ → Device → List Act
 latePoll interval d = moved interval d ∷ rdsr ∷ []
 
 -- polls while WIP is 1 and some are left
-unfoldable pub more : Part → ℕ → ℕ → Device → List Act
-more P interval zero d = []
-more P interval (suc left) d =
-    pick (running (d .core)) (latePoll interval d ++ more P interval left (played P (latePoll interval d) d)) []
+unfoldable pub pollsOn : Part → ℕ → ℕ → Device → List Act
+pollsOn P interval zero d = []
+pollsOn P interval (suc left) d =
+    pick (running (d .core)) (latePoll interval d ++ pollsOn P interval left (played P (latePoll interval d) d)) []
 
 -- the first wait polls without moving the clock ..
 unfoldable pub firstWait : Part → ℕ → ℕ → Device → List Act
-firstWait P interval limit d = rdsr ∷ more P interval (limit - 1) (acted P rdsr d)
+firstWait P interval limit d = rdsr ∷ pollsOn P interval (limit - 1) (acted P rdsr d)
 
 -- .. and that of a page moves it before each poll
 unfoldable pub pageWait : Part → ℕ → ℕ → Device → List Act
-pageWait P interval limit d = latePoll interval d ++ more P interval (limit - 1) (played P (latePoll interval d) d)
+pageWait P interval limit d = latePoll interval d ++ pollsOn P interval (limit - 1) (played P (latePoll interval d) d)
 
 -- ---- a page: WREN and WRITE without moving the clock, then its wait
 
-abbrev pub page : Part → ℕ → List ℕ → List Act
-page P a bytes = wren ∷ write P a bytes ∷ []
+abbrev pub wrenAndWrite : Part → ℕ → List ℕ → List Act
+wrenAndWrite P a bytes = wren ∷ write P a bytes ∷ []
 
 unfoldable pub pageActs : Part → ℕ → ℕ → ℕ → List ℕ → Device → List Act
-pageActs P interval limit a bytes d = page P a bytes ++ pageWait P interval limit (played P (page P a bytes) d)
+pageActs P interval limit a bytes d = wrenAndWrite P a bytes ++ pageWait P interval limit (played P (wrenAndWrite P a bytes) d)
 
 -- ---- a run
 

@@ -8,8 +8,8 @@ ghost use Prim.Native.Nat.{_≤_};
 ghost use lib.ListN.{length};
 ghost use Rattle.chip.specs.Part.{m95512};
 ghost use Rattle.chip.specs.Ranges.{inRanges};
-ghost use Rattle.driver.specs.Sequence.{device, through, run};
-ghost use Rattle.driver.specs.Answers.{answerNumber, runAnswer, driveNumber, driven, drivenMemory};
+ghost use Rattle.driver.specs.Sequence.{device, playedFrom, run};
+ghost use Rattle.driver.specs.Answers.{answerNumber, answerPages, answerFrames, runAnswer, driveNumber, drivePages, driveFrames, driven, drivenMemory};
 use chip::Core;
 use chip::Outcome;
 use chip::Refusal;
@@ -51,8 +51,8 @@ fn drive(
     requires { ⌜ length (now memory) ≡ 65536 ⌝ }
     requires { ⌜ inRanges m95512 core ≡ true ⌝ }
     requires { ⌜ (1 ≤ limit) × (limit ≤ 5001) ⌝ }
-    ensures { λ r. ⌜ r ≡ record { answer = runAnswer (run m95512 interval limit address (now (bytes .entry)) (device core (now (memory .entry)))); core = through m95512 (λ d. run m95512 interval limit address (now (bytes .entry)) d .acts) core (now (memory .entry)) .core } ⌝ }
-    ensures { λ _. ⌜ now (memory .exit) ≡ through m95512 (λ d. run m95512 interval limit address (now (bytes .entry)) d .acts) core (now (memory .entry)) .memory ⌝ }
+    ensures { λ r. ⌜ r ≡ record { answer = runAnswer (run m95512 interval limit address (now (bytes .entry)) (device core (now (memory .entry)))); core = playedFrom m95512 (λ d. run m95512 interval limit address (now (bytes .entry)) d .acts) core (now (memory .entry)) .core } ⌝ }
+    ensures { λ _. ⌜ now (memory .exit) ≡ playedFrom m95512 (λ d. run m95512 interval limit address (now (bytes .entry)) d .acts) core (now (memory .entry)) .memory ⌝ }
 {
     if bytes.len() == 0 {
         return Driven {
@@ -91,6 +91,8 @@ pub fn write(
 ) -> Driven
     ensures { λ r. ⌜ r ≡ driven m95512 core (now (memory .entry)) address (now (bytes .entry)) interval limit ⌝ }
     ensures { λ r. ⌜ answerNumber (r .answer) ≡ driveNumber m95512 core (length (now (memory .entry))) address (length (now (bytes .entry))) interval limit (run m95512 interval limit address (now (bytes .entry)) (device core (now (memory .entry))) .ending) ⌝ }
+    ensures { λ r. ⌜ answerPages (r .answer) ≡ drivePages m95512 core (now (memory .entry)) address (now (bytes .entry)) interval limit ⌝ }
+    ensures { λ r. ⌜ answerFrames (r .answer) ≡ driveFrames m95512 core (now (memory .entry)) address (now (bytes .entry)) interval limit ⌝ }
     ensures { λ _. ⌜ now (memory .exit) ≡ drivenMemory m95512 core (now (memory .entry)) address (now (bytes .entry)) interval limit ⌝ }
 {
     match refused::outcome(core, memory.len(), address, bytes.len(), interval, limit) {

@@ -9,7 +9,7 @@ ghost use Rattle.chip.specs.Records.{status};
 ghost use Rattle.chip.specs.Status.{on, bitOf};
 ghost use Rattle.split.specs.Split.{count, splitAddress};
 ghost use Rattle.split.specs.Pieces.{piece};
-ghost use Rattle.driver.specs.Sequence.{sent, device, through, pageActs, allParts};
+ghost use Rattle.driver.specs.Sequence.{sent, device, playedFrom, pageActs, allParts};
 ghost use Rattle.driver.specs.Answers.{partsAnswer};
 use crate::Answer;
 use crate::Driven;
@@ -39,10 +39,10 @@ fn write_page(
     requires { ⌜ address < 65536 ⌝ }
     requires { ⌜ length (now bytes) ≤ 128 ⌝ }
     requires { ⌜ (1 ≤ limit) × (limit ≤ 5001) ⌝ }
-    ensures { λ r. ⌜ r .core ≡ through m95512 (pageActs m95512 interval limit address (now (bytes .entry))) core (now (memory .entry)) .core ⌝ }
+    ensures { λ r. ⌜ r .core ≡ playedFrom m95512 (pageActs m95512 interval limit address (now (bytes .entry))) core (now (memory .entry)) .core ⌝ }
     ensures { λ r. ⌜ r .status ≡ status (r .core) ⌝ }
     ensures { λ r. ⌜ r .frames ≡ sent (pageActs m95512 interval limit address (now (bytes .entry)) (device core (now (memory .entry)))) ⌝ }
-    ensures { λ _. ⌜ now (memory .exit) ≡ through m95512 (pageActs m95512 interval limit address (now (bytes .entry))) core (now (memory .entry)) .memory ⌝ }
+    ensures { λ _. ⌜ now (memory .exit) ≡ playedFrom m95512 (pageActs m95512 interval limit address (now (bytes .entry))) core (now (memory .entry)) .memory ⌝ }
 {
     let wren = [WREN];
     let enabled = send(core, memory, &wren);
@@ -64,10 +64,10 @@ fn write_part(
     requires { ⌜ inRanges m95512 core ≡ true ⌝ }
     requires { ⌜ (1 ≤ limit) × (limit ≤ 5001) ⌝ }
     requires { ⌜ k < count 65536 128 address (length (now bytes)) ⌝ }
-    ensures { λ r. ⌜ r .core ≡ through m95512 (pageActs m95512 interval limit (splitAddress 65536 128 address (length (now (bytes .entry))) k) (piece 65536 128 address (now (bytes .entry)) k)) core (now (memory .entry)) .core ⌝ }
+    ensures { λ r. ⌜ r .core ≡ playedFrom m95512 (pageActs m95512 interval limit (splitAddress 65536 128 address (length (now (bytes .entry))) k) (piece 65536 128 address (now (bytes .entry)) k)) core (now (memory .entry)) .core ⌝ }
     ensures { λ r. ⌜ r .status ≡ status (r .core) ⌝ }
     ensures { λ r. ⌜ r .frames ≡ sent (pageActs m95512 interval limit (splitAddress 65536 128 address (length (now (bytes .entry))) k) (piece 65536 128 address (now (bytes .entry)) k) (device core (now (memory .entry)))) ⌝ }
-    ensures { λ _. ⌜ now (memory .exit) ≡ through m95512 (pageActs m95512 interval limit (splitAddress 65536 128 address (length (now (bytes .entry))) k) (piece 65536 128 address (now (bytes .entry)) k)) core (now (memory .entry)) .memory ⌝ }
+    ensures { λ _. ⌜ now (memory .exit) ≡ playedFrom m95512 (pageActs m95512 interval limit (splitAddress 65536 128 address (length (now (bytes .entry))) k) (piece 65536 128 address (now (bytes .entry)) k)) core (now (memory .entry)) .memory ⌝ }
 {
     let n = bytes.len() as u64;
     let start = cartvesper_split_address(address, n, k);
@@ -110,8 +110,8 @@ pub(crate) fn write_parts(
     requires { ⌜ inRanges m95512 core ≡ true ⌝ }
     requires { ⌜ (1 ≤ limit) × (limit ≤ 5001) ⌝ }
     requires { ⌜ sent ≤ 5001 ⌝ }
-    ensures { λ r. ⌜ r ≡ record { answer = partsAnswer sent (allParts m95512 interval limit address (now (bytes .entry)) (device core (now (memory .entry)))); core = through m95512 (λ d. allParts m95512 interval limit address (now (bytes .entry)) d .acts) core (now (memory .entry)) .core } ⌝ }
-    ensures { λ _. ⌜ now (memory .exit) ≡ through m95512 (λ d. allParts m95512 interval limit address (now (bytes .entry)) d .acts) core (now (memory .entry)) .memory ⌝ }
+    ensures { λ r. ⌜ r ≡ record { answer = partsAnswer sent (allParts m95512 interval limit address (now (bytes .entry)) (device core (now (memory .entry)))); core = playedFrom m95512 (λ d. allParts m95512 interval limit address (now (bytes .entry)) d .acts) core (now (memory .entry)) .core } ⌝ }
+    ensures { λ _. ⌜ now (memory .exit) ≡ playedFrom m95512 (λ d. allParts m95512 interval limit address (now (bytes .entry)) d .acts) core (now (memory .entry)) .memory ⌝ }
 {
     let parts = cartvesper_split_parts(address, bytes.len() as u64, 0);
     let mut next = core;

@@ -6,7 +6,7 @@ ghost use lib.ListN.{length};
 ghost use Rattle.chip.specs.Part.{m95512};
 ghost use Rattle.chip.specs.Ranges.{inRanges};
 ghost use Rattle.chip.specs.Records.{status};
-ghost use Rattle.driver.specs.Sequence.{sent, device, through, latePoll, more, firstWait, pageWait};
+ghost use Rattle.driver.specs.Sequence.{sent, device, playedFrom, latePoll, pollsOn, firstWait, pageWait};
 use crate::sending::Polled;
 use crate::sending::poll;
 use chip::Core;
@@ -33,9 +33,9 @@ impl Waited {
 fn late_poll(core: Core, memory: &mut [u8], interval: u32) -> Polled
     requires { ⌜ length (now memory) ≡ 65536 ⌝ }
     requires { ⌜ inRanges m95512 core ≡ true ⌝ }
-    ensures { λ r. ⌜ r .core ≡ through m95512 (latePoll interval) core (now (memory .entry)) .core ⌝ }
+    ensures { λ r. ⌜ r .core ≡ playedFrom m95512 (latePoll interval) core (now (memory .entry)) .core ⌝ }
     ensures { λ r. ⌜ r .status ≡ status (r .core) ⌝ }
-    ensures { λ _. ⌜ now (memory .exit) ≡ through m95512 (latePoll interval) core (now (memory .entry)) .memory ⌝ }
+    ensures { λ _. ⌜ now (memory .exit) ≡ playedFrom m95512 (latePoll interval) core (now (memory .entry)) .memory ⌝ }
 {
     let reading = std::num::wrapping_add_u32(core.last, interval);
     let timed = chip::clock_reading(core, reading, memory);
@@ -48,10 +48,10 @@ fn poll_on(seen: Polled, memory: &mut [u8], interval: u32, left: u32) -> Waited
     requires { ⌜ length (now memory) ≡ 65536 ⌝ }
     requires { ⌜ inRanges m95512 (seen .core) ≡ true ⌝ }
     requires { ⌜ seen .status ≡ status (seen .core) ⌝ }
-    ensures { λ r. ⌜ r .core ≡ through m95512 (more m95512 interval left) (seen .core) (now (memory .entry)) .core ⌝ }
+    ensures { λ r. ⌜ r .core ≡ playedFrom m95512 (pollsOn m95512 interval left) (seen .core) (now (memory .entry)) .core ⌝ }
     ensures { λ r. ⌜ r .status ≡ status (r .core) ⌝ }
-    ensures { λ r. ⌜ r .frames ≡ sent (more m95512 interval left (device (seen .core) (now (memory .entry)))) ⌝ }
-    ensures { λ _. ⌜ now (memory .exit) ≡ through m95512 (more m95512 interval left) (seen .core) (now (memory .entry)) .memory ⌝ }
+    ensures { λ r. ⌜ r .frames ≡ sent (pollsOn m95512 interval left (device (seen .core) (now (memory .entry)))) ⌝ }
+    ensures { λ _. ⌜ now (memory .exit) ≡ playedFrom m95512 (pollsOn m95512 interval left) (seen .core) (now (memory .entry)) .memory ⌝ }
 {
     let mut polled = seen;
     let mut polls: u32 = 0;
@@ -73,10 +73,10 @@ pub(crate) fn first_wait(core: Core, memory: &mut [u8], interval: u32, limit: u3
     requires { ⌜ length (now memory) ≡ 65536 ⌝ }
     requires { ⌜ inRanges m95512 core ≡ true ⌝ }
     requires { ⌜ (1 ≤ limit) × (limit ≤ 5001) ⌝ }
-    ensures { λ r. ⌜ r .core ≡ through m95512 (firstWait m95512 interval limit) core (now (memory .entry)) .core ⌝ }
+    ensures { λ r. ⌜ r .core ≡ playedFrom m95512 (firstWait m95512 interval limit) core (now (memory .entry)) .core ⌝ }
     ensures { λ r. ⌜ r .status ≡ status (r .core) ⌝ }
     ensures { λ r. ⌜ r .frames ≡ sent (firstWait m95512 interval limit (device core (now (memory .entry)))) ⌝ }
-    ensures { λ _. ⌜ now (memory .exit) ≡ through m95512 (firstWait m95512 interval limit) core (now (memory .entry)) .memory ⌝ }
+    ensures { λ _. ⌜ now (memory .exit) ≡ playedFrom m95512 (firstWait m95512 interval limit) core (now (memory .entry)) .memory ⌝ }
 {
     let seen = poll(core, memory);
     poll_on(seen, memory, interval, limit - 1).and_sent(1)
@@ -87,10 +87,10 @@ pub(crate) fn page_wait(core: Core, memory: &mut [u8], interval: u32, limit: u32
     requires { ⌜ length (now memory) ≡ 65536 ⌝ }
     requires { ⌜ inRanges m95512 core ≡ true ⌝ }
     requires { ⌜ (1 ≤ limit) × (limit ≤ 5001) ⌝ }
-    ensures { λ r. ⌜ r .core ≡ through m95512 (pageWait m95512 interval limit) core (now (memory .entry)) .core ⌝ }
+    ensures { λ r. ⌜ r .core ≡ playedFrom m95512 (pageWait m95512 interval limit) core (now (memory .entry)) .core ⌝ }
     ensures { λ r. ⌜ r .status ≡ status (r .core) ⌝ }
     ensures { λ r. ⌜ r .frames ≡ sent (pageWait m95512 interval limit (device core (now (memory .entry)))) ⌝ }
-    ensures { λ _. ⌜ now (memory .exit) ≡ through m95512 (pageWait m95512 interval limit) core (now (memory .entry)) .memory ⌝ }
+    ensures { λ _. ⌜ now (memory .exit) ≡ playedFrom m95512 (pageWait m95512 interval limit) core (now (memory .entry)) .memory ⌝ }
 {
     let seen = late_poll(core, memory, interval);
     poll_on(seen, memory, interval, limit - 1).and_sent(1)

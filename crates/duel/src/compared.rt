@@ -9,11 +9,8 @@ use crate::run::same_at;
 use chip::Core;
 use chip::Latch;
 use chip::Waiting;
+use chip::wide;
 use pins::Device;
-
-fn wide(byte: u8) -> u32 {
-    byte as u32
-}
 
 // Bit k of a run of bytes, the high bit of the first byte being bit 0; 1 past the end.
 pub fn bit_at(bytes: &[u8], k: usize) -> u8 {

@@ -1,4 +1,4 @@
--- Theorems on frames, the worked cases, and the facts that the functions' proofs share.
+-- Theorems on frames, case f, and the facts that the functions' proofs share.
 pub mod Latching
 pub mod Padding
 pub mod Showing

@@ -1,15 +1,15 @@
 -- The bytes that a frame shows, as the code puts them together and as tables.
 use mathlib.Core.Path.{_≡_, refl, ap, sym, _∙_}
 use mathlib.Core.List.{List, _++_}
-use mathlib.Core.Bool.{Bool, false}
+use mathlib.Core.Bool.{Bool, true, false, _&&_}
 use Prim.Native.Nat.{ℕ, zero, suc, _+_, _-_, _%_, _<_, _≤_}
 use native.Mathlib.Decide.{decLt}
 use native.Mathlib.Omega.{arith}
 use lib.ListN.{length, getD, set, take, drop, replicate, length-drop, length-append, length-set, length-replicate, getD-replicate}
 use lib.Seq.{length-take-le, getD-set-same, getD-set-other}
 use lib.Dec.{leb, ltb}
-use borrow.Author.Tests.{le-leb}
-use Rattle.laws.specs.Pick.{pick, lt-so, ge-so, le-so, gt-so, yes-so, no-so}
+use borrow.Author.Tests.{le-leb, lt-leb}
+use Rattle.laws.specs.Pick.{pick, lt-so, ge-so, yes-so, no-so, and-both, and-no-left}
 use Rattle.laws.specs.Spliced.{spliced, two-parts}
 use Rattle.laws.specs.Filled.{filled, filled-all}
 use Rattle.laws.specs.Table.{table, table-is, table-cong, table-part, table-append, table-replicate}
@@ -93,21 +93,21 @@ status-bytes n v = table-is _ (set (replicate n v) 0 255) n 0 (length-set (repli
 
 -- the cells after three bytes of code and address
 pub read-bytes : (m : List ℕ) (a n : ℕ) → 3 ≤ n
-    → replicate 3 255 ++ table (n - 3) (λ d. getD m ((a + d) % 65536) 0) ≡ table n (λ j. pick (leb 3 j) (getD m ((a + (j - 3)) % 65536) 0) 255)
+    → replicate 3 255 ++ table (n - 3) (λ d. getD m ((a + d) % 65536) 0) ≡ table n (λ j. pick (leb 3 j && true) (getD m ((a + (j - 3)) % 65536) 0) 255)
 read-bytes m a n h =
     let all : 3 + (n - 3) ≡ n = omega arith in
     ap (λ (l : List ℕ). l ++ table (n - 3) cells) (table-replicate 3 255)
     ∙ table-append (λ j. 255) cells 3 (n - 3) 0
     ∙ ap (λ (k : ℕ). table k (λ j. pick (ltb j 3) 255 (cells (j - 3)))) all
-    ∙ table-cong (λ j. pick (ltb j 3) 255 (cells (j - 3))) (λ j. pick (leb 3 j) (cells (j - 3)) 255) n 0 at
+    ∙ table-cong (λ j. pick (ltb j 3) 255 (cells (j - 3))) (λ j. pick (leb 3 j && true) (cells (j - 3)) 255) n 0 at
   where
     cells : ℕ → ℕ
     cells d = getD m ((a + d) % 65536) 0
 
-    at : (j : ℕ) → j < n → pick (ltb j 3) 255 (cells (j - 3)) ≡ pick (leb 3 j) (cells (j - 3)) 255
+    at : (j : ℕ) → j < n → pick (ltb j 3) 255 (cells (j - 3)) ≡ pick (leb 3 j && true) (cells (j - 3)) 255
     at j b = elim (decLt j 3) [
-      | yes p ↦ gt-so _ p (sym (lt-so _ p refl))
+      | yes p ↦ no-so _ (and-no-left (leb 3 j) true (lt-leb 3 j p)) (sym (lt-so _ p refl))
       | no p ↦
           let past : 3 ≤ j = omega arith in
-          le-so _ past (sym (ge-so _ past refl))
+          yes-so _ (and-both (leb 3 j) true (le-leb 3 j past) refl) (sym (ge-so _ past refl))
     ]

@@ -1,6 +1,6 @@
 -- The count of undriven bits is right: bit k of a frame is driven exactly if it is not among the leading ones that are counted.
 use mathlib.Core.Path.{_≡_, ap, sym, _∙_}
-use mathlib.Core.Bool.{Bool, true, false, not}
+use mathlib.Core.Bool.{Bool, true, false, not, and-true, and-false}
 use Prim.Native.Nat.{ℕ, _+_, _*_, _/_, _<_, min}
 use native.Mathlib.Decide.{decLt}
 use native.Mathlib.Omega.{arith}
@@ -8,9 +8,10 @@ use lib.Dec.{leb, ltb}
 use borrow.Author.Tests.{lt-ltb, le-ltb, le-leb, lt-leb}
 use Rattle.laws.specs.Pick.{pick}
 use Rattle.chip.specs.Part.{Part}
+use Rattle.chip.specs.Output.{outputs}
 use Rattle.chip.specs.declared.Instruction.{Instruction}
 use Rattle.chip.specs.declared.Instruction.the-variants.{Wren, Wrdi, Rdsr, Wrsr, Read, Write, Silence}
-use Rattle.frames.specs.Shown.{drives, undriven}
+use Rattle.frames.specs.Shown.{undriven}
 
 module _ (k n : ℕ) (h : k < n) where
   -- Q is driven from byte b on
@@ -24,13 +25,13 @@ module _ (k n : ℕ) (h : k < n) where
   never : false ≡ not (ltb k n)
   never = sym (ap not (lt-ltb k n h))
 
-  pub undriven-right : (P : Part) (i : Instruction) (ran : Bool) → drives P i ran (k / 8) ≡ not (ltb k (undriven P i ran n))
+  pub undriven-right : (P : Part) (i : Instruction) (ran : Bool) → outputs P i (k / 8) ran ≡ not (ltb k (undriven P i ran n))
   unfolding pick
   undriven-right P Wren ran = never
   undriven-right P Wrdi ran = never
   undriven-right P Rdsr ran = from-byte 1
   undriven-right P Wrsr ran = never
-  undriven-right P Read true = never
-  undriven-right P Read false = from-byte (P .addressBytes + 1)
+  undriven-right P Read true = and-false (leb (P .addressBytes + 1) (k / 8)) ∙ never
+  undriven-right P Read false = and-true (leb (P .addressBytes + 1) (k / 8)) ∙ from-byte (P .addressBytes + 1)
   undriven-right P Write ran = never
   undriven-right P Silence ran = never

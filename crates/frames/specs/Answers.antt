@@ -28,16 +28,19 @@ bitsFit len n = pick (eqb len 0) (eqb n 0) (leb (8 * len - 7) n && leb n (8 * le
 abbrev pub longestFrame : Part → ℕ
 longestFrame P = P .size + 4
 
--- 1, 2, 3, 4, 5 in that order; size is the memory's length, len the slice's, room the output's
-abbrev pub frameOutcome : Part → Core → ℕ → ℕ → ℕ → ℕ → Outcome
-frameOutcome P c size len n room =
+-- what stands for refusals 1, 2, 3, 4, 5, in that order, and for none; size is the memory's length, len the slice's, room the output's
+abbrev pub frameChoice : {A : Type 0} → Part → Core → ℕ → ℕ → ℕ → ℕ → A → A → A → A → A → A → A
+frameChoice P c size len n room one two three four five done =
     pick (eqb size (P .size))
     (pick (inRanges P c)
     (pick (leb len (longestFrame P))
-    (pick (bitsFit len n) (pick (eqb room len) Done (Refused OutputLength)) (Refused BitCount))
-    (Refused FrameLength))
-    (Refused RecordRange))
-    (Refused MemoryLength)
+    (pick (bitsFit len n)
+    (pick (eqb room len) done
+    five) four) three) two) one
+
+abbrev pub frameOutcome : Part → Core → ℕ → ℕ → ℕ → ℕ → Outcome
+frameOutcome P c size len n room =
+    frameChoice P c size len n room (Refused MemoryLength) (Refused RecordRange) (Refused FrameLength) (Refused BitCount) (Refused OutputLength) Done
 
 -- the answer of a frame: how many leading bits were undriven, or the refusal
 abbrev pub answered : Outcome → ℕ → Answer
@@ -68,8 +71,7 @@ framedOutput P c m s n out =
 
 -- the number of the answer, and its undriven count
 abbrev pub frameNumber : Part → Core → ℕ → ℕ → ℕ → ℕ → ℕ
-frameNumber P c size len n room =
-    pick (eqb size (P .size)) (pick (inRanges P c) (pick (leb len (longestFrame P)) (pick (bitsFit len n) (pick (eqb room len) 0 5) 4) 3) 2) 1
+frameNumber P c size len n room = frameChoice P c size len n room 1 2 3 4 5 0
 
 abbrev pub frameUndriven : Part → Core → ℕ → List ℕ → ℕ → ℕ → ℕ
 frameUndriven P c size s n room =

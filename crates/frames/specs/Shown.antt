@@ -1,39 +1,27 @@
 -- What stands on Q over each byte of a frame, the output bytes, and how many leading bits were undriven.
 use Prim.Native.Nat.{ℕ, _+_, _*_, _-_, _/_, _%_, _^_, min}
-use mathlib.Core.Bool.{Bool, false, not, _&&_}
+use mathlib.Core.Bool.{Bool}
 use mathlib.Core.List.{List}
 use lib.ListN.{length, getD}
-use lib.Dec.{eqb, leb}
+use lib.Dec.{eqb}
 use Rattle.laws.specs.Pick.{pick}
 use Rattle.laws.specs.Table.{table}
 use Rattle.chip.specs.Part.{Part}
+use Rattle.chip.specs.Output.{outputs}
 use Rattle.chip.specs.declared.Instruction.{Instruction}
 use Rattle.chip.specs.declared.Instruction.the-variants.{Wren, Wrdi, Rdsr, Wrsr, Read, Write, Silence}
 use Rattle.frames.specs.Bytes.{instruction, address}
 
--- Q is driven over byte j: RDSR from bit 8 on; READ after its address, if no cycle ran at the eighth edge
-abbrev pub drives : Part → Instruction → Bool → ℕ → Bool
-drives P Wren ran j = false
-drives P Wrdi ran j = false
-drives P Rdsr ran j = leb 1 j
-drives P Wrsr ran j = false
-drives P Read ran j = not ran && leb (P .addressBytes + 1) j
-drives P Write ran j = false
-drives P Silence ran j = false
-
--- the byte that it shows there: the status sampled for data byte j − 1; the cells from the address up, rolling over
-abbrev pub dataByte : Part → Instruction → (ℕ → ℕ) → List ℕ → ℕ → ℕ → ℕ
-dataByte P Wren status m a j = 255
-dataByte P Wrdi status m a j = 255
-dataByte P Rdsr status m a j = status (j - 1)
-dataByte P Wrsr status m a j = 255
-dataByte P Read status m a j = getD m ((a + (j - (P .addressBytes + 1))) % P .size) 0
-dataByte P Write status m a j = 255
-dataByte P Silence status m a j = 255
-
--- undriven bits are written as 1
+-- what stands over byte j: where Q is driven, the status sampled for data byte j − 1, or the cells from the address up, rolling over; undriven
+-- bits are written as 1
 abbrev pub byteOut : Part → Instruction → Bool → (ℕ → ℕ) → List ℕ → ℕ → ℕ → ℕ
-byteOut P i ran status m a j = pick (drives P i ran j) (dataByte P i status m a j) 255
+byteOut P Wren ran status m a j = 255
+byteOut P Wrdi ran status m a j = 255
+byteOut P Rdsr ran status m a j = pick (outputs P Rdsr j ran) (status (j - 1)) 255
+byteOut P Wrsr ran status m a j = 255
+byteOut P Read ran status m a j = pick (outputs P Read j ran) (getD m ((a + (j - (P .addressBytes + 1))) % P .size) 0) 255
+byteOut P Write ran status m a j = 255
+byteOut P Silence ran status m a j = 255
 
 -- a byte with its u low bits at 1
 abbrev pub padded : ℕ → ℕ → ℕ

@@ -2,11 +2,13 @@
 ghost use mathlib.Core.Path.{_≡_};
 ghost use Prim.Native.Nat.{_+_, _*_, _-_, _%_, _<_, _≤_, min};
 ghost use lib.Dec.{eqb, leb};
-ghost use mathlib.Core.Bool.{true, not, _&&_};
+ghost use mathlib.Core.Bool.{true};
 ghost use lib.ListN.{length, getD, replicate};
 ghost use Rattle.laws.specs.Pick.{pick};
 ghost use Rattle.laws.specs.Table.{table};
 ghost use Rattle.chip.specs.Part.{m95512};
+ghost use Rattle.chip.specs.Output.{outputs};
+ghost use Rattle.chip.specs.declared.Instruction.the-variants.{Read};
 ghost use Rattle.frames.specs.Bytes.{instruction, address};
 ghost use Rattle.frames.specs.Answers.{bitsFit};
 ghost use Rattle.frames.specs.Shown.{byteOut, padded, output, undriven};
@@ -88,7 +90,7 @@ fn show_read(ran: bool, memory: &[u8], from: usize, out: &mut [u8])
     requires { ⌜ length (now memory) ≡ 65536 ⌝ }
     requires { ⌜ from < 65536 ⌝ }
     requires { ⌜ length (now out) ≤ 65540 ⌝ }
-    ensures { λ _. ⌜ now (out .exit) ≡ table (length (now (out .entry))) (λ j. pick (not ran && leb 3 j) (getD (now (memory .entry)) ((from + (j - 3)) % 65536) 0) 255) ⌝ }
+    ensures { λ _. ⌜ now (out .exit) ≡ table (length (now (out .entry))) (λ j. pick (outputs m95512 Read j ran) (getD (now (memory .entry)) ((from + (j - 3)) % 65536) 0) 255) ⌝ }
 {
     let n = out.len();
     if ran {

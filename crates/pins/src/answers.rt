@@ -3,6 +3,7 @@ ghost use mathlib.Core.Path.{_≡_};
 ghost use Rattle.pins.specs.Answers.{qNumber, qValue, statusNumber, statusValue};
 use crate::QAnswer;
 use crate::StatusAnswer;
+use chip::wide;
 
 impl QAnswer {
     pub fn number(self) -> u32
@@ -23,12 +24,6 @@ impl QAnswer {
             QAnswer::Unanswered(_) => 0,
         }
     }
-}
-
-fn wide(byte: u8) -> u32
-    ensures { λ r. ⌜ r ≡ byte ⌝ }
-{
-    byte as u32
 }
 
 impl StatusAnswer {

@@ -20,7 +20,7 @@ same-length c = search needs
 returns : tie.Need-returns
 returns c = (
   rw (c .before .before .number .ensures, c .before .pages .ensures, c .frames .ensures, c .before .before .before .before .before .before .write .ensures .0),
-  c .before .before .before .before .before .before .write .ensures .1 .1,
+  c .before .before .before .before .before .before .write .ensures .1 .1 .1 .1,
 )
 
 pub cartvesper-write-spec : {M : Type 1} → statement M

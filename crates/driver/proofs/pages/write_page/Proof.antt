@@ -10,7 +10,7 @@ use Rattle.chip.specs.Records.{running}
 use Rattle.chip.specs.declared.Core.{Core}
 use Rattle.frames.specs.After.{after}
 use Rattle.frames.specs.Play.{Device, played}
-use Rattle.driver.specs.Sequence.{wren, writeBytes, page}
+use Rattle.driver.specs.Sequence.{wren, writeBytes, wrenAndWrite}
 use Rattle.driver.proofs.Ready.{device-of, ready-played}
 use Rattle.driver.proofs.Joined.{told, page-acts, page-most}
 use borrow.Author.Needs.{needs}
@@ -45,7 +45,7 @@ page-wait-requires c κs =
     let start = c .before .before .before .before .before .before .before .before in
     let a = start .args in
     let d : Device = record { core = a .core; memory = a .memory .now } in
-    let ready = ready-played (page m95512 (a .address) (a .bytes .now)) d (record { whole = start .pre .0; ranges = start .pre .1 .0 }) in
+    let ready = ready-played (wrenAndWrite m95512 (a .address) (a .bytes .now)) d (record { whole = start .pre .0; ranges = start .pre .1 .0 }) in
     let begun = c .before .send-write .ensures ∙ ap (λ (x : Core). after m95512 (running x) true x (writeBytes m95512 (a .address) (a .bytes .now)) (8 * length (writeBytes m95512 (a .address) (a .bytes .now)))) (c .before .before .before .send .ensures) in
     (start .pre .0, (ap (inRanges m95512) begun ∙ ready .ranges, start .pre .1 .1 .1 .1))
 
@@ -71,7 +71,7 @@ returns c =
     let begun = c .before .before .before .before .before .send-write .ensures ∙ ap (λ (x : Core). after m95512 (running x) true x (writeBytes m95512 (a .address) (a .bytes .now)) (8 * length (writeBytes m95512 (a .address) (a .bytes .now)))) (c .before .before .before .before .before .before .before .send .ensures) in
     let d : Device = record { core = a .core; memory = a .memory .now } in
     let x : Device = record { core = c .before .before .before .before .before .send-write .result; memory = a .memory .now } in
-    let e = device-of (played m95512 (page m95512 (a .address) (a .bytes .now)) d) begun refl in
+    let e = device-of (played m95512 (wrenAndWrite m95512 (a .address) (a .bytes .now)) d) begun refl in
     told m95512 _ d _ x 2 (page-acts (a .interval) (a .limit) d x (a .address) (a .bytes .now) e) (wait .result) (c .and-sent .result) (wait .last .1 .0) (wait .ensures) (c .and-sent .ensures)
 
 pub write-page-spec : {M : Type 1} → statement M

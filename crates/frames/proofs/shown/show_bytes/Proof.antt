@@ -1,6 +1,5 @@
 -- By the instruction: five drive nothing, RDSR shows the status and READ the cells.
-use mathlib.Core.Path.{refl}
-use Rattle.frames.proofs.Showing.{all-undriven}
+use Rattle.laws.specs.Table.{table-replicate}
 use borrow.Author.Needs.{needs}
 use Rattle.frames.proofs.shown.show_bytes.Statement.{statement}
 use Rattle.frames.proofs.shown.show_bytes.Tie as tie
@@ -51,13 +50,13 @@ same-length : tie.Need-same-length
 same-length c = search needs
 
 returns : tie.Need-returns
-returns c = rw (c .before .before .fill .ensures, c .before .before .before .before .enum-told .given .1) (all-undriven _ _ _ (λ j b. refl))
+returns c = rw (c .before .before .fill .ensures, c .before .before .before .before .enum-told .given .1) (table-replicate _ 255)
 
 same-length-2 : tie.Need-same-length-2
 same-length-2 c = search needs
 
 returns-2 : tie.Need-returns-2
-returns-2 c = rw (c .before .before .fill2 .ensures, c .before .before .before .before .enum-told2 .given .1) (all-undriven _ _ _ (λ j b. refl))
+returns-2 c = rw (c .before .before .fill2 .ensures, c .before .before .before .before .enum-told2 .given .1) (table-replicate _ 255)
 
 same-length-3 : tie.Need-same-length-3
 same-length-3 c = search needs
@@ -69,7 +68,7 @@ same-length-4 : tie.Need-same-length-4
 same-length-4 c = search needs
 
 returns-4 : tie.Need-returns-4
-returns-4 c = rw (c .before .before .fill3 .ensures, c .before .before .before .before .enum-told4 .given .1) (all-undriven _ _ _ (λ j b. refl))
+returns-4 c = rw (c .before .before .fill3 .ensures, c .before .before .before .before .enum-told4 .given .1) (table-replicate _ 255)
 
 same-length-5 : tie.Need-same-length-5
 same-length-5 c = search needs
@@ -81,13 +80,13 @@ same-length-6 : tie.Need-same-length-6
 same-length-6 c = search needs
 
 returns-6 : tie.Need-returns-6
-returns-6 c = rw (c .before .before .fill4 .ensures, c .before .before .before .before .enum-told6 .given .1) (all-undriven _ _ _ (λ j b. refl))
+returns-6 c = rw (c .before .before .fill4 .ensures, c .before .before .before .before .enum-told6 .given .1) (table-replicate _ 255)
 
 same-length-7 : tie.Need-same-length-7
 same-length-7 c = search needs
 
 returns-7 : tie.Need-returns-7
-returns-7 c = rw (c .before .before .fill5 .ensures, c .before .before .before .before .enum-told7 .given .1) (all-undriven _ _ _ (λ j b. refl))
+returns-7 c = rw (c .before .before .fill5 .ensures, c .before .before .before .before .enum-told7 .given .1) (table-replicate _ 255)
 
 pub show-bytes-spec : {M : Type 1} → statement M
 show-bytes-spec =

@@ -1,8 +1,10 @@
 -- Nothing is driven where a cycle ran or the frame is too short; else three bytes of code and address, and then the cells.
 use Prim.Native.Nat.{_+_, _-_, _%_, _<_}
+use mathlib.Core.Bool.{true, and-false}
 use mathlib.Core.Path.{_≡_, refl, _∙_}
 use lib.ListN.{length, getD, take, drop, replicate, length-drop}
 use lib.Seq.{length-take-le}
+use Rattle.laws.specs.Pick.{and-no-left}
 use Rattle.laws.specs.Spliced.{two-parts}
 use Rattle.laws.specs.Table.{table}
 use lib.Dec.{leb}
@@ -20,7 +22,7 @@ same-length : tie.Need-same-length
 same-length c = search needs
 
 returns : tie.Need-returns
-returns c = rw (c .before .before .fill .ensures, c .before .before .before .before .if1 .taken) (all-undriven _ _ _ (λ j b. refl))
+returns c = rw (c .before .before .fill .ensures, c .before .before .before .before .if1 .taken) (all-undriven _ _ _ (λ j b. and-false (leb 3 j)))
 
 fill-requires-2 : tie.Need-fill-requires-2
 fill-requires-2 c κs = search needs
@@ -31,7 +33,7 @@ same-length-2 c = search needs
 returns-2 : tie.Need-returns-2
 returns-2 c =
     let few : length (c .before .before .before .before .before .before .before .before .args .out .now) < 3 = omega arith in
-    rw (c .before .before .fill2 .ensures, c .before .before .before .before .before .if1 .left) (all-undriven _ (leb 3) _ (λ j b. lt-leb 3 j (omega arith)))
+    rw (c .before .before .fill2 .ensures, c .before .before .before .before .before .if1 .left) (all-undriven _ _ _ (λ j b. and-no-left (leb 3 j) true (lt-leb 3 j (omega arith))))
 
 sub-fill : tie.Need-sub-fill
 sub-fill c = search needs
