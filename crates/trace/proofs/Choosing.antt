@@ -12,15 +12,15 @@ use Rattle.laws.specs.Pick.{pick, yes-so, no-so, eq-so, ne-so, pick-ap}
 use Rattle.laws.specs.And.{and-3-out}
 use Rattle.chip.specs.Part.{m95512}
 use Rattle.pins.specs.Ranges.{deviceFits}
-use Rattle.trace.specs.declared.Line.{Line}
+use Rattle.lines.specs.declared.Line.{Line}
 use Rattle.trace.specs.declared.Player.{Player}
 use Rattle.trace.specs.declared.Answer.the-variants.{Played, BadLine}
-use Rattle.trace.specs.Texts.{header, badLine}
-use Rattle.trace.specs.Reading.{stopped, ended, lineFits}
-use Rattle.trace.specs.Put.{put}
+use Rattle.lines.specs.Printing.{badLine}
+use Rattle.trace.specs.Texts.{header}
+use Rattle.lines.specs.Reading.{lineFits}
+use Rattle.lines.specs.Put.{put}
 use Rattle.trace.specs.Chunks.{headedBy, fell, answerNumber, answerOf, playerNumber, headFits, playerFits, room, endChoice, feedChoice}
-use Rattle.trace.proofs.Puts.{put-put}
-use Rattle.trace.proofs.Hand.{stopped-fits, whole-small}
+use Rattle.lines.proofs.Puts.{put-put}
 
 pub head-first : (flag : ℕ) → flag ≡ 0 → header ≡ headedBy flag
 head-first flag e = eq-so _ e refl
@@ -45,14 +45,6 @@ fell-not a b n = rw (ne-eqb (b .place) 5 n) (none (eqb (a .place) 5))
     none : (t : Bool) → _≡_ {A = List ℕ} [] (pick t [] [])
     none true = refl
     none false = refl
-
-pub ended-fits : (l : Line) → lineFits l ≡ true → lineFits (ended l) ≡ true
-unfolding pick ended
-ended-fits l f = either (eqb (l .place) 0)
-  where
-    either : (t : Bool) → lineFits (pick t l (stopped (l .whole))) ≡ true
-    either true = f
-    either false = stopped-fits (l .whole) (whole-small l f)
 
 -- ---- room
 

@@ -14,18 +14,19 @@ use Rattle.pins.specs.Answers.{Bench, played, playedQ}
 use Rattle.pins.specs.Ranges.{deviceFits}
 use Rattle.pins.proofs.Sound.{m95512-sound}
 use Rattle.pins.proofs.Fits.{Sized, played-fits, played-sized, powered-fits}
-use Rattle.trace.specs.declared.Line.{Line}
+use Rattle.lines.specs.declared.Line.{Line}
 use Rattle.trace.specs.declared.Player.{Player}
-use Rattle.trace.specs.Lines.{lineSays}
-use Rattle.trace.specs.Texts.{startBench, header, badLine, printed, firstLine, goodLines, textEvents, textIsBad, textBench, textOutput}
-use Rattle.trace.specs.Reading.{fresh, stopped, read, found, ended, lineFits}
+use Rattle.lines.specs.Lines.{lineSays}
+use Rattle.lines.specs.Printing.{badLine, printed}
+use Rattle.trace.specs.Texts.{startBench, header, firstLine, goodLines, textEvents, textIsBad, textBench, textOutput}
+use Rattle.lines.specs.Reading.{fresh, stopped, read, found, ended, lineFits}
 use Rattle.trace.specs.Chunks.{playerOf, startPlayer, headed, fell, benchOf, playedLines, shownLines, chunkBench, chunkPlayer, chunkOutput, endPlayer, endOutput, headFits, playerFits, Told, told, toldAll, untold, joined}
 use Rattle.trace.proofs.Cases.{nothing}
-use Rattle.trace.proofs.Hand.{read-fits, fresh-fits}
-use Rattle.trace.proofs.Runs.{read-append}
+use Rattle.lines.proofs.Hand.{read-fits, fresh-fits, ended-fits}
+use Rattle.lines.proofs.Runs.{read-append, read-still, found-still}
 use Rattle.trace.proofs.Chunking.{lines-played, lines-shown}
-use Rattle.trace.proofs.Choosing.{fell-before, fell-now, fell-not, player-out, ended-fits}
-use Rattle.trace.proofs.Whole.{split, read-still, found-still, text-found, text-ended}
+use Rattle.trace.proofs.Choosing.{fell-before, fell-now, fell-not, player-out}
+use Rattle.trace.proofs.Whole.{split, text-found, text-ended}
 
 -- ---- the bad line is put out once
 

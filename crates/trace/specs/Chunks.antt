@@ -12,14 +12,15 @@ use Rattle.chip.specs.declared.Refusal.the-variants.{MemoryLength, RecordRange,
 use Rattle.pins.specs.declared.Device.{Device}
 use Rattle.pins.specs.Ranges.{deviceFits}
 use Rattle.pins.specs.Answers.{Bench, played, playedQ}
-use Rattle.trace.specs.declared.Line.{Line}
+use Rattle.lines.specs.declared.Line.{Line}
 use Rattle.trace.specs.declared.Player.{Player}
 use Rattle.trace.specs.declared.Answer.{Answer}
 use Rattle.trace.specs.declared.Answer.the-variants.{Played, BadLine, Refused}
 use Rattle.trace.specs.declared.Fed.{Fed}
-use Rattle.trace.specs.Reading.{fresh, read, found, ended, lineFits}
-use Rattle.trace.specs.Texts.{startBench, header, badLine, printed}
-use Rattle.trace.specs.Put.{put}
+use Rattle.lines.specs.Reading.{fresh, read, found, ended, lineFits}
+use Rattle.lines.specs.Printing.{badLine, printed}
+use Rattle.trace.specs.Texts.{startBench, header}
+use Rattle.lines.specs.Put.{put}
 
 abbrev pub playerOf : ℕ → Line → Bench → Player
 playerOf headed l b = record { headed = headed; line = l; device = b .device }

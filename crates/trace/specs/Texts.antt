@@ -9,8 +9,8 @@ use Rattle.chip.specs.Part.{m95512}
 use Rattle.chip.specs.Power.{delivered}
 use Rattle.pins.specs.Devices.{resting}
 use Rattle.pins.specs.Answers.{Bench, played, playedQ}
-use Rattle.trace.specs.Digits.{decimal}
-use Rattle.trace.specs.Lines.{Said, event, bad, isEmpty, lineSays}
+use Rattle.lines.specs.Lines.{Said, event, bad, isEmpty, lineSays}
+use Rattle.lines.specs.Printing.{badLine, printed}
 
 -- ---- lines: the first line of a text ends with its LF, or with the text
 
@@ -64,22 +64,6 @@ textBench text = played m95512 (textEvents text) startBench
 -- line, tab, q
 unfoldable pub header : List ℕ
 header = 108 ∷ 105 ∷ 110 ∷ 101 ∷ 9 ∷ 113 ∷ 10 ∷ []
-
--- 0, 1 or Z
-abbrev pub glyph : ℕ → ℕ
-glyph q = pick (eqb q 0) 48 (pick (eqb q 1) 49 90)
-
-unfoldable pub goodLine : ℕ → ℕ → List ℕ
-goodLine n q = decimal n ++ (9 ∷ glyph q ∷ 10 ∷ [])
-
--- the number, a tab, bad
-unfoldable pub badLine : ℕ → List ℕ
-badLine n = decimal n ++ (9 ∷ 98 ∷ 97 ∷ 100 ∷ 10 ∷ [])
-
--- lines from number n on, each with Q after it
-unfoldable pub printed : ℕ → List ℕ → List ℕ
-printed n [] = []
-printed n (q ∷ qs) = goodLine n q ++ printed (suc n) qs
 
 unfoldable pub textOutput : List ℕ → List ℕ
 textOutput text =

@@ -6,13 +6,13 @@ ghost use Rattle.trace.specs.Texts.{deliveredMemory};
 ghost use Rattle.trace.specs.Chunks.{startPlayer, answerNumber, feedAnswer, feedNumber, feedMemory, feedOutput, endAnswer, endNumber, endWritten};
 use crate::Answer;
 use crate::Fed;
-use crate::Line;
 use crate::Player;
 use crate::chunks::has_room;
 use crate::chunks::take_chunk;
 use crate::chunks::take_end;
 use chip::Core;
 use chip::Refusal;
+use lines::Line;
 use pins::Device;
 
 // Before the first byte of a text.

@@ -3,10 +3,11 @@ use native.Mathlib.Omega.{arith}
 use mathlib.Core.List.{List}
 use Prim.Native.Nat.{ℕ, _+_, _≤_}
 use lib.ListN.{length, length-append}
-use Rattle.trace.specs.Reading.{ended}
-use Rattle.trace.specs.Put.{put}
+use Rattle.lines.specs.Reading.{ended}
+use Rattle.lines.specs.Put.{put}
 use Rattle.trace.specs.Chunks.{headed, fell, endOutput}
-use Rattle.trace.proofs.Choosing.{player-out, ended-fits, two-puts}
+use Rattle.lines.proofs.Hand.{ended-fits}
+use Rattle.trace.proofs.Choosing.{player-out, two-puts}
 use borrow.Author.Needs.{needs}
 use Rattle.trace.proofs.chunks.take_end.Statement.{statement}
 use Rattle.trace.proofs.chunks.take_end.Tie as tie
