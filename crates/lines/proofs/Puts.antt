@@ -2,42 +2,41 @@
 use mathlib.Core.Path.{_≡_, refl, ap, sym, _∙_}
 use mathlib.Core.List.{List, [], _∷_, _++_, append-assoc, append-nil}
 use Prim.Native.Nat.{ℕ, zero, suc, _+_, _-_, _/_, _%_, _<_, _≤_}
-use native.Mathlib.Nat.{add-zero, add-assoc}
+use native.Mathlib.Nat.{add-zero}
 use native.Mathlib.Omega.{arith}
 use native.Mathlib.Numerals.{add-one}
-use lib.ListN.{length, take, drop, getD, set, length-append, length-take, length-drop, take-append-drop}
+use lib.ListN.{length, take, drop, getD, set, length-append, take-append-drop}
 use lib.Seq.{drop-cons, set-split, length-take-le, take-at, drop-at, drop-drop, take-suc, take-set-le, drop-set-add}
+use Rattle.laws.specs.Spliced.{spliced-length}
 use Rattle.lines.specs.Digits.{digits}
 use Rattle.lines.specs.Printing.{goodLine, printed}
 use Rattle.lines.specs.Put.{put}
 
 pub put-nil : (d : List ℕ) (at : ℕ) → put d at [] ≡ d
 unfolding put
-put-nil d at = rw add-zero (take-append-drop at d)
+put-nil d at = take-append-drop at d
 
 put-one : (d : List ℕ) (at v : ℕ) → at < length d → set d at v ≡ put d at (v ∷ [])
 unfolding put
-put-one d at v h = set-split d at v h ∙ rw add-one
+put-one d at v h = set-split d at v h ∙ rw (drop-drop 1 at d, add-one)
 
 pub put-length : (d : List ℕ) (at : ℕ) (s : List ℕ) → at + length s ≤ length d → length (put d at s) ≡ length d
 unfolding put
-put-length d at s h = simp (length-append, length-take, length-drop) (omega arith)
+put-length d at s h = spliced-length d s at (length s) 0 h refl
 
 -- a write after a write
 pub put-put : (d : List ℕ) (at : ℕ) (s t : List ℕ) → at + length s + length t ≤ length d → put (put d at s) (at + length s) t ≡ put d at (s ++ t)
 unfolding put
 put-put d at s t h =
     let p : List ℕ = take at d ++ s in
-    let q : List ℕ = drop (at + length s) d in
+    let q : List ℕ = drop (length s) (drop at d) in
     let whole : take at d ++ (s ++ q) ≡ p ++ q = sym (append-assoc (take at d) s q) in
     let n : length p ≡ at + length s = length-append (take at d) s ∙ ap (λ (k : ℕ). k + length s) (length-take-le at d (omega arith)) in
     let front : take (at + length s) (p ++ q) ≡ p = take-at p q (at + length s) n in
-    let back : drop (at + length s + length t) (p ++ q) ≡ drop (length t) q =
-    sym (drop-drop (length t) (at + length s) (p ++ q)) ∙ ap (λ (l : List ℕ). drop (length t) l) (drop-at p q (at + length s) n) in
-    let back₂ : drop (length t) q ≡ drop (at + length (s ++ t)) d =
-    drop-drop (length t) (at + length s) d ∙ ap (λ (k : ℕ). drop k d) (add-assoc at (length s) (length t) ∙ ap (λ (k : ℕ). at + k) (sym (length-append s t))) in
-    rw whole (rw (front, back, back₂)
-    (append-assoc (take at d) s (t ++ drop (at + length (s ++ t)) d) ∙ ap (λ (l : List ℕ). take at d ++ l) (sym (append-assoc s t (drop (at + length (s ++ t)) d)))))
+    let rest : List ℕ = drop (length (s ++ t)) (drop at d) in
+    let back : drop (length t) (drop (at + length s) (p ++ q)) ≡ rest =
+    ap (drop (length t)) (drop-at p q (at + length s) n) ∙ drop-drop (length t) (length s) (drop at d) ∙ ap (λ (k : ℕ). drop k (drop at d)) (sym (length-append s t)) in
+    rw whole (rw (front, back) (append-assoc (take at d) s (t ++ rest) ∙ ap (λ (l : List ℕ). take at d ++ l) (sym (append-assoc s t rest))))
 
 -- one more element
 pub put-more : (d : List ℕ) (at : ℕ) (s : List ℕ) (i v : ℕ) → i ≡ at + length s → i < length d → set (put d at s) i v ≡ put d at (s ++ (v ∷ []))
@@ -57,10 +56,13 @@ put-three d at s i a b c e h =
 put-last : (d : List ℕ) (at : ℕ) (s : List ℕ) (i v : ℕ) → i ≡ at + length s → i < length d → put (set d i v) at s ≡ put d at (s ++ (v ∷ []))
 unfolding put
 put-last d at s i v e h =
-    let back : drop (at + length s) (set d i v) ≡ v ∷ drop (suc i) d =
-    ap (λ (n : ℕ). drop n (set d i v)) (sym e) ∙ ap (λ (n : ℕ). drop i (set d n v)) (sym (add-zero i)) ∙ drop-set-add i d 0 v ∙ rw (drop-cons d i 0) refl in
     let n : suc i ≡ at + length (s ++ (v ∷ [])) = simp length-append (omega arith) in
-    rw (take-set-le at d i v (omega arith), back, n) (ap (λ (l : List ℕ). take at d ++ l) (sym (append-assoc s (v ∷ []) (drop (at + length (s ++ (v ∷ []))) d))))
+    let rest : List ℕ = drop (length (s ++ (v ∷ []))) (drop at d) in
+    let rest-is : drop (suc i) d ≡ rest = ap (λ (k : ℕ). drop k d) n ∙ sym (drop-drop (length (s ++ (v ∷ []))) at d) in
+    let last : drop (at + length s) (set d i v) ≡ v ∷ drop (suc i) d =
+    ap (λ (n : ℕ). drop n (set d i v)) (sym e) ∙ ap (λ (n : ℕ). drop i (set d n v)) (sym (add-zero i)) ∙ drop-set-add i d 0 v ∙ rw (drop-cons d i 0) refl in
+    let back : drop (length s) (drop at (set d i v)) ≡ v ∷ rest = drop-drop (length s) at (set d i v) ∙ last ∙ ap (λ (l : List ℕ). v ∷ l) rest-is in
+    rw (take-set-le at d i v (omega arith), back) (ap (λ (l : List ℕ). take at d ++ l) (sym (append-assoc s (v ∷ []) rest)))
 
 -- ---- digits
 

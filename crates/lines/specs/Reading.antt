@@ -1,4 +1,4 @@
--- A text byte by byte: the line in hand after each, and the events of the lines that end. What it has to do with whole lines is a theorem (proofs/Whole.antt).
+-- A text byte by byte: the line in hand after each, and the events of the lines that end. What it has to do with whole lines is a theorem of `trace` (its proofs/Whole.antt).
 use Prim.Native.Nat.{ℕ, _+_, _*_, _-_, _^_}
 use mathlib.Core.Bool.{Bool, _&&_, _||_}
 use mathlib.Core.List.{List, [], _∷_, _++_}
@@ -17,6 +17,9 @@ fresh whole = lineAt whole 0 0 0
 -- the text has had its bad line: nothing after it is looked at
 abbrev pub stopped : ℕ → Line
 stopped whole = lineAt whole 5 0 0
+
+abbrev pub isStopped : Line → Bool
+isStopped l = eqb (l .place) 5
 
 -- ---- what the next byte makes of the line, by the place in it
 
@@ -83,4 +86,4 @@ abbrev pub noneFits : Line → Bool
 noneFits l = leb (l .whole) 1000000 && eqb (l .kind) 0 && eqb (l .value) 0
 
 unfoldable pub lineFits : Line → Bool
-lineFits l = pick (eqb (l .place) 0 || eqb (l .place) 5) (noneFits l) (ltb (l .place) 5 && handFits l)
+lineFits l = pick (eqb (l .place) 0 || isStopped l) (noneFits l) (ltb (l .place) 5 && handFits l)

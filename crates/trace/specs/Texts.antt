@@ -2,11 +2,11 @@
 use Prim.Native.Nat.{ℕ, zero, suc, _+_}
 use mathlib.Core.Bool.{Bool, true, not, _&&_}
 use mathlib.Core.List.{List, [], _∷_, _++_}
-use lib.ListN.{length, replicate}
+use lib.ListN.{length}
 use lib.Dec.{eqb}
 use Rattle.laws.specs.Pick.{pick}
 use Rattle.chip.specs.Part.{m95512}
-use Rattle.chip.specs.Power.{delivered}
+use Rattle.chip.specs.Power.{delivered, deliveredMemory}
 use Rattle.pins.specs.Devices.{resting}
 use Rattle.pins.specs.Answers.{Bench, played, playedQ}
 use Rattle.lines.specs.Lines.{Said, event, bad, isEmpty, lineSays}
@@ -49,11 +49,8 @@ textIsBad text = hasBad 1000000 text
 
 -- ---- the bench that they are played on: the device as delivered, cycle length 5,000 and reading 0, and every byte FFh
 
-unfoldable pub deliveredMemory : List ℕ
-deliveredMemory = replicate 65536 255
-
 abbrev pub startBench : Bench
-startBench = record { device = resting m95512 (delivered m95512); memory = deliveredMemory }
+startBench = record { device = resting m95512 (delivered m95512); memory = deliveredMemory m95512 }
 
 -- the device and the memory after the last good line
 abbrev pub textBench : List ℕ → Bench

@@ -2,7 +2,8 @@
 ghost use mathlib.Core.Path.{_≡_};
 ghost use Prim.Native.Nat.{_≤_};
 ghost use lib.ListN.{length};
-ghost use Rattle.trace.specs.Texts.{deliveredMemory};
+ghost use Rattle.chip.specs.Part.{m95512};
+ghost use Rattle.chip.specs.Power.{deliveredMemory};
 ghost use Rattle.trace.specs.Chunks.{startPlayer, answerNumber, feedAnswer, feedNumber, feedMemory, feedOutput, endAnswer, endNumber, endWritten};
 use crate::Answer;
 use crate::Fed;
@@ -33,7 +34,7 @@ pub fn start() -> Player
 
 // The memory as delivered: every byte FFh.
 pub fn memory() -> [u8; 65536]
-    ensures { λ r. ⌜ r ≡ deliveredMemory ⌝ }
+    ensures { λ r. ⌜ r ≡ deliveredMemory m95512 ⌝ }
 {
     [255; 65536]
 }

@@ -7,15 +7,15 @@ use lib.ListN.{length}
 use Rattle.lines.specs.Put.{put}
 use Rattle.lines.proofs.Hand.{whole-small}
 use Rattle.lines.proofs.Puts.{put-nil}
-use Rattle.trace.proofs.Choosing.{fell-before, fell-now, fell-not}
+use Rattle.trace.proofs.Choosing.{bad-before, bad-now, bad-not}
 use borrow.Author.Needs.{needs}
-use Rattle.trace.proofs.chunks.put_fall.Statement.{statement}
-use Rattle.trace.proofs.chunks.put_fall.Tie as tie
+use Rattle.trace.proofs.chunks.put_bad_between.Statement.{statement}
+use Rattle.trace.proofs.chunks.put_bad_between.Tie as tie
 
 returns : tie.Need-returns
 returns c =
     let a = c .before .before .before .args in
-    let e = fell-before (a .a) (a .b) (c .if1 .taken) in
+    let e = bad-before (a .a) (a .b) (c .if1 .taken) in
     (sym (put-nil (a .out .now) (a .at)) ∙ ap (put (a .out .now) (a .at)) e, (sym (add-zero (a .at)) ∙ ap (λ (l : List ℕ). a .at + length l) e, omega arith))
 
 add-put-bad : tie.Need-add-put-bad
@@ -30,16 +30,16 @@ same-length c = search needs
 returns-2 : tie.Need-returns-2
 returns-2 c =
     let a = c .before .before .before .before .before .before .before .before .before .before .args in
-    let e = fell-now (a .a) (a .b) (c .before .before .before .before .before .before .before .if1 .left) (c .before .before .before .before .before .if2 .taken) in
+    let e = bad-now (a .a) (a .b) (c .before .before .before .before .before .before .before .if1 .left) (c .before .before .before .before .before .if2 .taken) in
     let x = c .before .before .put-bad in
     (x .ensures .0 ∙ ap (put (a .out .now) (a .at)) e, (x .ensures .1 .0 ∙ ap (λ (l : List ℕ). a .at + length l) e, x .ensures .1 .1))
 
 returns-3 : tie.Need-returns-3
 returns-3 c =
     let a = c .before .before .before .before .before .args in
-    let e = fell-not (a .a) (a .b) (c .if2 .left) in
+    let e = bad-not (a .a) (a .b) (c .if2 .left) in
     (sym (put-nil (a .out .now) (a .at)) ∙ ap (put (a .out .now) (a .at)) e, (sym (add-zero (a .at)) ∙ ap (λ (l : List ℕ). a .at + length l) e, omega arith))
 
-pub put-fall-spec : {M : Type 1} → statement M
-put-fall-spec =
+pub put-bad-between-spec : {M : Type 1} → statement M
+put-bad-between-spec =
     tie.close (tie.spec returns add-put-bad put-bad-requires same-length returns-2 returns-3)
