@@ -13,14 +13,14 @@ use Rattle.laws.specs.And.{and-3-out}
 use Rattle.chip.specs.Part.{m95512}
 use Rattle.pins.specs.Ranges.{deviceFits}
 use Rattle.lines.specs.declared.Line.{Line}
-use Rattle.trace.specs.declared.Player.{Player}
-use Rattle.trace.specs.declared.Answer.the-variants.{Played, BadLine}
 use Rattle.lines.specs.Printing.{badLine}
-use Rattle.trace.specs.Texts.{header}
 use Rattle.lines.specs.Reading.{lineFits}
 use Rattle.lines.specs.Put.{put}
-use Rattle.trace.specs.Chunks.{headedBy, badLineBetween, answerNumber, answerOf, playerNumber, headFits, playerFits, room, endChoice, feedChoice}
 use Rattle.lines.proofs.Puts.{put-put}
+use Rattle.trace.specs.declared.Player.{Player}
+use Rattle.trace.specs.declared.Answer.the-variants.{Played, BadLine}
+use Rattle.trace.specs.Texts.{header}
+use Rattle.trace.specs.Chunks.{headedBy, badLineBetween, answerNumber, answerOf, playerNumber, headFits, playerFits, room, endChoice, feedChoice}
 
 pub head-first : (flag : ℕ) → flag ≡ 0 → header ≡ headedBy flag
 head-first flag e = eq-so _ e refl

@@ -11,10 +11,10 @@ use Rattle.pins.specs.Answers.{Bench, played, playedQ}
 use Rattle.lines.specs.declared.Line.{Line}
 use Rattle.lines.specs.Reading.{read, found, lineFits}
 use Rattle.lines.specs.Printing.{printed}
-use Rattle.trace.specs.Chunks.{playedLines, shownLines}
 use Rattle.lines.proofs.Runs.{read-append, found-append, read-whole}
-use Rattle.trace.proofs.Plays.{played-append, playedQ-append, playedQ-length}
 use Rattle.lines.proofs.Puts.{printed-append}
+use Rattle.trace.specs.Chunks.{playedLines, shownLines}
+use Rattle.trace.proofs.Plays.{played-append, playedQ-append, playedQ-length}
 
 module _ (l : Line) (b : Bench) where
   pub played-nothing : playedLines l b [] ≡ b

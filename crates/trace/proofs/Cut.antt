@@ -15,15 +15,15 @@ use Rattle.pins.specs.Ranges.{deviceFits}
 use Rattle.pins.proofs.Sound.{m95512-sound}
 use Rattle.pins.proofs.Fits.{Sized, played-fits, played-sized, powered-fits}
 use Rattle.lines.specs.declared.Line.{Line}
-use Rattle.trace.specs.declared.Player.{Player}
 use Rattle.lines.specs.Lines.{lineSays}
 use Rattle.lines.specs.Printing.{badLine, printed}
-use Rattle.trace.specs.Texts.{startBench, header, firstLine, goodLines, textEvents, textIsBad, textBench, textOutput}
 use Rattle.lines.specs.Reading.{fresh, stopped, read, found, ended, lineFits}
-use Rattle.trace.specs.Chunks.{playerOf, startPlayer, headed, badLineBetween, benchOf, playedLines, shownLines, chunkBench, chunkPlayer, chunkOutput, endPlayer, endOutput, headFits, playerFits, SoFar, afterChunk, afterChunks, beforeText, joined}
-use Rattle.trace.proofs.Cases.{nothing}
 use Rattle.lines.proofs.Hand.{read-fits, fresh-fits, ended-fits}
 use Rattle.lines.proofs.Runs.{read-append, read-still, found-still}
+use Rattle.trace.specs.declared.Player.{Player}
+use Rattle.trace.specs.Texts.{startBench, header, firstLine, goodLines, textEvents, textIsBad, textBench, textOutput}
+use Rattle.trace.specs.Chunks.{playerOf, startPlayer, headed, badLineBetween, benchOf, playedLines, shownLines, chunkBench, chunkPlayer, chunkOutput, endPlayer, endOutput, headFits, playerFits, SoFar, afterChunk, afterChunks, beforeText, joined}
+use Rattle.trace.proofs.Cases.{nothing}
 use Rattle.trace.proofs.Chunking.{lines-played, lines-shown}
 use Rattle.trace.proofs.Choosing.{bad-before, bad-now, bad-not, player-out}
 use Rattle.trace.proofs.Whole.{split, text-found, text-ended}

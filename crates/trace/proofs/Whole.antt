@@ -11,10 +11,10 @@ use borrow.Author.Tests.{eqb-true, leb-true, ltb-true, ltb-false, lt-ltb, le-ltb
 use Rattle.laws.specs.Pick.{pick, yes-so, no-so, pick-same, and-right, and-no-left, and-no-right}
 use Rattle.lines.specs.declared.Line.{Line}
 use Rattle.lines.specs.Lines.{Said, event, bad, kindOf, isDigit, isEmpty, endSays, digitsSay, valueSays, tabSays, lineSays}
-use Rattle.trace.specs.Texts.{firstLine, afterLine, goodThen, goodLines, badThen, hasBad}
-use Rattle.lines.specs.Reading.{lineAt, fresh, stopped, next, closes, said, read, found, ended}
+use Rattle.lines.specs.Reading.{lineAt, fresh, stopped, next, closes, read, found, ended}
 use Rattle.lines.proofs.Hand.{digit-low}
 use Rattle.lines.proofs.Runs.{read-still, found-still, said-none}
+use Rattle.trace.specs.Texts.{firstLine, afterLine, goodThen, goodLines, badThen, hasBad}
 
 pub split : {A : Type 0} (t : Bool) → (t ≡ true → A) → (t ≡ false → A) → A
 split true f g = f refl

@@ -13,14 +13,14 @@ use Rattle.pins.specs.declared.Device.{Device}
 use Rattle.pins.specs.Ranges.{deviceFits}
 use Rattle.pins.specs.Answers.{Bench, played, playedQ}
 use Rattle.lines.specs.declared.Line.{Line}
+use Rattle.lines.specs.Reading.{fresh, isStopped, read, found, ended, lineFits}
+use Rattle.lines.specs.Printing.{badLine, printed}
+use Rattle.lines.specs.Put.{put}
 use Rattle.trace.specs.declared.Player.{Player}
 use Rattle.trace.specs.declared.Answer.{Answer}
 use Rattle.trace.specs.declared.Answer.the-variants.{Played, BadLine, Refused}
 use Rattle.trace.specs.declared.Fed.{Fed}
-use Rattle.lines.specs.Reading.{fresh, isStopped, read, found, ended, lineFits}
-use Rattle.lines.specs.Printing.{badLine, printed}
 use Rattle.trace.specs.Texts.{startBench, header}
-use Rattle.lines.specs.Put.{put}
 
 abbrev pub playerOf : ℕ → Line → Bench → Player
 playerOf headed l b = record { headed = headed; line = l; device = b .device }
@@ -155,17 +155,18 @@ pub record SoFar : Type 0 where
   pub output : List ℕ
 
 abbrev pub afterChunk : SoFar → List ℕ → SoFar
-afterChunk t x =
+afterChunk s x =
     record {
-      player = chunkPlayer (t .player) (t .memory) x;
-      memory = chunkBench (t .player) (t .memory) x .memory;
-      output = t .output ++ chunkOutput (t .player) (t .memory) x;
+      player = chunkPlayer (s .player) (s .memory) x;
+      memory = chunkBench (s .player) (s .memory) x .memory;
+      output = s .output ++ chunkOutput (s .player) (s .memory) x;
     }
 
 unfoldable pub afterChunks : SoFar → List (List ℕ) → SoFar
-afterChunks t [] = t
-afterChunks t (x ∷ xs) = afterChunks (afterChunk t x) xs
+afterChunks s [] = s
+afterChunks s (x ∷ xs) = afterChunks (afterChunk s x) xs
 
+-- before the first chunk
 abbrev pub beforeText : SoFar
 beforeText = record { player = startPlayer; memory = startBench .memory; output = [] }
 

@@ -8,9 +8,9 @@ use Rattle.chip.specs.Part.{m95512}
 use Rattle.pins.specs.Answers.{Bench, played, playedQ}
 use Rattle.lines.specs.Printing.{printed}
 use Rattle.lines.specs.Put.{put}
-use Rattle.trace.specs.Chunks.{playedLines, shownLines}
 use Rattle.lines.proofs.Hand.{read-fits, whole-small}
 use Rattle.lines.proofs.Runs.{found-length, found-room}
+use Rattle.trace.specs.Chunks.{playedLines, shownLines}
 use borrow.Author.Needs.{needs}
 use Rattle.trace.proofs.chunks.piece.Statement.{statement}
 use Rattle.trace.proofs.chunks.piece.Tie as tie

@@ -5,8 +5,8 @@ use native.Mathlib.Omega.{arith}
 use lib.ListN.{length}
 use Rattle.chip.specs.Part.{m95512}
 use Rattle.lines.specs.Printing.{printed}
-use Rattle.trace.proofs.Plays.{playedQ-length}
 use Rattle.lines.specs.Put.{put}
+use Rattle.trace.proofs.Plays.{playedQ-length}
 use borrow.Author.Needs.{needs}
 use Rattle.trace.proofs.chunks.show.Statement.{statement}
 use Rattle.trace.proofs.chunks.show.Tie as tie
