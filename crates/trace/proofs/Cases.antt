@@ -1,4 +1,4 @@
--- Document 01's example and the edges of a line, computed of the definitions.
+-- Document 01's example and the empty text, computed of the definitions.
 use mathlib.Core.Path.{_≡_, refl}
 use mathlib.Core.List.{[], _∷_}
 use Rattle.laws.specs.Pick.{pick}
@@ -7,9 +7,10 @@ use Rattle.lists.specs.Answers.{playedQ}
 use Rattle.pins.specs.Events.{onS, onC}
 use Rattle.edges.specs.Rising.{risen}
 use Rattle.pins.specs.Devices.{q}
-use Rattle.trace.specs.Digits.{digits, decimal}
-use Rattle.trace.specs.Lines.{event, bad, kindOf, digitsSay, lineSays}
-use Rattle.trace.specs.Texts.{firstLine, afterLine, goodLines, hasBad, header, goodLine, badLine, printed, textOutput}
+use Rattle.lines.specs.Digits.{digits, decimal}
+use Rattle.lines.specs.Lines.{kindOf, digitsSay, lineSays}
+use Rattle.lines.specs.Printing.{goodLine, badLine, printed}
+use Rattle.trace.specs.Texts.{firstLine, afterLine, goodLines, hasBad, header, textOutput}
 
 -- S⇥0, C⇥1, X⇥1
 example : textOutput (83 ∷ 9 ∷ 48 ∷ 10 ∷ 67 ∷ 9 ∷ 49 ∷ 10 ∷ 88 ∷ 9 ∷ 49 ∷ 10 ∷ [])
@@ -20,55 +21,3 @@ example = refl
 pub nothing : textOutput [] ≡ header
 unfolding pick played playedQ onS onC q digits decimal kindOf digitsSay lineSays firstLine afterLine goodLines hasBad header goodLine badLine printed textOutput
 nothing = refl
-
--- ---- lines: T⇥0, T⇥4294967295, H⇥1
-
-zero-reading : lineSays (84 ∷ 9 ∷ 48 ∷ 10 ∷ []) ≡ event 21474836480
-unfolding pick kindOf lineSays
-zero-reading = refl
-
-last-reading : lineSays (84 ∷ 9 ∷ 52 ∷ 50 ∷ 57 ∷ 52 ∷ 57 ∷ 54 ∷ 55 ∷ 50 ∷ 57 ∷ 53 ∷ 10 ∷ []) ≡ event 25769803775
-unfolding pick kindOf digitsSay lineSays
-last-reading = refl
-
-hold-high : lineSays (72 ∷ 9 ∷ 49 ∷ 10 ∷ []) ≡ event 17179869185
-unfolding pick kindOf lineSays
-hold-high = refl
-
--- ---- bad ones: one reading too many, a leading zero, a sign, CR LF, no LF, an empty line, two tabs, S with 2, a NUL after the level
-
-past-reading : lineSays (84 ∷ 9 ∷ 52 ∷ 50 ∷ 57 ∷ 52 ∷ 57 ∷ 54 ∷ 55 ∷ 50 ∷ 57 ∷ 54 ∷ 10 ∷ []) ≡ bad
-unfolding pick kindOf digitsSay lineSays
-past-reading = refl
-
-leading-zero : lineSays (84 ∷ 9 ∷ 48 ∷ 49 ∷ 10 ∷ []) ≡ bad
-unfolding pick kindOf digitsSay lineSays
-leading-zero = refl
-
-signed : lineSays (84 ∷ 9 ∷ 43 ∷ 49 ∷ 10 ∷ []) ≡ bad
-unfolding pick kindOf digitsSay lineSays
-signed = refl
-
-cr-lf : lineSays (84 ∷ 9 ∷ 49 ∷ 13 ∷ 10 ∷ []) ≡ bad
-unfolding pick kindOf digitsSay lineSays
-cr-lf = refl
-
-no-lf : lineSays (83 ∷ 9 ∷ 49 ∷ []) ≡ bad
-unfolding pick kindOf lineSays
-no-lf = refl
-
-empty-line : lineSays (10 ∷ []) ≡ bad
-unfolding pick kindOf lineSays
-empty-line = refl
-
-two-tabs : lineSays (83 ∷ 9 ∷ 9 ∷ 49 ∷ 10 ∷ []) ≡ bad
-unfolding pick kindOf lineSays
-two-tabs = refl
-
-level-two : lineSays (83 ∷ 9 ∷ 50 ∷ 10 ∷ []) ≡ bad
-unfolding pick kindOf lineSays
-level-two = refl
-
-nul-after : lineSays (83 ∷ 9 ∷ 49 ∷ 0 ∷ 10 ∷ []) ≡ bad
-unfolding pick kindOf lineSays
-nul-after = refl

@@ -12,15 +12,15 @@ use Rattle.laws.specs.Pick.{pick, yes-so, no-so, eq-so, ne-so, pick-ap}
 use Rattle.laws.specs.And.{and-3-out}
 use Rattle.chip.specs.Part.{m95512}
 use Rattle.pins.specs.Ranges.{deviceFits}
-use Rattle.trace.specs.declared.Line.{Line}
+use Rattle.lines.specs.declared.Line.{Line}
+use Rattle.lines.specs.Printing.{badLine}
+use Rattle.lines.specs.Reading.{lineFits}
+use Rattle.lines.specs.Put.{put}
+use Rattle.lines.proofs.Puts.{put-put}
 use Rattle.trace.specs.declared.Player.{Player}
 use Rattle.trace.specs.declared.Answer.the-variants.{Played, BadLine}
-use Rattle.trace.specs.Texts.{header, badLine}
-use Rattle.trace.specs.Reading.{stopped, ended, lineFits}
-use Rattle.trace.specs.Put.{put}
-use Rattle.trace.specs.Chunks.{headedBy, fell, answerNumber, answerOf, playerNumber, headFits, playerFits, room, endChoice, feedChoice}
-use Rattle.trace.proofs.Puts.{put-put}
-use Rattle.trace.proofs.Hand.{stopped-fits, whole-small}
+use Rattle.trace.specs.Texts.{header}
+use Rattle.trace.specs.Chunks.{headedBy, badLineBetween, answerNumber, answerOf, playerNumber, headFits, playerFits, room, endChoice, feedChoice}
 
 pub head-first : (flag : ℕ) → flag ≡ 0 → header ≡ headedBy flag
 head-first flag e = eq-so _ e refl
@@ -30,29 +30,21 @@ head-out flag e = ne-so _ e refl
 
 -- ---- the bad line
 
-pub fell-before : (a b : Line) → a .place ≡ 5 → [] ≡ fell a b
-unfolding fell
-fell-before a b e = eq-so _ e refl
+pub bad-before : (a b : Line) → a .place ≡ 5 → [] ≡ badLineBetween a b
+unfolding badLineBetween
+bad-before a b e = eq-so _ e refl
 
-pub fell-now : (a b : Line) → (a .place ≡ 5 → ⊥) → b .place ≡ 5 → badLine (b .whole + 1) ≡ fell a b
-unfolding fell
-fell-now a b n e = ne-so _ n (eq-so _ e refl)
+pub bad-now : (a b : Line) → (a .place ≡ 5 → ⊥) → b .place ≡ 5 → badLine (b .whole + 1) ≡ badLineBetween a b
+unfolding badLineBetween
+bad-now a b n e = ne-so _ n (eq-so _ e refl)
 
-pub fell-not : (a b : Line) → (b .place ≡ 5 → ⊥) → [] ≡ fell a b
-unfolding pick fell
-fell-not a b n = rw (ne-eqb (b .place) 5 n) (none (eqb (a .place) 5))
+pub bad-not : (a b : Line) → (b .place ≡ 5 → ⊥) → [] ≡ badLineBetween a b
+unfolding pick badLineBetween
+bad-not a b n = rw (ne-eqb (b .place) 5 n) (none (eqb (a .place) 5))
   where
     none : (t : Bool) → _≡_ {A = List ℕ} [] (pick t [] [])
     none true = refl
     none false = refl
-
-pub ended-fits : (l : Line) → lineFits l ≡ true → lineFits (ended l) ≡ true
-unfolding pick ended
-ended-fits l f = either (eqb (l .place) 0)
-  where
-    either : (t : Bool) → lineFits (pick t l (stopped (l .whole))) ≡ true
-    either true = f
-    either false = stopped-fits (l .whole) (whole-small l f)
 
 -- ---- room
 
@@ -82,19 +74,19 @@ module _ {A : Type 0} (p : Player) (asked bytes : ℕ) {r : A} where
   end-outside done short f e = no-so _ f e
 
 module _ {A : Type 0} (p : Player) (m : List ℕ) (asked bytes : ℕ) {r : A} where
-  pub feed-done : {done : A} (short outside wrong : A) → length m ≡ 65536 → playerFits p ≡ true → leb asked bytes ≡ true → r ≡ done
+  pub feed-done : {done : A} (short outside wrong : A) → length m ≡ m95512 .size → playerFits p ≡ true → leb asked bytes ≡ true → r ≡ done
       → r ≡ feedChoice p m asked bytes done short outside wrong
   feed-done short outside wrong n f k e = eq-so _ n (end-done p asked bytes short outside f k e)
 
-  pub feed-short : {short : A} (done outside wrong : A) → length m ≡ 65536 → playerFits p ≡ true → leb asked bytes ≡ false → r ≡ short
+  pub feed-short : {short : A} (done outside wrong : A) → length m ≡ m95512 .size → playerFits p ≡ true → leb asked bytes ≡ false → r ≡ short
       → r ≡ feedChoice p m asked bytes done short outside wrong
   feed-short done outside wrong n f k e = eq-so _ n (end-short p asked bytes done outside f k e)
 
-  pub feed-outside : {outside : A} (done short wrong : A) → length m ≡ 65536 → playerFits p ≡ false → r ≡ outside
+  pub feed-outside : {outside : A} (done short wrong : A) → length m ≡ m95512 .size → playerFits p ≡ false → r ≡ outside
       → r ≡ feedChoice p m asked bytes done short outside wrong
   feed-outside done short wrong n f e = eq-so _ n (end-outside p asked bytes done short f e)
 
-  pub feed-wrong : {wrong : A} (done short outside : A) → (length m ≡ 65536 → ⊥) → r ≡ wrong → r ≡ feedChoice p m asked bytes done short outside wrong
+  pub feed-wrong : {wrong : A} (done short outside : A) → (length m ≡ m95512 .size → ⊥) → r ≡ wrong → r ≡ feedChoice p m asked bytes done short outside wrong
   feed-wrong done short outside n e = ne-so _ n e
 
 -- ---- an output in parts

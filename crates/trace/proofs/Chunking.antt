@@ -9,13 +9,13 @@ use lib.Seq.{take-add, length-take-le}
 use Rattle.chip.specs.Part.{m95512}
 use Rattle.pins.specs.Answers.{Bench, played}
 use Rattle.lists.specs.Answers.{playedQ}
-use Rattle.trace.specs.declared.Line.{Line}
-use Rattle.trace.specs.Reading.{read, found, lineFits}
-use Rattle.trace.specs.Texts.{printed}
+use Rattle.lines.specs.declared.Line.{Line}
+use Rattle.lines.specs.Reading.{read, found, lineFits}
+use Rattle.lines.specs.Printing.{printed}
+use Rattle.lines.proofs.Runs.{read-append, found-append, read-whole}
+use Rattle.lines.proofs.Puts.{printed-append}
 use Rattle.trace.specs.Chunks.{playedLines, shownLines}
-use Rattle.trace.proofs.Runs.{read-append, found-append, read-whole}
 use Rattle.trace.proofs.Plays.{played-append, playedQ-append, playedQ-length}
-use Rattle.trace.proofs.Puts.{printed-append}
 
 module _ (l : Line) (b : Bench) where
   pub played-nothing : playedLines l b [] ≡ b

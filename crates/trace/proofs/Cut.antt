@@ -15,24 +15,25 @@ use Rattle.lists.specs.Answers.{playedQ}
 use Rattle.pins.specs.Ranges.{deviceFits}
 use Rattle.edges.proofs.Sound.{m95512-sound}
 use Rattle.pins.proofs.Fits.{Sized, played-fits, played-sized, powered-fits}
-use Rattle.trace.specs.declared.Line.{Line}
+use Rattle.lines.specs.declared.Line.{Line}
+use Rattle.lines.specs.Lines.{lineSays}
+use Rattle.lines.specs.Printing.{badLine, printed}
+use Rattle.lines.specs.Reading.{fresh, stopped, read, found, ended, lineFits}
+use Rattle.lines.proofs.Hand.{read-fits, fresh-fits, ended-fits}
+use Rattle.lines.proofs.Runs.{read-append, read-still, found-still}
 use Rattle.trace.specs.declared.Player.{Player}
-use Rattle.trace.specs.Lines.{lineSays}
-use Rattle.trace.specs.Texts.{startBench, header, badLine, printed, firstLine, goodLines, textEvents, textIsBad, textBench, textOutput}
-use Rattle.trace.specs.Reading.{fresh, stopped, read, found, ended, lineFits}
-use Rattle.trace.specs.Chunks.{playerOf, startPlayer, headed, fell, benchOf, playedLines, shownLines, chunkBench, chunkPlayer, chunkOutput, endPlayer, endOutput, headFits, playerFits, Told, told, toldAll, untold, joined}
+use Rattle.trace.specs.Texts.{startBench, header, firstLine, goodLines, textEvents, textIsBad, textBench, textOutput}
+use Rattle.trace.specs.Chunks.{playerOf, startPlayer, headed, badLineBetween, benchOf, playedLines, shownLines, chunkBench, chunkPlayer, chunkOutput, endPlayer, endOutput, headFits, playerFits, SoFar, afterChunk, afterChunks, beforeText, joined}
 use Rattle.trace.proofs.Cases.{nothing}
-use Rattle.trace.proofs.Hand.{read-fits, fresh-fits}
-use Rattle.trace.proofs.Runs.{read-append}
 use Rattle.trace.proofs.Chunking.{lines-played, lines-shown}
-use Rattle.trace.proofs.Choosing.{fell-before, fell-now, fell-not, player-out, ended-fits}
-use Rattle.trace.proofs.Whole.{split, read-still, found-still, text-found, text-ended}
+use Rattle.trace.proofs.Choosing.{bad-before, bad-now, bad-not, player-out}
+use Rattle.trace.proofs.Whole.{split, text-found, text-ended}
 
 -- ---- the bad line is put out once
 
-fell-same : (a b c : Line) → (a .place ≡ 5 → ⊥) → (b .place ≡ 5 → ⊥) → fell a c ≡ fell b c
-unfolding pick fell
-fell-same a b c n k = rw (ne-eqb (a .place) 5 n, ne-eqb (b .place) 5 k) refl
+bad-same : (a b c : Line) → (a .place ≡ 5 → ⊥) → (b .place ≡ 5 → ⊥) → badLineBetween a c ≡ badLineBetween b c
+unfolding pick badLineBetween
+bad-same a b c n k = rw (ne-eqb (a .place) 5 n, ne-eqb (b .place) 5 k) refl
 
 -- after a bad line nothing is shown, and there is no second one
 shown-still : (l : Line) (b : Bench) (x : List ℕ) → l .place ≡ 5 → shownLines l b x ≡ []
@@ -41,8 +42,8 @@ shown-still l b x e = rw (found-still l x e) refl
 
 module _ (l : Line) (b : Bench) (f : lineFits l ≡ true) (x y : List ℕ) where
   -- the lines of two chunks, each with its bad line, are those of both
-  both : (shownLines l b x ++ fell l (read l x)) ++ (shownLines (read l x) (playedLines l b x) y ++ fell (read l x) (read (read l x) y))
-      ≡ shownLines l b (x ++ y) ++ fell l (read l (x ++ y))
+  both : (shownLines l b x ++ badLineBetween l (read l x)) ++ (shownLines (read l x) (playedLines l b x) y ++ badLineBetween (read l x) (read (read l x) y))
+      ≡ shownLines l b (x ++ y) ++ badLineBetween l (read l (x ++ y))
   both =
       let r = read l x in
       let c = playedLines l b x in
@@ -51,46 +52,46 @@ module _ (l : Line) (b : Bench) (f : lineFits l ≡ true) (x y : List ℕ) where
       (λ e. let stop = eqb-true (r .place) 5 e in
       let none : shownLines r c y ≡ [] = shown-still r c y stop in
       let same : read r y ≡ r = read-still r y stop in
-      ap (λ (k : List ℕ). (first ++ fell l r) ++ (k ++ fell r (read r y))) none
-      ∙ ap (λ (k : List ℕ). (first ++ fell l r) ++ k) (sym (fell-before r (read r y) stop))
-      ∙ append-nil (first ++ fell l r)
-      ∙ ap (λ (k : List ℕ). first ++ k) (ap (fell l) (sym same ∙ sym (read-append l x y)))
-      ∙ ap (λ (k : List ℕ). k ++ fell l (read l (x ++ y))) (sym (append-nil first) ∙ ap (λ (k : List ℕ). first ++ k) (sym none) ∙ sym (lines-shown l b f x y)))
+      ap (λ (k : List ℕ). (first ++ badLineBetween l r) ++ (k ++ badLineBetween r (read r y))) none
+      ∙ ap (λ (k : List ℕ). (first ++ badLineBetween l r) ++ k) (sym (bad-before r (read r y) stop))
+      ∙ append-nil (first ++ badLineBetween l r)
+      ∙ ap (λ (k : List ℕ). first ++ k) (ap (badLineBetween l) (sym same ∙ sym (read-append l x y)))
+      ∙ ap (λ (k : List ℕ). k ++ badLineBetween l (read l (x ++ y))) (sym (append-nil first) ∙ ap (λ (k : List ℕ). first ++ k) (sym none) ∙ sym (lines-shown l b f x y)))
       (λ e. let go = eqb-false (r .place) 5 e in
       let started : l .place ≡ 5 → ⊥ = λ s. go (ap (λ (k : Line). k .place) (read-still l x s) ∙ s) in
-      ap (λ (k : List ℕ). (first ++ k) ++ (shownLines r c y ++ fell r (read r y))) (sym (fell-not l r go))
-      ∙ ap (λ (k : List ℕ). k ++ (shownLines r c y ++ fell r (read r y))) (append-nil first)
-      ∙ sym (append-assoc first (shownLines r c y) (fell r (read r y)))
-      ∙ ap (λ (k : List ℕ). k ++ fell r (read r y)) (sym (lines-shown l b f x y))
-      ∙ ap (λ (k : List ℕ). shownLines l b (x ++ y) ++ k) (fell-same r l (read r y) go started ∙ ap (fell l) (sym (read-append l x y))))
+      ap (λ (k : List ℕ). (first ++ k) ++ (shownLines r c y ++ badLineBetween r (read r y))) (sym (bad-not l r go))
+      ∙ ap (λ (k : List ℕ). k ++ (shownLines r c y ++ badLineBetween r (read r y))) (append-nil first)
+      ∙ sym (append-assoc first (shownLines r c y) (badLineBetween r (read r y)))
+      ∙ ap (λ (k : List ℕ). k ++ badLineBetween r (read r y)) (sym (lines-shown l b f x y))
+      ∙ ap (λ (k : List ℕ). shownLines l b (x ++ y) ++ k) (bad-same r l (read r y) go started ∙ ap (badLineBetween l) (sym (read-append l x y))))
 
 -- ---- two chunks are one
 
-abbrev tell : Line → Bench → List ℕ → Told
-tell l b o = record { player = playerOf 1 l b; memory = b .memory; output = o }
+abbrev soFar : Line → Bench → List ℕ → SoFar
+soFar l b o = record { player = playerOf 1 l b; memory = b .memory; output = o }
 
-told-told : (t : Told) → lineFits (t .player .line) ≡ true → (x y : List ℕ) → told (told t x) y ≡ told t (x ++ y)
+two-chunks : (t : SoFar) → lineFits (t .player .line) ≡ true → (x y : List ℕ) → afterChunk (afterChunk t x) y ≡ afterChunk t (x ++ y)
 unfolding pick
-told-told t f x y =
+two-chunks t f x y =
     let p = t .player in
     let l = p .line in
     let b = benchOf p (t .memory) in
     let lines : read (read l x) y ≡ read l (x ++ y) = sym (read-append l x y) in
     let bench : playedLines (read l x) (playedLines l b x) y ≡ playedLines l b (x ++ y) = sym (lines-played l b x y) in
-    let two : List ℕ = (t .output ++ chunkOutput p (t .memory) x) ++ (shownLines (read l x) (playedLines l b x) y ++ fell (read l x) (read (read l x) y)) in
+    let two : List ℕ = (t .output ++ chunkOutput p (t .memory) x) ++ (shownLines (read l x) (playedLines l b x) y ++ badLineBetween (read l x) (read (read l x) y)) in
     let out : two ≡ t .output ++ chunkOutput p (t .memory) (x ++ y) =
     append-assoc (t .output) (chunkOutput p (t .memory) x) _
-    ∙ ap (λ (k : List ℕ). t .output ++ k) (append-assoc (headed p) (shownLines l b x ++ fell l (read l x)) _ ∙ ap (λ (k : List ℕ). headed p ++ k) (both l b f x y)) in
-    ap (λ (k : Line). tell k (playedLines (read l x) (playedLines l b x) y) two) lines
-    ∙ ap (λ (k : Bench). tell (read l (x ++ y)) k two) bench
-    ∙ ap (tell (read l (x ++ y)) (playedLines l b (x ++ y))) out
+    ∙ ap (λ (k : List ℕ). t .output ++ k) (append-assoc (headed p) (shownLines l b x ++ badLineBetween l (read l x)) _ ∙ ap (λ (k : List ℕ). headed p ++ k) (both l b f x y)) in
+    ap (λ (k : Line). soFar k (playedLines (read l x) (playedLines l b x) y) two) lines
+    ∙ ap (λ (k : Bench). soFar (read l (x ++ y)) k two) bench
+    ∙ ap (soFar (read l (x ++ y)) (playedLines l b (x ++ y))) out
 
 -- .. and so are any number of them
-all-told : (t : Told) → lineFits (t .player .line) ≡ true → (x : List ℕ) (xs : List (List ℕ)) → toldAll (told t x) xs ≡ told t (x ++ joined xs)
-unfolding toldAll joined
-all-told t f x [] = sym (ap (told t) (append-nil x))
-all-told t f x (y ∷ ys) =
-    ap (λ (k : Told). toldAll k ys) (told-told t f x y) ∙ all-told t f (x ++ y) ys ∙ ap (told t) (append-assoc x y (joined ys))
+all-chunks : (t : SoFar) → lineFits (t .player .line) ≡ true → (x : List ℕ) (xs : List (List ℕ)) → afterChunks (afterChunk t x) xs ≡ afterChunk t (x ++ joined xs)
+unfolding afterChunks joined
+all-chunks t f x [] = sym (ap (afterChunk t) (append-nil x))
+all-chunks t f x (y ∷ ys) =
+    ap (λ (k : SoFar). afterChunks k ys) (two-chunks t f x y) ∙ all-chunks t f (x ++ y) ys ∙ ap (afterChunk t) (append-assoc x y (joined ys))
 
 -- ---- a text in one chunk, and its end
 
@@ -98,52 +99,52 @@ ended-still : (r : Line) → r .place ≡ 5 → ended r ≡ stopped (r .whole)
 unfolding pick ended
 ended-still r e = rw e refl
 
-fell-ended : (r : Line) → fell (fresh 0) r ++ fell r (ended r) ≡ fell (fresh 0) (ended r)
-fell-ended r =
+bad-ended : (r : Line) → badLineBetween (fresh 0) r ++ badLineBetween r (ended r) ≡ badLineBetween (fresh 0) (ended r)
+bad-ended r =
     split (eqb (r .place) 5)
     (λ e. let stop = eqb-true (r .place) 5 e in
     let ends = ended-still r stop in
-    ap (λ (k : List ℕ). fell (fresh 0) r ++ k) (sym (fell-before r (ended r) stop)) ∙ append-nil (fell (fresh 0) r)
-    ∙ sym (fell-now (fresh 0) r (λ s. omega arith) stop) ∙ fell-now (fresh 0) (stopped (r .whole)) (λ s. omega arith) refl ∙ ap (fell (fresh 0)) (sym ends))
+    ap (λ (k : List ℕ). badLineBetween (fresh 0) r ++ k) (sym (bad-before r (ended r) stop)) ∙ append-nil (badLineBetween (fresh 0) r)
+    ∙ sym (bad-now (fresh 0) r (λ s. omega arith) stop) ∙ bad-now (fresh 0) (stopped (r .whole)) (λ s. omega arith) refl ∙ ap (badLineBetween (fresh 0)) (sym ends))
     (λ e. let go = eqb-false (r .place) 5 e in
-    ap (λ (k : List ℕ). k ++ fell r (ended r)) (sym (fell-not (fresh 0) r go)) ∙ fell-same r (fresh 0) (ended r) go (λ s. omega arith))
+    ap (λ (k : List ℕ). k ++ badLineBetween r (ended r)) (sym (bad-not (fresh 0) r go)) ∙ bad-same r (fresh 0) (ended r) go (λ s. omega arith))
 
-fell-whole : (n k : ℕ) (t : Bool) → k ≡ n → fell (fresh 0) (pick t (stopped k) (fresh k)) ≡ pick t (badLine (n + 1)) []
-unfolding pick fell
-fell-whole n k true e = rw e refl
-fell-whole n k false e = refl
+bad-whole : (n k : ℕ) (t : Bool) → k ≡ n → badLineBetween (fresh 0) (pick t (stopped k) (fresh k)) ≡ pick t (badLine (n + 1)) []
+unfolding pick badLineBetween
+bad-whole n k true e = rw e refl
+bad-whole n k false e = refl
 
-text-output : (x : List ℕ) → told untold x .output ++ endOutput (told untold x .player) ≡ textOutput x
+text-output : (x : List ℕ) → afterChunk beforeText x .output ++ endOutput (afterChunk beforeText x .player) ≡ textOutput x
 unfolding pick shownLines textOutput
 text-output x =
     let r = read (fresh 0) x in
     let s = shownLines (fresh 0) startBench x in
     let shows : s ≡ printed 1 (playedQ m95512 (textEvents x) startBench) = ap (λ (es : List ℕ). printed 1 (playedQ m95512 es startBench)) (text-found x) in
-    append-assoc header (s ++ fell (fresh 0) r) (fell r (ended r))
+    append-assoc header (s ++ badLineBetween (fresh 0) r) (badLineBetween r (ended r))
     ∙ ap (λ (k : List ℕ). header ++ k)
-    (append-assoc s (fell (fresh 0) r) (fell r (ended r))
-    ∙ ap (λ (k : List ℕ). s ++ k) (fell-ended r ∙ ap (fell (fresh 0)) (text-ended x) ∙ fell-whole (length (textEvents x)) (0 + length (textEvents x)) (textIsBad x) (omega arith))
+    (append-assoc s (badLineBetween (fresh 0) r) (badLineBetween r (ended r))
+    ∙ ap (λ (k : List ℕ). s ++ k) (bad-ended r ∙ ap (badLineBetween (fresh 0)) (text-ended x) ∙ bad-whole (length (textEvents x)) (0 + length (textEvents x)) (textIsBad x) (omega arith))
     ∙ ap (λ (k : List ℕ). k ++ pick (textIsBad x) (badLine (length (textEvents x) + 1)) []) shows)
 
-text-bench : (x : List ℕ) → benchOf (told untold x .player) (told untold x .memory) ≡ textBench x
+text-bench : (x : List ℕ) → benchOf (afterChunk beforeText x .player) (afterChunk beforeText x .memory) ≡ textBench x
 unfolding playedLines
 text-bench x = ap (λ (es : List ℕ). played m95512 es startBench) (text-found x)
 
 -- ---- however a text is cut
 
-pub whole-output : (xs : List (List ℕ)) → toldAll untold xs .output ++ endOutput (toldAll untold xs .player) ≡ textOutput (joined xs)
-unfolding pick fell ended toldAll joined
+pub whole-output : (xs : List (List ℕ)) → afterChunks beforeText xs .output ++ endOutput (afterChunks beforeText xs .player) ≡ textOutput (joined xs)
+unfolding pick badLineBetween ended afterChunks joined
 whole-output [] = append-nil header ∙ sym nothing
-whole-output (x ∷ xs) = rw (all-told untold (fresh-fits 0 (omega arith)) x xs) (text-output (x ++ joined xs))
+whole-output (x ∷ xs) = rw (all-chunks beforeText (fresh-fits 0 (omega arith)) x xs) (text-output (x ++ joined xs))
 
 no-bench : startBench ≡ textBench []
 unfolding firstLine lineSays goodLines played
 no-bench = refl
 
-pub whole-bench : (xs : List (List ℕ)) → benchOf (toldAll untold xs .player) (toldAll untold xs .memory) ≡ textBench (joined xs)
-unfolding toldAll joined
+pub whole-bench : (xs : List (List ℕ)) → benchOf (afterChunks beforeText xs .player) (afterChunks beforeText xs .memory) ≡ textBench (joined xs)
+unfolding afterChunks joined
 whole-bench [] = no-bench
-whole-bench (x ∷ xs) = rw (all-told untold (fresh-fits 0 (omega arith)) x xs) (text-bench (x ++ joined xs))
+whole-bench (x ∷ xs) = rw (all-chunks beforeText (fresh-fits 0 (omega arith)) x xs) (text-bench (x ++ joined xs))
 
 -- ---- so no chunk of a text gets 2: a chunk leaves a player inside its ranges (whose latch has a page's cells, as an array has by its type) inside them, and so do the start and the end
 

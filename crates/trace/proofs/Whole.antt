@@ -9,37 +9,16 @@ use lib.ListN.{length}
 use lib.Dec.{eqb, leb, ltb}
 use borrow.Author.Tests.{eqb-true, leb-true, ltb-true, ltb-false, lt-ltb, le-ltb, ne-eqb}
 use Rattle.laws.specs.Pick.{pick, yes-so, no-so, pick-same, and-right, and-no-left, and-no-right}
-use Rattle.trace.specs.declared.Line.{Line}
-use Rattle.trace.specs.Lines.{Said, event, bad, kindOf, isDigit, isEmpty, endSays, digitsSay, valueSays, tabSays, lineSays}
+use Rattle.lines.specs.declared.Line.{Line}
+use Rattle.lines.specs.Lines.{Said, event, bad, kindOf, isDigit, isEmpty, endSays, digitsSay, valueSays, tabSays, lineSays}
+use Rattle.lines.specs.Reading.{lineAt, fresh, stopped, next, closes, read, found, ended}
+use Rattle.lines.proofs.Hand.{digit-low}
+use Rattle.lines.proofs.Runs.{read-still, found-still, said-none}
 use Rattle.trace.specs.Texts.{firstLine, afterLine, goodThen, goodLines, badThen, hasBad}
-use Rattle.trace.specs.Reading.{lineAt, fresh, stopped, next, closes, said, read, found, ended}
-use Rattle.trace.proofs.Hand.{digit-low}
 
 pub split : {A : Type 0} (t : Bool) → (t ≡ true → A) → (t ≡ false → A) → A
 split true f g = f refl
 split false f g = g refl
-
--- ---- after the bad line nothing is looked at
-
-pub still : (l : Line) (b : ℕ) → l .place ≡ 5 → next l b ≡ l
-unfolding pick next
-still l b e = rw e refl
-
-pub read-still : (l : Line) (x : List ℕ) → l .place ≡ 5 → read l x ≡ l
-unfolding read
-read-still l [] e = refl
-read-still l (b ∷ x) e = ap (λ (k : Line). read k x) (still l b e) ∙ read-still l x e
-
-said-none : (l : Line) (b : ℕ) → closes l b ≡ false → said l b ≡ []
-unfolding pick
-said-none l b e = rw e refl
-
-pub found-still : (l : Line) (x : List ℕ) → l .place ≡ 5 → found l x ≡ []
-unfolding found
-found-still l [] e = refl
-found-still l (b ∷ x) e =
-    let no : closes l b ≡ false = and-no-right (eqb b 10) (eqb (l .place) 3 || eqb (l .place) 4) (rw e refl) in
-    rw (said-none l b no, still l b e) (found-still l x e)
 
 -- ---- what the line in hand comes to, where the rest of it says S: an event, and the text goes on after the line; or the bad line
 

@@ -13,14 +13,15 @@ use Rattle.pins.specs.declared.Device.{Device}
 use Rattle.pins.specs.Ranges.{deviceFits}
 use Rattle.pins.specs.Answers.{Bench, played}
 use Rattle.lists.specs.Answers.{playedQ}
-use Rattle.trace.specs.declared.Line.{Line}
+use Rattle.lines.specs.declared.Line.{Line}
+use Rattle.lines.specs.Reading.{fresh, isStopped, read, found, ended, lineFits}
+use Rattle.lines.specs.Printing.{badLine, printed}
+use Rattle.lines.specs.Put.{put}
 use Rattle.trace.specs.declared.Player.{Player}
 use Rattle.trace.specs.declared.Answer.{Answer}
 use Rattle.trace.specs.declared.Answer.the-variants.{Played, BadLine, Refused}
 use Rattle.trace.specs.declared.Fed.{Fed}
-use Rattle.trace.specs.Reading.{fresh, read, found, ended, lineFits}
-use Rattle.trace.specs.Texts.{startBench, header, badLine, printed}
-use Rattle.trace.specs.Put.{put}
+use Rattle.trace.specs.Texts.{startBench, header}
 
 abbrev pub playerOf : ℕ → Line → Bench → Player
 playerOf headed l b = record { headed = headed; line = l; device = b .device }
@@ -39,8 +40,8 @@ abbrev pub headed : Player → List ℕ
 headed p = headedBy (p .headed)
 
 -- the bad line, where the text comes to it between the lines a and b in hand
-unfoldable pub fell : Line → Line → List ℕ
-fell a b = pick (eqb (a .place) 5) [] (pick (eqb (b .place) 5) (badLine (b .whole + 1)) [])
+unfoldable pub badLineBetween : Line → Line → List ℕ
+badLineBetween a b = pick (isStopped a) [] (pick (isStopped b) (badLine (b .whole + 1)) [])
 
 abbrev pub benchWith : Device → List ℕ → Bench
 benchWith x m = record { device = x; memory = m }
@@ -63,7 +64,7 @@ abbrev pub chunkPlayer : Player → List ℕ → List ℕ → Player
 chunkPlayer p m x = playerOf 1 (read (p .line) x) (chunkBench p m x)
 
 abbrev pub chunkOutput : Player → List ℕ → List ℕ → List ℕ
-chunkOutput p m x = headed p ++ (shownLines (p .line) (benchOf p m) x ++ fell (p .line) (read (p .line) x))
+chunkOutput p m x = headed p ++ (shownLines (p .line) (benchOf p m) x ++ badLineBetween (p .line) (read (p .line) x))
 
 -- ---- the end of the text
 
@@ -71,7 +72,7 @@ abbrev pub endPlayer : Player → Player
 endPlayer p = record { headed = 1; line = ended (p .line); device = p .device }
 
 abbrev pub endOutput : Player → List ℕ
-endOutput p = headed p ++ fell (p .line) (ended (p .line))
+endOutput p = headed p ++ badLineBetween (p .line) (ended (p .line))
 
 -- ---- answers
 
@@ -82,10 +83,10 @@ answerNumber BadLine = 11
 answerNumber (Refused r) = refusalNumber r
 
 abbrev pub answerOf : Player → Answer
-answerOf p = pick (eqb (p .line .place) 5) BadLine Played
+answerOf p = pick (isStopped (p .line)) BadLine Played
 
 abbrev pub playerNumber : Player → ℕ
-playerNumber p = pick (eqb (p .line .place) 5) 11 0
+playerNumber p = pick (isStopped (p .line)) 11 0
 
 -- no byte is taken before the header is out
 abbrev pub headFits : Player → Bool
@@ -105,7 +106,7 @@ endChoice p asked bytes done short outside = pick (playerFits p) (pick (leb aske
 
 -- 1 before them
 abbrev pub feedChoice : {A : Type 0} → Player → List ℕ → ℕ → ℕ → A → A → A → A → A
-feedChoice p m asked bytes done short outside wrong = pick (eqb (length m) 65536) (endChoice p asked bytes done short outside) wrong
+feedChoice p m asked bytes done short outside wrong = pick (eqb (length m) (m95512 .size)) (endChoice p asked bytes done short outside) wrong
 
 abbrev pub fedTo : Answer → Player → ℕ → Fed
 fedTo a p n = record { answer = a; player = p; written = n }
@@ -149,25 +150,26 @@ endWritten p d = endChoice p (room 0) (length d) (put d 0 (endOutput p)) d d
 
 -- ---- a text in chunks: the player and the memory after them, and all that they put out
 
-pub record Told : Type 0 where
+pub record SoFar : Type 0 where
   pub player : Player
   pub memory : List ℕ
   pub output : List ℕ
 
-abbrev pub told : Told → List ℕ → Told
-told t x =
+abbrev pub afterChunk : SoFar → List ℕ → SoFar
+afterChunk s x =
     record {
-      player = chunkPlayer (t .player) (t .memory) x;
-      memory = chunkBench (t .player) (t .memory) x .memory;
-      output = t .output ++ chunkOutput (t .player) (t .memory) x;
+      player = chunkPlayer (s .player) (s .memory) x;
+      memory = chunkBench (s .player) (s .memory) x .memory;
+      output = s .output ++ chunkOutput (s .player) (s .memory) x;
     }
 
-unfoldable pub toldAll : Told → List (List ℕ) → Told
-toldAll t [] = t
-toldAll t (x ∷ xs) = toldAll (told t x) xs
+unfoldable pub afterChunks : SoFar → List (List ℕ) → SoFar
+afterChunks s [] = s
+afterChunks s (x ∷ xs) = afterChunks (afterChunk s x) xs
 
-abbrev pub untold : Told
-untold = record { player = startPlayer; memory = startBench .memory; output = [] }
+-- before the first chunk
+abbrev pub beforeText : SoFar
+beforeText = record { player = startPlayer; memory = startBench .memory; output = [] }
 
 -- the chunks one after another are the text
 unfoldable pub joined : List (List ℕ) → List ℕ

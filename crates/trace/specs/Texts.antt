@@ -2,16 +2,16 @@
 use Prim.Native.Nat.{ℕ, zero, suc, _+_}
 use mathlib.Core.Bool.{Bool, true, not, _&&_}
 use mathlib.Core.List.{List, [], _∷_, _++_}
-use lib.ListN.{length, replicate}
+use lib.ListN.{length}
 use lib.Dec.{eqb}
 use Rattle.laws.specs.Pick.{pick}
 use Rattle.chip.specs.Part.{m95512}
-use Rattle.chip.specs.Power.{delivered}
+use Rattle.chip.specs.Power.{delivered, deliveredMemory}
 use Rattle.pins.specs.Devices.{resting}
 use Rattle.pins.specs.Answers.{Bench, played}
 use Rattle.lists.specs.Answers.{playedQ}
-use Rattle.trace.specs.Digits.{decimal}
-use Rattle.trace.specs.Lines.{Said, event, bad, isEmpty, lineSays}
+use Rattle.lines.specs.Lines.{Said, event, bad, isEmpty, lineSays}
+use Rattle.lines.specs.Printing.{badLine, printed}
 
 -- ---- lines: the first line of a text ends with its LF, or with the text
 
@@ -50,11 +50,8 @@ textIsBad text = hasBad 1000000 text
 
 -- ---- the bench that they are played on: the device as delivered, cycle length 5,000 and reading 0, and every byte FFh
 
-unfoldable pub deliveredMemory : List ℕ
-deliveredMemory = replicate 65536 255
-
 abbrev pub startBench : Bench
-startBench = record { device = resting m95512 (delivered m95512); memory = deliveredMemory }
+startBench = record { device = resting m95512 (delivered m95512); memory = deliveredMemory m95512 }
 
 -- the device and the memory after the last good line
 abbrev pub textBench : List ℕ → Bench
@@ -65,22 +62,6 @@ textBench text = played m95512 (textEvents text) startBench
 -- line, tab, q
 unfoldable pub header : List ℕ
 header = 108 ∷ 105 ∷ 110 ∷ 101 ∷ 9 ∷ 113 ∷ 10 ∷ []
-
--- 0, 1 or Z
-abbrev pub glyph : ℕ → ℕ
-glyph q = pick (eqb q 0) 48 (pick (eqb q 1) 49 90)
-
-unfoldable pub goodLine : ℕ → ℕ → List ℕ
-goodLine n q = decimal n ++ (9 ∷ glyph q ∷ 10 ∷ [])
-
--- the number, a tab, bad
-unfoldable pub badLine : ℕ → List ℕ
-badLine n = decimal n ++ (9 ∷ 98 ∷ 97 ∷ 100 ∷ 10 ∷ [])
-
--- lines from number n on, each with Q after it
-unfoldable pub printed : ℕ → List ℕ → List ℕ
-printed n [] = []
-printed n (q ∷ qs) = goodLine n q ++ printed (suc n) qs
 
 unfoldable pub textOutput : List ℕ → List ℕ
 textOutput text =

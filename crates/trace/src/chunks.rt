@@ -8,19 +8,19 @@ ghost use Rattle.chip.specs.Part.{m95512};
 ghost use Rattle.pins.specs.Answers.{played};
 ghost use Rattle.lists.specs.Answers.{playedQ};
 ghost use Rattle.pins.specs.Ranges.{deviceFits};
-ghost use Rattle.trace.specs.Texts.{printed};
-ghost use Rattle.trace.specs.Reading.{read, lineFits};
-ghost use Rattle.trace.specs.Put.{put};
-ghost use Rattle.trace.specs.Chunks.{headFits, headedBy, takenBy, endedBy, refusedTo, fell, benchWith, playedLines, shownLines, chunkBench, chunkOutput, playerFits, answerOf, room, endOutput};
+ghost use Rattle.lines.specs.Printing.{printed};
+ghost use Rattle.lines.specs.Reading.{read, lineFits};
+ghost use Rattle.lines.specs.Put.{put};
+ghost use Rattle.trace.specs.Chunks.{headFits, headedBy, takenBy, endedBy, refusedTo, badLineBetween, benchWith, playedLines, shownLines, chunkBench, chunkOutput, playerFits, answerOf, room, endOutput};
 use crate::Answer;
 use crate::Fed;
-use crate::Line;
 use crate::Player;
-use crate::lines::parse;
-use crate::print::print;
-use crate::print::put_bad;
-use crate::print::put_bytes;
 use chip::Refusal;
+use lines::Line;
+use lines::parse;
+use lines::print;
+use lines::put_bad;
+use lines::put_bytes;
 use lists::play;
 use pins::Device;
 
@@ -204,10 +204,10 @@ fn put_head(flag: u8, out: &mut [u8]) -> usize
 }
 
 // The bad line, where the text came to it between the lines a and b in hand.
-fn put_fall(out: &mut [u8], at: usize, a: Line, b: Line) -> usize
+fn put_bad_between(out: &mut [u8], at: usize, a: Line, b: Line) -> usize
     requires { ⌜ (at + 12 ≤ length (now out)) × (lineFits b ≡ true) ⌝ }
-    ensures { λ _. ⌜ now (out .exit) ≡ put (now (out .entry)) at (fell a b) ⌝ }
-    ensures { λ r. ⌜ (r ≡ at + length (fell a b)) × (r ≤ at + 12) ⌝ }
+    ensures { λ _. ⌜ now (out .exit) ≡ put (now (out .entry)) at (badLineBetween a b) ⌝ }
+    ensures { λ r. ⌜ (r ≡ at + length (badLineBetween a b)) × (r ≤ at + 12) ⌝ }
 {
     if a.place == 5 {
         return at;
@@ -281,7 +281,7 @@ pub(crate) fn take_chunk(player: Player, memory: &mut [u8], text: &[u8], out: &m
     let placed = pieces(line, device, memory, text, out, at);
     let hand = placed.line;
     let next = placed.device;
-    let end = put_fall(out, placed.at, line, hand);
+    let end = put_bad_between(out, placed.at, line, hand);
     let after = Player {
         headed: 1,
         line: hand,
@@ -305,7 +305,7 @@ pub(crate) fn take_end(player: Player, out: &mut [u8]) -> Fed
     let device = player.device;
     let hand = line.ended();
     let at = put_head(player.headed, out);
-    let end = put_fall(out, at, line, hand);
+    let end = put_bad_between(out, at, line, hand);
     let after = Player {
         headed: 1,
         line: hand,

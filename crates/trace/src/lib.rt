@@ -2,29 +2,16 @@
 //
 // Public calls, each for every input: start and memory, what a text starts from; feed, a chunk of the text; finish, its end.
 use chip::Refusal;
+use lines::Line;
 use pins::Device;
 
 mod chunks;
-mod lines;
-mod print;
 mod public;
 
 pub use public::feed;
 pub use public::finish;
 pub use public::memory;
 pub use public::start;
-
-// The line in hand.
-pub struct Line {
-    // lines that are whole, 0 to 1,000,000
-    pub whole: u32,
-    // 0 at its start, 1 after the name, 2 after the tab, 3 after a value that takes no more digits, 4 in a reading, 5 after the bad line
-    pub place: u8,
-    // the kind of event that the name gives, 0 to 5
-    pub kind: u8,
-    // the level, or the reading as far as it is in
-    pub value: u32,
-}
 
 // A text in hand: whether its header is out, the line in hand, and the device after the last whole line.
 pub struct Player {

@@ -2,17 +2,18 @@
 ghost use mathlib.Core.Path.{_≡_};
 ghost use Prim.Native.Nat.{_≤_};
 ghost use lib.ListN.{length};
-ghost use Rattle.trace.specs.Texts.{deliveredMemory};
+ghost use Rattle.chip.specs.Part.{m95512};
+ghost use Rattle.chip.specs.Power.{deliveredMemory};
 ghost use Rattle.trace.specs.Chunks.{startPlayer, answerNumber, feedAnswer, feedNumber, feedMemory, feedOutput, endAnswer, endNumber, endWritten};
 use crate::Answer;
 use crate::Fed;
-use crate::Line;
 use crate::Player;
 use crate::chunks::has_room;
 use crate::chunks::take_chunk;
 use crate::chunks::take_end;
 use chip::Core;
 use chip::Refusal;
+use lines::Line;
 use pins::Device;
 
 // Before the first byte of a text.
@@ -33,7 +34,7 @@ pub fn start() -> Player
 
 // The memory as delivered: every byte FFh.
 pub fn memory() -> [u8; 65536]
-    ensures { λ r. ⌜ r ≡ deliveredMemory ⌝ }
+    ensures { λ r. ⌜ r ≡ deliveredMemory m95512 ⌝ }
 {
     [255; 65536]
 }

@@ -7,11 +7,11 @@ use lib.Seq.{length-take-le}
 use Rattle.chip.specs.Part.{m95512}
 use Rattle.pins.specs.Answers.{Bench, played}
 use Rattle.lists.specs.Answers.{playedQ}
-use Rattle.trace.specs.Texts.{printed}
-use Rattle.trace.specs.Put.{put}
+use Rattle.lines.specs.Printing.{printed}
+use Rattle.lines.specs.Put.{put}
+use Rattle.lines.proofs.Hand.{read-fits, whole-small}
+use Rattle.lines.proofs.Runs.{found-length, found-room}
 use Rattle.trace.specs.Chunks.{playedLines, shownLines}
-use Rattle.trace.proofs.Hand.{read-fits, whole-small}
-use Rattle.trace.proofs.Runs.{found-length, found-room}
 use borrow.Author.Needs.{needs}
 use Rattle.trace.proofs.chunks.piece.Statement.{statement}
 use Rattle.trace.proofs.chunks.piece.Tie as tie

@@ -3,9 +3,9 @@ use native.Mathlib.Omega.{arith}
 use mathlib.Core.List.{List}
 use Prim.Native.Nat.{ℕ, _+_, _*_, _≤_}
 use lib.ListN.{length, length-append}
-use Rattle.trace.specs.Reading.{read}
-use Rattle.trace.specs.Put.{put}
-use Rattle.trace.specs.Chunks.{headed, fell, benchOf, shownLines, chunkOutput}
+use Rattle.lines.specs.Reading.{read}
+use Rattle.lines.specs.Put.{put}
+use Rattle.trace.specs.Chunks.{headed, badLineBetween, benchOf, shownLines, chunkOutput}
 use Rattle.trace.proofs.Choosing.{player-out, three-puts}
 use borrow.Author.Needs.{needs}
 use Rattle.trace.proofs.chunks.take_chunk.Statement.{statement}
@@ -19,8 +19,8 @@ pieces-requires c κs =
     let fits = player-out (c .before .before .before .before .before .before .before .before .before .before .before .args .player) (c .before .before .before .before .before .before .before .before .before .before .before .pre .1) in
     (c .before .before .before .before .before .before .before .before .before .before .before .pre .0, fits .1 .1, fits .1 .0, omega (arith, c .before .before .before .before .put-head .ensures .1 .1, c .before .before .before .before .before .before .before .before .before .before .before .pre .2))
 
-put-fall-requires : tie.Need-put-fall-requires
-put-fall-requires c κs = search needs
+put-bad-between-requires : tie.Need-put-bad-between-requires
+put-bad-between-requires c κs = search needs
 
 answer-of-requires : tie.Need-answer-of-requires
 answer-of-requires c κs = search needs
@@ -37,26 +37,26 @@ returns c =
     let pre = c .before .before .before .before .before .before .before .before .before .before .before .before .before .before .before .before .before .before .before .before .before .before .before .pre in
     let head = c .before .before .before .before .before .before .before .before .before .before .before .before .before .before .before .before .put-head in
     let x = c .before .before .before .before .before .before .before .before .before .before .before .pieces in
-    let fall = c .before .before .before .put-fall in
+    let bad = c .before .before .before .put-bad-between in
     let m = a .memory .now in
     let t = a .text .now in
     let h = headed (a .player) in
     let s = shownLines (a .player .line) (benchOf (a .player) m) t in
-    let f = fell (a .player .line) (read (a .player .line) t) in
-    let fall-is : fell (a .player .line) (x .result .line) ≡ f = ap (fell (a .player .line)) (x .ensures .0 .0) in
+    let f = badLineBetween (a .player .line) (read (a .player .line) t) in
+    let bad-is : badLineBetween (a .player .line) (x .result .line) ≡ f = ap (badLineBetween (a .player .line)) (x .ensures .0 .0) in
     let at : x .result .at ≡ head .result + length s = x .ensures .1 .1 .1 .1 .0 in
-    let end : fall .result ≡ x .result .at + length f = fall .ensures .1 .0 ∙ ap (λ (l : List ℕ). x .result .at + length l) fall-is in
+    let end : bad .result ≡ x .result .at + length f = bad .ensures .1 .0 ∙ ap (λ (l : List ℕ). x .result .at + length l) bad-is in
     let few : x .result .at ≤ head .result + 10 * length t = x .ensures .1 .1 .1 .1 .1 in
-    let last : fall .result ≤ x .result .at + 12 = fall .ensures .1 .1 in
+    let last : bad .result ≤ x .result .at + 12 = bad .ensures .1 .1 in
     let head-is : head .result ≡ length h = head .ensures .1 .0 in
     let small : head .result ≤ 7 = head .ensures .1 .1 in
     let fits : length h + length s + length f ≤ length (a .out .now) = omega (arith, at, end, few, last, head-is, small, pre .2) in
-    let whole : fall .result ≡ length (chunkOutput (a .player) m t) = rw (length-append, length-append) (omega (arith, at, end, head-is)) in (
+    let whole : bad .result ≡ length (chunkOutput (a .player) m t) = rw (length-append, length-append) (omega (arith, at, end, head-is)) in (
       rw (c .answer-of .ensures, x .ensures .0 .0, x .ensures .1 .0, whole) refl,
       (
         x .ensures .1 .1 .0,
         (
-          fall .ensures .0 ∙ ap (λ (l : List ℕ). put (x .last .1 .1 .1 .1 .0) (x .result .at) l) fall-is ∙ ap (λ (l : List ℕ). put l (x .result .at) f) (x .ensures .1 .1 .1 .0 ∙ ap (λ (l : List ℕ). put l (head .result) s) (head .ensures .0))
+          bad .ensures .0 ∙ ap (λ (l : List ℕ). put (x .last .1 .1 .1 .1 .0) (x .result .at) l) bad-is ∙ ap (λ (l : List ℕ). put l (x .result .at) f) (x .ensures .1 .1 .1 .0 ∙ ap (λ (l : List ℕ). put l (head .result) s) (head .ensures .0))
               ∙ three-puts (a .out .now) h (head .result) head-is s f (x .result .at) at fits,
           omega (arith, few, last, small, pre .2),
         ),
@@ -69,7 +69,7 @@ take-chunk-spec =
     (tie.spec
     put-head-requires
     pieces-requires
-    put-fall-requires
+    put-bad-between-requires
     answer-of-requires
     same-length
     same-length-2

@@ -3,10 +3,11 @@ use native.Mathlib.Omega.{arith}
 use mathlib.Core.List.{List}
 use Prim.Native.Nat.{ℕ, _+_, _≤_}
 use lib.ListN.{length, length-append}
-use Rattle.trace.specs.Reading.{ended}
-use Rattle.trace.specs.Put.{put}
-use Rattle.trace.specs.Chunks.{headed, fell, endOutput}
-use Rattle.trace.proofs.Choosing.{player-out, ended-fits, two-puts}
+use Rattle.lines.specs.Reading.{ended}
+use Rattle.lines.specs.Put.{put}
+use Rattle.lines.proofs.Hand.{ended-fits}
+use Rattle.trace.specs.Chunks.{headed, badLineBetween, endOutput}
+use Rattle.trace.proofs.Choosing.{player-out, two-puts}
 use borrow.Author.Needs.{needs}
 use Rattle.trace.proofs.chunks.take_end.Statement.{statement}
 use Rattle.trace.proofs.chunks.take_end.Tie as tie
@@ -17,8 +18,8 @@ ended-requires c κs = search needs
 put-head-requires : tie.Need-put-head-requires
 put-head-requires c κs = search needs
 
-put-fall-requires : tie.Need-put-fall-requires
-put-fall-requires c κs =
+put-bad-between-requires : tie.Need-put-bad-between-requires
+put-bad-between-requires c κs =
     let fits = player-out (c .before .before .before .before .before .before .before .before .before .args .player) (c .before .before .before .before .before .before .before .before .before .pre .0) in
     (omega (arith, c .before .before .before .put-head .ensures .1 .1, c .before .before .before .before .before .before .before .before .before .pre .1), rw (c .before .before .before .before .before .ended .ensures) (ended-fits (c .before .before .before .before .before .before .before .before .before .args .player .line) (fits .1 .0)))
 
@@ -33,19 +34,19 @@ returns c =
     let a = c .before .before .before .before .before .before .before .before .before .before .before .before .before .args in
     let pre = c .before .before .before .before .before .before .before .before .before .before .before .before .before .pre in
     let head = c .before .before .before .before .before .before .before .put-head in
-    let fall = c .before .before .before .put-fall in
+    let bad = c .before .before .before .put-bad-between in
     let h = headed (a .player) in
-    let f = fell (a .player .line) (ended (a .player .line)) in
-    let fall-is : fell (a .player .line) (c .before .before .before .before .before .before .before .before .before .ended .result) ≡ f = ap (fell (a .player .line)) (c .before .before .before .before .before .before .before .before .before .ended .ensures) in
-    let end : fall .result ≡ head .result + length f = fall .ensures .1 .0 ∙ ap (λ (l : List ℕ). head .result + length l) fall-is in
-    let last : fall .result ≤ head .result + 12 = fall .ensures .1 .1 in
+    let f = badLineBetween (a .player .line) (ended (a .player .line)) in
+    let bad-is : badLineBetween (a .player .line) (c .before .before .before .before .before .before .before .before .before .ended .result) ≡ f = ap (badLineBetween (a .player .line)) (c .before .before .before .before .before .before .before .before .before .ended .ensures) in
+    let end : bad .result ≡ head .result + length f = bad .ensures .1 .0 ∙ ap (λ (l : List ℕ). head .result + length l) bad-is in
+    let last : bad .result ≤ head .result + 12 = bad .ensures .1 .1 in
     let head-is : head .result ≡ length h = head .ensures .1 .0 in
     let small : head .result ≤ 7 = head .ensures .1 .1 in
     let fits : length h + length f ≤ length (a .out .now) = omega (arith, end, last, head-is, small, pre .1) in
-    let whole : fall .result ≡ length (endOutput (a .player)) = rw length-append (omega (arith, end, head-is)) in (
+    let whole : bad .result ≡ length (endOutput (a .player)) = rw length-append (omega (arith, end, head-is)) in (
       rw (c .answer-of .ensures, c .before .before .before .before .before .before .before .before .before .ended .ensures, whole) refl,
       (
-        fall .ensures .0 ∙ ap (λ (l : List ℕ). put (head .last .1 .0) (head .result) l) fall-is ∙ ap (λ (l : List ℕ). put l (head .result) f) (head .ensures .0)
+        bad .ensures .0 ∙ ap (λ (l : List ℕ). put (head .last .1 .0) (head .result) l) bad-is ∙ ap (λ (l : List ℕ). put l (head .result) f) (head .ensures .0)
             ∙ two-puts (a .out .now) h (head .result) head-is f fits,
         omega (arith, last, small, pre .1),
       ),
@@ -57,7 +58,7 @@ take-end-spec =
     (tie.spec
     ended-requires
     put-head-requires
-    put-fall-requires
+    put-bad-between-requires
     answer-of-requires
     same-length
     returns)

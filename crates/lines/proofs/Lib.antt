@@ -1,0 +1,5 @@
+-- Theorems on a line, and the facts that the functions' proofs share.
+pub mod Cases
+pub mod Hand
+pub mod Runs
+pub mod Puts

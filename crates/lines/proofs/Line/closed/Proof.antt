@@ -1,0 +1,22 @@
+use Rattle.laws.specs.Pick.{arms}
+use borrow.Author.Needs.{needs}
+use Rattle.lines.proofs.Line.closed.Statement.{statement}
+use Rattle.lines.proofs.Line.closed.Tie as tie
+use Rattle.lines.proofs.Line.closed.Reads as reads
+use Rattle.lines.proofs.Line.closed.Lts as lts
+use Rattle.lines.proofs.Line.stopped.Reads as stopped-reads
+
+add-t4 : tie.Need-add-t4
+add-t4 c = search needs
+
+returns : tie.Need-returns
+returns c = search arms depth 12
+
+stopped-requires : tie.Need-stopped-requires
+stopped-requires c κs = search needs
+
+returns-2 : tie.Need-returns-2
+returns-2 c = search arms depth 12
+
+pub closed-spec : {M : Type 1} → statement M
+closed-spec = tie.close (tie.spec add-t4 returns stopped-requires returns-2)

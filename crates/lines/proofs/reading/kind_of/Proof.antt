@@ -1,0 +1,38 @@
+use Rattle.lines.specs.Lines.{kindOf}
+use Rattle.laws.specs.Pick.{arms}
+use Rattle.lines.proofs.reading.kind_of.Statement.{statement}
+use Rattle.lines.proofs.reading.kind_of.Tie as tie
+use Rattle.lines.proofs.reading.kind_of.Reads as reads
+use Rattle.lines.proofs.reading.kind_of.Lts as lts
+
+returns : tie.Need-returns
+unfolding kindOf
+returns c = search arms depth 12
+
+returns-2 : tie.Need-returns-2
+unfolding kindOf
+returns-2 c = search arms depth 12
+
+returns-3 : tie.Need-returns-3
+unfolding kindOf
+returns-3 c = search arms depth 12
+
+returns-4 : tie.Need-returns-4
+unfolding kindOf
+returns-4 c = search arms depth 12
+
+returns-5 : tie.Need-returns-5
+unfolding kindOf
+returns-5 c = search arms depth 12
+
+returns-6 : tie.Need-returns-6
+unfolding kindOf
+returns-6 c = search arms depth 12
+
+returns-7 : tie.Need-returns-7
+unfolding kindOf
+returns-7 c = search arms depth 12
+
+pub kind-of-spec : {M : Type 1} → statement M
+kind-of-spec =
+    tie.close (tie.spec returns returns-2 returns-3 returns-4 returns-5 returns-6 returns-7)

@@ -1,0 +1,24 @@
+use Rattle.lines.proofs.Hand.{digit-low}
+use borrow.Author.Needs.{needs}
+use Rattle.lines.proofs.reading.with_digit.Statement.{statement}
+use Rattle.lines.proofs.reading.with_digit.Tie as tie
+use Rattle.lines.proofs.reading.with_digit.Reads as reads
+use Rattle.lines.proofs.reading.with_digit.Lts as lts
+
+mul-result : tie.Need-mul-result
+mul-result c = search needs
+
+sub-result : tie.Need-sub-result
+sub-result c = digit-low (c .args .byte) (c .pre)
+
+cast-result : tie.Need-cast-result
+cast-result c = search needs
+
+add-result : tie.Need-add-result
+add-result c = search needs
+
+returns : tie.Need-returns
+returns c = search needs
+
+pub with-digit-spec : {M : Type 1} → statement M
+with-digit-spec = tie.close (tie.spec mul-result sub-result cast-result add-result returns)
