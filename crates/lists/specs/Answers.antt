@@ -18,9 +18,9 @@ unfoldable pub playedQ : Part → List ℕ → Bench → List ℕ
 playedQ P [] b = []
 playedQ P (e ∷ es) b = levelNumber (q (afterEvent P e b .device)) ∷ playedQ P es (afterEvent P e b)
 
--- refusals 1, 2, and 5 for an output that has not the list's length
+-- what stands for refusals 1, 2, and 5 for an output that has not the list's length, and for none
 abbrev pub playChoice : {A : Type 0} → Part → Device → List ℕ → ℕ → ℕ → A → A → A → A → A
-playChoice P x m len room wrong outside short done = memoryChoice P x m wrong outside (pick (eqb room len) done short)
+playChoice P x m len room one two five done = memoryChoice P x m one two (pick (eqb room len) done five)
 
 abbrev pub playOutcome : Part → Device → List ℕ → ℕ → ℕ → Outcome
 playOutcome P x m len room = playChoice P x m len room (Refused MemoryLength) (Refused RecordRange) (Refused OutputLength) Done

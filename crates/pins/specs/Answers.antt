@@ -26,12 +26,12 @@ use Rattle.pins.specs.Events.{stepped, steppedMemory, eventOf}
 
 -- ---- an event
 
--- refusal 2; and, where memory is lent, 1 before it
+-- what stands for refusal 2, and for none; and, where memory is lent, for 1 before it
 abbrev pub recordChoice : {A : Type 0} → Part → Device → A → A → A
-recordChoice P x outside done = pick (deviceFits P x) done outside
+recordChoice P x two done = pick (deviceFits P x) done two
 
 abbrev pub memoryChoice : {A : Type 0} → Part → Device → List ℕ → A → A → A → A
-memoryChoice P x m wrong outside done = pick (eqb (length m) (P .size)) (recordChoice P x outside done) wrong
+memoryChoice P x m one two done = pick (eqb (length m) (P .size)) (recordChoice P x two done) one
 
 abbrev pub recordOutcome : Part → Device → Outcome
 recordOutcome P x = recordChoice P x (Refused RecordRange) Done
