@@ -23,7 +23,7 @@ use Rattle.frames.specs.Answers.{frameOutcome, framedOutput}
 use Rattle.frames.proofs.Cases.{case-f}
 use Rattle.split.proofs.Cases.{case-g-parts, case-g-lengths}
 use Rattle.driver.specs.Sequence.{wren}
-use Rattle.driver.proofs.Cases.{case-h}
+use Rattle.runs.proofs.Cases.{case-h}
 use Rattle.chip.proofs.Cases.{case-e, case-i}
 use Rattle.agree.specs.Starred.{after, guarded, Starred}
 

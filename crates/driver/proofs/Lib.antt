@@ -1,4 +1,4 @@
--- The driver's theorems (Polls to Results, Cases, Ones), and before them the facts that the functions' proofs share.
+-- The facts that the functions' proofs share, and that two results are equal. The theorems on runs are those of `runs`.
 pub mod Playing
 pub mod Frames
 pub mod Ready
@@ -9,10 +9,4 @@ pub mod Seen
 pub mod Runs
 pub mod Drives
 pub mod Outcomes
-pub mod Polls
-pub mod Writing
-pub mod Stored
-pub mod Leaves
-pub mod Results
-pub mod Cases
 pub mod Ones

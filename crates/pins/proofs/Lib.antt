@@ -2,14 +2,3 @@
 pub mod Answering
 pub mod Stills
 pub mod Ones
-pub mod Parts
-pub mod Held
-pub mod Levels
-pub mod Unselected
-pub mod Showing
-pub mod Pausing
-pub mod HeldDrop
-pub mod Deciding
-pub mod Fits
-pub mod CellRule
-pub mod Addressed

@@ -3,4 +3,3 @@ pub mod Devices
 pub mod Events
 pub mod Ranges
 pub mod Answers
-pub mod Cells

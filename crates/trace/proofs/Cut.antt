@@ -13,8 +13,8 @@ use Rattle.chip.specs.Part.{m95512}
 use Rattle.pins.specs.Answers.{Bench, played}
 use Rattle.lists.specs.Answers.{playedQ}
 use Rattle.pins.specs.Ranges.{deviceFits}
-use Rattle.edges.proofs.Sound.{m95512-sound}
-use Rattle.pins.proofs.Fits.{Sized, played-fits, played-sized, powered-fits}
+use Rattle.rules.proofs.Sound.{m95512-sound}
+use Rattle.rules.proofs.Fits.{Sized, played-fits, played-sized, powered-fits}
 use Rattle.lines.specs.declared.Line.{Line}
 use Rattle.lines.specs.Lines.{lineSays}
 use Rattle.lines.specs.Printing.{badLine, printed}

@@ -24,26 +24,26 @@ use Rattle.chip.specs.declared.Instruction.the-variants.{Wren, Wrdi, Rdsr, Wrsr
 use Rattle.chip.proofs.Within.{Within}
 use Rattle.chip.proofs.Passing.{timed-within}
 use Rattle.chip.proofs.Cases.{powered-within}
 use Rattle.pins.specs.declared.Pins.{Pins}
 use Rattle.edges.specs.declared.Frame.{Frame}
 use Rattle.pins.specs.declared.Device.{Device}
 use Rattle.pins.specs.declared.Event.{Event}
 use Rattle.pins.specs.declared.Event.the-variants.{S, C, D, W, Hold, Time}
 use Rattle.pins.specs.Devices.{withS, withC, withD, withW, withHold, withPins, withFrame, resting, selected, counting}
 use Rattle.edges.specs.Frames.{noFrame, withByte}
 use Rattle.edges.specs.Rising.{shiftedIn, taking, wholeByte, risen}
 use Rattle.chip.specs.Output.{outputs}
 use Rattle.edges.specs.Falling.{fallen}
 use Rattle.pins.specs.Ranges.{pinsFit, heldFits, ranFits, deviceFits}
 use Rattle.pins.specs.Events.{selecting, deselecting, renewed, raising, lowering, onS, onC, onD, onW, onHold, onTime, stepped, eventOf}
 use Rattle.pins.specs.Answers.{Bench, answer, afterEvent, played, powered}
-use Rattle.edges.proofs.Sound.{Sound}
-use Rattle.pins.proofs.Parts.{Fits, parts, device-fits}
+use Rattle.rules.proofs.Sound.{Sound}
+use Rattle.rules.proofs.Parts.{Fits, parts, device-fits}
 use Rattle.chip.proofs.Bits.{bit-small}
-use Rattle.pins.proofs.Held.{hold-small, low-or-high, renewed-fits, held-small}
-use Rattle.edges.proofs.Untouched.{taking-same, loading-same}
-use Rattle.edges.proofs.Edges.{empty-frame, risen-fits, fallen-fits}
-use Rattle.pins.proofs.Deciding.{tie-out, tie-in, decided-within}
+use Rattle.rules.proofs.Held.{hold-small, low-or-high, renewed-fits, held-small}
+use Rattle.rules.proofs.Untouched.{taking-same, loading-same}
+use Rattle.rules.proofs.Edges.{empty-frame, risen-fits, fallen-fits}
+use Rattle.rules.proofs.Deciding.{tie-out, tie-in, decided-within}
 
 -- ---- the pins, one set to v
 

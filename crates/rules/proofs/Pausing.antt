@@ -10,15 +10,15 @@ use Rattle.laws.specs.And.{never}
 use Rattle.chip.specs.Part.{Part}
 use Rattle.chip.specs.Status.{bit, on}
 use Rattle.edges.specs.declared.Frame.{Frame}
 use Rattle.pins.specs.declared.Device.{Device}
 use Rattle.pins.specs.declared.Event.{Event}
 use Rattle.pins.specs.declared.Event.the-variants.{S, C, D, W, Hold, Time}
 use Rattle.edges.specs.declared.Level.the-variants.{Z}
 use Rattle.pins.specs.Devices.{withC, withHold, withPins, selected, counting, q}
 use Rattle.edges.specs.Falling.{fallen}
 use Rattle.pins.specs.Events.{renewed, lowering, onC, onD, onW, onHold, onTime, stepped, eventOf}
 use Rattle.pins.specs.Answers.{Bench, afterEvent, played}
-use Rattle.pins.proofs.Showing.{shows-same, z-held, hold-frame}
+use Rattle.rules.proofs.Showing.{shows-same, z-held, hold-frame}
 
 -- HOLD raised while C is low
 raised : (y : Device) → on (y .pins .c) ≡ false → onHold true y ≡ renewed (withPins (withHold 1 (y .pins)) y)

@@ -13,12 +13,12 @@ use Rattle.chip.specs.Records.{running, withTime}
 use Rattle.chip.specs.Time.{elapsed, ends, timedMemory}
 use Rattle.chip.specs.declared.Core.{Core}
 use Rattle.chip.proofs.Passing.{on-core, no-end}
 use Rattle.pins.specs.declared.Device.{Device}
 use Rattle.pins.specs.Devices.{withD, withW, withHold, withPins, withCore}
 use Rattle.pins.specs.Ranges.{deviceFits}
 use Rattle.pins.specs.Events.{renewed, onS, onC, onD, onW, onHold, onTime}
-use Rattle.pins.proofs.Parts.{parts}
-use Rattle.pins.proofs.Held.{hold-small, renewed-same}
+use Rattle.rules.proofs.Parts.{parts}
+use Rattle.rules.proofs.Held.{hold-small, renewed-same}
 
 module _ (P : Part) (level : Bool) (x : Device) where
   pub same-s : x .pins .s ≡ bit level → onS P level x ≡ x

@@ -1,17 +1,21 @@
--- Inside the ranges: what the test of a frame in hand says, part by part, and back.
+-- Inside the ranges: what the test of a device says, part by part, and back.
 use mathlib.Core.Path.{_≡_}
 use mathlib.Core.Bool.{true, _||_}
 use Prim.Native.Nat.{_^_, _<_, _≤_}
 use lib.Dec.{eqb, leb, ltb}
 use borrow.Author.Tests.{le-leb, leb-true, lt-ltb, ltb-true}
 use Rattle.laws.specs.Pick.{and-left, and-right, and-both}
-use Rattle.laws.specs.And.{and-3-out, and-3-in, and-4-out, and-4-in}
+use Rattle.laws.specs.And.{and-3-out, and-3-in, and-4-out, and-4-in, and-6-out, and-6-in}
 use Rattle.chip.specs.Part.{Part}
 use Rattle.chip.specs.Instructions.{decode}
 use Rattle.chip.specs.Latches.{latchFits}
 use Rattle.chip.specs.declared.Instruction.{Instruction}
 use Rattle.edges.specs.declared.Frame.{Frame}
 use Rattle.edges.specs.Ranges.{partFits, countsFit, codeFits, addressFits, valued, latches, outFits, fieldsFit, frameFits}
+use Rattle.chip.specs.Ranges.{inRanges}
+use Rattle.chip.proofs.Within.{Within, within, in-ranges}
+use Rattle.pins.specs.declared.Device.{Device}
+use Rattle.pins.specs.Ranges.{pinsFit, heldFits, emptyFits, ranFits, deviceFits}
 
 -- the fields that the instruction i fills
 pub record FieldsFit (P : Part) (i : Instruction) (f : Frame) : Type 0 where
@@ -26,6 +30,14 @@ pub record FrameFits (P : Part) (f : Frame) : Type 0 where
   pub part : f .part < 2 ^ f .bits
   pub code : codeFits f ≡ true
   pub fields : FieldsFit P (decode (f .code)) f
+
+pub record Fits (P : Part) (x : Device) : Type 0 where
+  pub pins : pinsFit (x .pins) ≡ true
+  pub held : heldFits (x .pins) (x .held) ≡ true
+  pub frame : FrameFits P (x .frame)
+  pub empty : emptyFits x ≡ true
+  pub ran : ranFits x ≡ true
+  pub core : Within P (x .core)
 
 module _ (P : Part) (i : Instruction) (f : Frame) where
   fields-out : fieldsFit P i f ≡ true → FieldsFit P i f
@@ -57,3 +69,23 @@ module _ (P : Part) (f : Frame) where
       (and-both (leb (f .taken) (P .most)) (partFits (f .bits) (f .part)) (le-leb _ _ (t .taken))
       (and-both (leb (f .bits) 7) (ltb (f .part) (2 ^ f .bits)) (le-leb _ _ (t .bits)) (lt-ltb _ _ (t .part))))
       (t .code) (fields-in P (decode (f .code)) f (t .fields))
+
+module _ (P : Part) (x : Device) where
+  pub parts : deviceFits P x ≡ true → Fits P x
+  unfolding deviceFits
+  parts e =
+      let t = and-6-out (pinsFit (x .pins)) (heldFits (x .pins) (x .held)) (frameFits P (x .frame)) (emptyFits x) (ranFits x) (inRanges P (x .core)) e in
+      record {
+        pins = t .0;
+        held = t .1 .0;
+        frame = frame-out P (x .frame) (t .1 .1 .0);
+        empty = t .1 .1 .1 .0;
+        ran = t .1 .1 .1 .1 .0;
+        core = within P (x .core) (t .1 .1 .1 .1 .1);
+      }
+
+  pub device-fits : Fits P x → deviceFits P x ≡ true
+  unfolding deviceFits
+  device-fits t =
+      and-6-in (pinsFit (x .pins)) (heldFits (x .pins) (x .held)) (frameFits P (x .frame)) (emptyFits x) (ranFits x) (inRanges P (x .core))
+      (t .pins) (t .held) (frame-in P (x .frame) (t .frame)) (t .empty) (t .ran) (in-ranges P (x .core) (t .core))

@@ -7,8 +7,8 @@ use Rattle.chip.specs.Part.{Part}
 use Rattle.chip.specs.Protect.{protects}
 use Rattle.chip.specs.declared.Core.{Core}
 use Rattle.split.specs.Split.{splitAddress}
 use Rattle.driver.specs.Sequence.{Ending, allDone, timedOut, notTaken}
-use Rattle.driver.specs.Counts.{roundedUp}
+use Rattle.runs.specs.Counts.{roundedUp}
 
 -- the frames of a page done: WREN, WRITE, and the cycle length over the interval, rounded up, polls
 abbrev pub pageFrames : ℕ → Core → ℕ

@@ -21,17 +21,17 @@ use Rattle.chip.specs.declared.Instruction.{Instruction}
 use Rattle.chip.specs.declared.Instruction.the-variants.{Wren, Wrdi, Rdsr, Wrsr, Read, Write, Silence}
 use Rattle.chip.specs.Ranges.{valueFits, pageFits}
 use Rattle.chip.proofs.Within.{nothing-fits}
 use Rattle.edges.specs.declared.Frame.{Frame}
 use Rattle.edges.specs.Frames.{noFrame, withBits, withByte, withCode, withOut}
 use Rattle.edges.specs.Rising.{shiftedIn, taking, wholeByte, risen}
 use Rattle.chip.specs.Output.{outputs}
 use Rattle.edges.specs.Falling.{loading, fallen}
 use Rattle.edges.specs.Ranges.{valued, latches, codeFits}
-use Rattle.edges.proofs.Sound.{Sound}
-use Rattle.edges.proofs.Parts.{FieldsFit, FrameFits}
+use Rattle.rules.proofs.Sound.{Sound}
+use Rattle.rules.proofs.Parts.{FieldsFit, FrameFits}
 use Rattle.chip.proofs.Bits.{bit-small}
-use Rattle.edges.proofs.Untouched.{taking-same, loading-same}
-use Rattle.edges.proofs.Fields.{latch-more, address-some, whole-bounded, taking-fits}
+use Rattle.rules.proofs.Untouched.{taking-same, loading-same}
+use Rattle.rules.proofs.Fields.{latch-more, address-some, whole-bounded, taking-fits}
 
 -- ---- before the first whole byte
 

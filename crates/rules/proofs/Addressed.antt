@@ -26,25 +26,24 @@ use Rattle.chip.specs.declared.Instruction.{Instruction}
 use Rattle.chip.specs.declared.Instruction.the-variants.{Wren, Wrdi, Rdsr, Wrsr, Read, Write, Silence}
 use Rattle.chip.proofs.Executed.{Paged}
 use Rattle.edges.specs.declared.Frame.{Frame}
 use Rattle.pins.specs.declared.Device.{Device}
 use Rattle.pins.specs.declared.Event.{Event}
 use Rattle.pins.specs.declared.Event.the-variants.{S, C, D, W, Hold, Time}
 use Rattle.edges.specs.Frames.{withByte}
 use Rattle.pins.specs.Devices.{withC, withPins, counting}
 use Rattle.edges.specs.Rising.{shiftedIn, latchByte, taking, wholeByte, risen}
 use Rattle.chip.specs.Output.{outputs}
 use Rattle.edges.specs.Falling.{loading, fallen}
 use Rattle.edges.specs.Ranges.{latches}
 use Rattle.pins.specs.Ranges.{deviceFits}
 use Rattle.pins.specs.Events.{judgedNow, renewed, onS, onC, onD, onW, onHold, onTime, stepped, eventOf}
-use Rattle.pins.specs.Cells.{inFrame, writes, touched, dataFor, takes, addressed}
+use Rattle.rules.specs.Cells.{inFrame, writes, touched, dataFor, takes, addressed}
 use Rattle.pins.specs.Answers.{Bench, afterEvent, played}
-use Rattle.edges.proofs.Sound.{Sound}
-use Rattle.edges.proofs.Parts.{FrameFits}
-use Rattle.pins.proofs.Parts.{Fits, parts}
-use Rattle.edges.proofs.Edges.{no-latch-fits}
-use Rattle.pins.proofs.Fits.{Sized, stepped-fits, stepped-sized}
-use Rattle.pins.proofs.CellRule.{untouched-cell}
+use Rattle.rules.proofs.Sound.{Sound}
+use Rattle.rules.proofs.Parts.{FrameFits, Fits, parts}
+use Rattle.rules.proofs.Edges.{no-latch-fits}
+use Rattle.rules.proofs.Fits.{Sized, stepped-fits, stepped-sized}
+use Rattle.rules.proofs.CellRule.{untouched-cell}
 
 -- ---- a latch in which nothing may be marked
 

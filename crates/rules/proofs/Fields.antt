@@ -17,13 +17,13 @@ use Rattle.chip.specs.declared.Latch.{Latch}
 use Rattle.chip.specs.declared.Instruction.{Instruction}
 use Rattle.chip.specs.declared.Instruction.the-variants.{Wren, Wrdi, Rdsr, Wrsr, Read, Write, Silence}
 use Rattle.chip.proofs.Executed.{Paged, more-fits, one-latched}
 use Rattle.edges.specs.declared.Frame.{Frame}
 use Rattle.edges.specs.Frames.{withByte, withValue, withAddress}
 use Rattle.edges.specs.Rising.{latchByte, taking}
 use Rattle.chip.specs.Output.{outputs}
 use Rattle.edges.specs.Ranges.{addressFits, valued, latches, outFits}
-use Rattle.edges.proofs.Sound.{Sound}
-use Rattle.edges.proofs.Parts.{FieldsFit}
+use Rattle.rules.proofs.Sound.{Sound}
+use Rattle.rules.proofs.Parts.{FieldsFit}
 
 -- ---- what holds of n whole bytes holds of more
 

@@ -12,16 +12,16 @@ use Rattle.chip.specs.Status.{bit, on}
 use Rattle.chip.specs.Records.{running}
 use Rattle.chip.specs.Instructions.{decode}
 use Rattle.edges.specs.declared.Frame.{Frame}
 use Rattle.pins.specs.declared.Device.{Device}
 use Rattle.edges.specs.declared.Level.the-variants.{Z}
 use Rattle.pins.specs.Devices.{withC, withPins, selected, counting, q}
 use Rattle.edges.specs.Frames.{withByte}
 use Rattle.edges.specs.Rising.{shiftedIn, wholeByte, risen}
 use Rattle.chip.specs.Output.{outputs}
 use Rattle.pins.specs.Ranges.{deviceFits}
 use Rattle.pins.specs.Events.{raising, onS, onC, onD, onW, onHold, onTime}
-use Rattle.pins.proofs.Parts.{parts}
-use Rattle.edges.proofs.Untouched.{taking-same}
+use Rattle.rules.proofs.Parts.{parts}
+use Rattle.rules.proofs.Untouched.{taking-same}
 
 -- ---- Z
 

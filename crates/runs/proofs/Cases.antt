@@ -1,10 +1,10 @@
 -- Document 01's case h of the definitions: 300 bytes from address 100 on, an idle device as delivered, cycle length 5,000.
 use mathlib.Core.Path.{_≡_, refl}
 use mathlib.Core.List.{List}
-use Prim.Native.Nat.{ℕ, zero, suc}
+use Prim.Native.Nat.{ℕ}
 use lib.ListN.{replicate}
 use Rattle.laws.specs.Pick.{pick}
-use Rattle.laws.specs.Table.{from, table}
+use Rattle.laws.specs.Table.{from}
 use Rattle.chip.specs.Part.{m95512}
 use Rattle.chip.specs.Latches.{zeros}
 use Rattle.chip.specs.Instructions.{decode}

@@ -1,25 +1,24 @@
 -- How many polls a wait makes, and what it leaves: the cycle's end after the time left over the interval, rounded up; or, when the polls run
 -- out before that, a cycle that still runs.
 use mathlib.Core.Path.{_≡_, refl, ap, sym, subst, _∙_}
-use mathlib.Core.Bool.{true, false, _&&_}
-use mathlib.Core.List.{List, [], _++_}
+use mathlib.Core.Bool.{true, false}
 use Prim.Native.Nat.{ℕ, zero, suc, _+_, _-_, _*_, _/_, _%_, _^_, _<_, _≤_}
 use native.Mathlib.Nat.{zero-mul, suc-mul, add-div-right, div-eq-of-lt}
-use native.Mathlib.Decide.{decLt, decLe}
+use native.Mathlib.Decide.{decLt}
 use native.Mathlib.Omega.{arith}
-use lib.Dec.{leb, ltb}
+use lib.Dec.{leb}
 use borrow.Author.Tests.{lt-ltb, le-ltb, le-leb, lt-leb}
-use Rattle.laws.specs.Pick.{pick, at-yes, at-no, pick-case, and-both, and-no-right}
+use Rattle.laws.specs.Pick.{pick, at-yes, and-both, and-no-right}
 use Rattle.chip.specs.Part.{m95512}
-use Rattle.chip.specs.Records.{running, waitsStatus, withStatus, withTime}
+use Rattle.chip.specs.Records.{running, waitsStatus, withTime}
 use Rattle.chip.specs.Time.{elapsed, ends, ended, endedMemory, timed, timedMemory}
 use Rattle.chip.specs.declared.Core.{Core}
 use Rattle.chip.proofs.Passing.{on-core, no-end}
 use Rattle.frames.specs.Play.{Device, played}
 use Rattle.driver.specs.Sequence.{sent, latePoll, pollsOn}
-use Rattle.driver.specs.Counts.{roundedUp}
+use Rattle.runs.specs.Counts.{roundedUp}
 use Rattle.driver.proofs.Frames.{poll-leaves}
 use Rattle.driver.proofs.Waits.{polls-on-free, polls-on-none, played-busy, sent-busy}
 
 -- ---- a quotient, rounded up
 

@@ -21,17 +21,17 @@ use Rattle.chip.specs.declared.Instruction.{Instruction}
 use Rattle.chip.specs.declared.Instruction.the-variants.{Wren, Wrdi, Rdsr, Wrsr, Read, Write, Silence}
 use Rattle.chip.proofs.Within.{Within}
 use Rattle.chip.proofs.Passing.{timed-length, cell-rule}
 use Rattle.pins.specs.declared.Device.{Device}
 use Rattle.pins.specs.declared.Event.{Event}
 use Rattle.pins.specs.declared.Event.the-variants.{S, C, D, W, Hold, Time}
 use Rattle.pins.specs.Devices.{withC, withPins, counting}
 use Rattle.pins.specs.Ranges.{deviceFits}
 use Rattle.pins.specs.Events.{judgedNow, decided, renewed, onS, onC, onD, onW, onHold, onTime, stepped, steppedMemory, eventOf}
-use Rattle.pins.specs.Cells.{endsCycle, inFrame, writes, touched}
+use Rattle.rules.specs.Cells.{endsCycle, inFrame, writes, touched}
 use Rattle.pins.specs.Answers.{Bench, afterEvent, played}
-use Rattle.edges.proofs.Sound.{Sound}
-use Rattle.pins.proofs.Parts.{parts}
-use Rattle.pins.proofs.Fits.{Sized, stepped-fits, stepped-sized}
+use Rattle.rules.proofs.Sound.{Sound}
+use Rattle.rules.proofs.Parts.{parts}
+use Rattle.rules.proofs.Fits.{Sized, stepped-fits, stepped-sized}
 
 -- ---- one event
 

@@ -21,13 +21,12 @@ use Rattle.chip.specs.declared.Instruction.the-variants.{Wren, Wrdi, Rdsr, Wrsr
 use Rattle.chip.proofs.Within.{Within}
 use Rattle.chip.proofs.Executed.{Paged, more-fits, executed-within}
 use Rattle.edges.specs.declared.Frame.{Frame}
 use Rattle.pins.specs.declared.Device.{Device}
 use Rattle.edges.specs.Ranges.{latches}
 use Rattle.pins.specs.Events.{judgedNow, executedNow, decided}
-use Rattle.edges.proofs.Parts.{FieldsFit}
-use Rattle.pins.proofs.Parts.{Fits}
-use Rattle.pins.proofs.HeldDrop.{passed-now}
-use Rattle.edges.proofs.Fields.{page-below, bounded-below}
+use Rattle.rules.proofs.Parts.{FieldsFit, Fits}
+use Rattle.rules.proofs.HeldDrop.{passed-now}
+use Rattle.rules.proofs.Fields.{page-below, bounded-below}
 
 -- ---- the tie "if a frame is past its eighth edge and a cycle runs now, one ran at that edge"
 

@@ -2,37 +2,35 @@
 use mathlib.Core.Path.{_≡_, refl, ap, sym, subst, _∙_}
 use mathlib.Core.Bool.{Bool, true, false, true≢false}
 use mathlib.Core.Logic.{_⊎_, inl, inr}
-use mathlib.Core.List.{List, []}
-use Prim.Native.Nat.{ℕ, zero, suc, _+_, _-_, _*_, _^_, _<_, _≤_}
+use mathlib.Core.List.{List}
+use Prim.Native.Nat.{ℕ, _+_, _-_, _*_, _^_, _<_, _≤_}
 use native.Mathlib.Decide.{decLe}
 use native.Mathlib.Omega.{arith}
 use lib.ListN.{length}
 use lib.Dec.{leb}
 use borrow.Author.Tests.{lt-ltb, le-ltb, leb-true, ltb-false, ltb-true}
-use Rattle.laws.specs.Pick.{pick, at-yes, at-no, and-left, pick-case}
+use Rattle.laws.specs.Pick.{at-yes, at-no, and-left, pick-case}
 use Rattle.chip.specs.Part.{m95512}
-use Rattle.chip.specs.Status.{on}
 use Rattle.chip.specs.Protect.{protects}
-use Rattle.chip.specs.Ranges.{cycleFits}
-use Rattle.chip.specs.Records.{running, waitsStatus, withStatus, withTime, withoutCycle}
-use Rattle.chip.specs.Time.{ended, endedMemory}
+use Rattle.chip.specs.Records.{running, waitsStatus, withoutCycle}
+use Rattle.chip.specs.Time.{ended}
 use Rattle.chip.specs.declared.Core.{Core}
 use Rattle.chip.proofs.Within.{within}
 use Rattle.split.specs.Split.{count, splitAddress}
 use Rattle.split.specs.Pieces.{pieces}
 use Rattle.split.proofs.Whole.{pieces-none, whole}
 use Rattle.frames.specs.Play.{Device, played}
 use Rattle.driver.specs.Sequence.{sent, pollsOn, firstWait, Ending, allDone, timedOut, notTaken, Run, stopped, begun, allParts, run}
-use Rattle.driver.specs.Counts.{roundedUp, overwritten, onceEnded}
+use Rattle.runs.specs.Counts.{roundedUp, overwritten, onceEnded}
 use Rattle.driver.proofs.Playing.{played-append, sent-append}
 use Rattle.driver.proofs.Ready.{Ready, ready-played}
 use Rattle.driver.proofs.Waits.{polls-on-free}
 use Rattle.driver.proofs.Joined.{first-wait}
-use Rattle.driver.proofs.Polls.{waited, late}
+use Rattle.runs.proofs.Polls.{waited, late}
 use Rattle.driver.proofs.Drives.{run-late, run-parts}
-use Rattle.driver.specs.Endings.{pageFrames, Meaning}
-use Rattle.driver.proofs.Leaves.{Idle, parts-leave}
-use Rattle.driver.proofs.Stored.{overwritten-none}
+use Rattle.runs.specs.Endings.{pageFrames, Meaning}
+use Rattle.runs.proofs.Leaves.{Idle, parts-leave}
+use Rattle.runs.proofs.Stored.{overwritten-none}
 
 done-late : _≡_ {A = Ending} allDone timedOut → ⊥
 done-late e = true≢false (ap isAll e)

@@ -8,12 +8,12 @@ use borrow.Author.Tests.{eqb-true}
 use Rattle.laws.specs.Pick.{pick, at-yes, at-no, pick-case, and-no-left}
 use Rattle.chip.specs.Part.{Part}
 use Rattle.chip.specs.Status.{bit, on}
 use Rattle.pins.specs.declared.Pins.{Pins}
 use Rattle.pins.specs.declared.Device.{Device}
 use Rattle.pins.specs.Devices.{withC, withD, withW, withHold, withPins, selected, counting}
 use Rattle.pins.specs.Ranges.{deviceFits}
 use Rattle.pins.specs.Events.{renewed, onC, onD, onW, onHold}
-use Rattle.pins.proofs.Parts.{parts}
+use Rattle.rules.proofs.Parts.{parts}
 
 module _ (P : Part) (x : Device) (fits : deviceFits P x ≡ true) (s : on (x .pins .s) ≡ true) where
   pub unheld : x .held ≡ 0

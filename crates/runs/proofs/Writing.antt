@@ -23,12 +23,12 @@ use Rattle.chip.proofs.Passing.{on-core, no-end}
 use Rattle.frames.specs.Bytes.{address, written}
 use Rattle.frames.specs.After.{judged, after}
 use Rattle.frames.specs.Play.{Act, Device, played}
 use Rattle.driver.specs.Sequence.{sent, writeBytes, latePoll, pollsOn, pageWait, wrenAndWrite, pageActs}
-use Rattle.driver.specs.Counts.{roundedUp}
+use Rattle.runs.specs.Counts.{roundedUp}
 use Rattle.driver.proofs.Playing.{played-append, sent-append}
 use Rattle.driver.proofs.Frames.{poll-leaves}
 use Rattle.driver.proofs.Waits.{polls-on-free}
-use Rattle.driver.proofs.Polls.{waited, late}
+use Rattle.runs.proofs.Polls.{waited, late}
 
 abbrev wrenBytes : List ℕ
 wrenBytes = 0x06 ∷ []

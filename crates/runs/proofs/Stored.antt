@@ -2,25 +2,25 @@
 use mathlib.Core.Path.{_≡_, refl, ap, sym, _∙_}
 use mathlib.Core.Bool.{Bool, true, false, _&&_}
 use mathlib.Core.List.{List, [], _∷_, _++_}
-use Prim.Native.Nat.{ℕ, zero, suc, _+_, _-_, _*_, _/_, _%_, _<_, _≤_}
+use Prim.Native.Nat.{ℕ, suc, _+_, _-_, _*_, _/_, _%_, _<_, _≤_}
 use native.Mathlib.Nat.{mod-eq-of-lt}
-use native.Mathlib.Decide.{decLt, decLe, ℕ-discrete}
+use native.Mathlib.Decide.{decLt, ℕ-discrete}
 use native.Mathlib.Omega.{arith}
-use lib.ListN.{length, getD, set, replicate, length-set, length-append, length-replicate, getD-replicate, List·getD-append, List·getD-eq-default}
+use lib.ListN.{length, getD, replicate, length-set, length-append, length-replicate, getD-replicate, List·getD-append, List·getD-eq-default}
 use lib.Seq.{ext-getD, getD-set-same, getD-set-other}
 use lib.Dec.{leb, ltb}
 use borrow.Author.Tests.{le-leb, lt-leb, lt-ltb, le-ltb}
 use Rattle.laws.specs.Pick.{pick, at-yes, at-no, and-both, and-no-left, and-no-right}
 use Rattle.laws.specs.Spliced.{getD-past}
-use Rattle.laws.specs.Table.{table, table-length, table-at, table-cong, table-of}
+use Rattle.laws.specs.Table.{table-length, table-at, table-cong, table-of}
 use Rattle.chip.specs.Part.{m95512}
 use Rattle.chip.specs.Status.{on}
-use Rattle.chip.specs.Latches.{marked, byteAt, laidAt, zeros, noLatch, latched, inPage, storedAt, stored}
+use Rattle.chip.specs.Latches.{laidAt, zeros, noLatch, latched, inPage, storedAt, stored}
 use Rattle.chip.specs.declared.Latch.{Latch}
-use Rattle.frames.specs.Bytes.{address, latchedFrom, written}
+use Rattle.frames.specs.Bytes.{latchedFrom, written}
 use Rattle.driver.specs.Sequence.{writeBytes}
-use Rattle.driver.specs.Counts.{overwritten}
-use Rattle.driver.proofs.Writing.{write-address}
+use Rattle.runs.specs.Counts.{overwritten}
+use Rattle.runs.proofs.Writing.{write-address}
 
 -- ---- is j one of the n cells from a on
 

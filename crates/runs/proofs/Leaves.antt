@@ -2,31 +2,31 @@
 use mathlib.Core.Path.{_≡_, refl, ap, sym, subst, _∙_}
 use mathlib.Core.Bool.{Bool, true, false}
 use mathlib.Core.List.{List, [], _∷_, _++_}
-use Prim.Native.Nat.{ℕ, zero, suc, _+_, _-_, _*_, _/_, _%_, _^_, _<_, _≤_}
+use Prim.Native.Nat.{ℕ, zero, suc, _+_, _-_, _*_, _%_, _^_, _<_, _≤_}
 use native.Mathlib.Nat.{suc-mul, zero-mul}
 use native.Mathlib.Decide.{decLe}
 use native.Mathlib.Omega.{arith}
-use lib.ListN.{length, take, drop, length-drop}
+use lib.ListN.{length, drop, length-drop}
 use lib.Seq.{length-take-le}
 use borrow.Author.Tests.{lt-ltb}
 use Rattle.chip.specs.Part.{m95512}
 use Rattle.chip.specs.Status.{on}
-use Rattle.chip.specs.Protect.{lowestProtected, protects}
+use Rattle.chip.specs.Protect.{protects}
 use Rattle.chip.specs.Records.{running, withWel}
 use Rattle.chip.specs.declared.Core.{Core}
 use Rattle.split.specs.Split.{count, splitAddress, splitLength}
 use Rattle.split.specs.Pieces.{piece, pieces}
 use Rattle.split.proofs.Numbers.{length-some, one-page}
 use Rattle.split.proofs.Whole.{pieces-more, before-part}
-use Rattle.frames.specs.Play.{Act, Device, acted, played}
-use Rattle.driver.specs.Sequence.{sent, wrdi, Ending, allDone, timedOut, notTaken, Run, stopped, pageDone, pagesFrom}
-use Rattle.driver.specs.Counts.{roundedUp, overwritten}
-use Rattle.driver.specs.Endings.{pageFrames, Meaning}
+use Rattle.frames.specs.Play.{Device, acted, played}
+use Rattle.driver.specs.Sequence.{sent, wrdi, Ending, allDone, timedOut, notTaken, Run, pagesFrom}
+use Rattle.runs.specs.Counts.{roundedUp, overwritten}
+use Rattle.runs.specs.Endings.{pageFrames, Meaning}
 use Rattle.driver.proofs.Playing.{played-append, sent-append}
 use Rattle.driver.proofs.Parts.{Lies, lies}
 use Rattle.driver.proofs.Runs.{partActs, afterPart, pages-late, pages-untaken, pages-next, pages-none}
-use Rattle.driver.proofs.Writing.{disables, PageDone, page-done, PageLate, page-late, PageUntaken, page-untaken}
-use Rattle.driver.proofs.Stored.{stored-run, overwritten-length, overwritten-append}
+use Rattle.runs.proofs.Writing.{disables, page-done, page-late, page-untaken}
+use Rattle.runs.proofs.Stored.{stored-run, overwritten-length, overwritten-append}
 
 -- ---- a part and the memory
 

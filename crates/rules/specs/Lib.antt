@@ -1,0 +1,2 @@
+-- What the theorems on the pin model speak of, beside its definitions.
+pub mod Cells
