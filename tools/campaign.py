@@ -4,7 +4,7 @@
   tools/campaign.py CRATE [--each N] [--call N] [--only FUNCTION] [--seed N]
 
 Takes up to N edits (--each, 2) of each function's body: another literal, a bound one off, another comparison, another operator, a swapped field,
-level, status or refusal, another argument of the same call, the body of another arm, a test turned round. Then takes more, until each public
+level, status or refusal, another argument of the same call, another name in scope, the body of another arm, a test turned round. Then takes more, until each public
 function has N (--call, 10) in its code, which is its own body and those of the crate's functions that it calls, or has no more. Each edit is tried
 alone, in a copy of the tree below target/. Prints a line for each edit that the prover accepts (a survivor: it changes nothing, or a promise is too
 weak), a line for each public function, and a summary. Needs python3 and rt.
@@ -33,7 +33,7 @@ SWAPS = [
 
 
 def functions(path):
-    """The lines of a file, and (name, public, first body line, line after the body) of each function."""
+    """The lines of a file, and (name, public, first line, first body line, line after the body) of each function."""
     lines = open(path, encoding="utf-8").read().split("\n")
     found = []
     at = 0
@@ -49,7 +49,7 @@ def functions(path):
         end = start
         while lines[end] != indent + "}":
             end += 1
-        found.append((m.group(3), bool(m.group(2)), start + 1, end))
+        found.append((m.group(3), bool(m.group(2)), at, start + 1, end))
         at = end + 1
     return lines, found
 
@@ -78,6 +78,19 @@ def edits_of(line):
     return sorted(set(e for e in out if e != code))
 
 
+def names(lines, first, start, end):
+    """Another name of the function, a parameter or a local, in place of one."""
+    known = re.findall(r"[(,]\s*(?:mut )?(\w+): ", " ".join(lines[first:start]).split("requires")[0].split("ensures")[0])
+    known += re.findall(r"let (?:mut )?(\w+)", "\n".join(lines[start:end]))
+    known = sorted(set(known))
+    for i in range(start, end):
+        for m in re.finditer(r"(?<![\w.])(\w+)(?![\w(:!])", lines[i].split("//")[0]):
+            if m.group(1) in known and not re.search(r"let (?:mut )?$", lines[i][:m.start()]):
+                for other in known:
+                    if other != m.group(1):
+                        yield i, lines[i][:m.start()] + other + lines[i][m.end():]
+
+
 def arms(lines, start, end):
     """An arm of a match with the body of the next arm."""
     arm = re.compile(r"( *\S.* => )([^{]*,)$")
@@ -103,7 +116,7 @@ def main():
     for name in sorted(os.listdir(src)):
         lines, found = functions(os.path.join(src, name))
         texts[name] = lines
-        for function, pub, start, end in found:
+        for function, pub, first, start, end in found:
             key = (name, function)
             functions_of.append(key)
             bodies[key] = "\n".join(lines[start:end])
@@ -111,6 +124,9 @@ def main():
                 public.append(key)
             choices[key] = [(i, e) for i in range(start, end) for e in edits_of(lines[i])] + list(arms(lines, start, end))
             pick.shuffle(choices[key])
+            others = list(names(lines, first, start, end))
+            pick.shuffle(others)
+            choices[key] = others[:20] + choices[key]
 
     def code_of(key):
         """The functions of the crate that one reaches."""
