@@ -2,7 +2,7 @@
 use mathlib.Core.Path.{_≡_, refl, sym, _∙_}
 use mathlib.Core.Bool.{Bool, true, false, _&&_, true≢false}
 use mathlib.Core.List.{List, [], _∷_}
-use Prim.Native.Nat.{ℕ, zero, suc, _+_, _-_, _*_, _^_, _<_, _≤_}
+use Prim.Native.Nat.{ℕ, zero, suc, _+_, _-_, _*_, _^_, _<_, _≤_, min}
 use native.Mathlib.Omega.{arith}
 use lib.Dec.{eqb, leb, ltb}
 use borrow.Author.Tests.{le-leb, leb-true, lt-ltb, ltb-true, eq-eqb, ne-eqb, le-ltb, ltb-false}
@@ -14,6 +14,10 @@ use Rattle.lines.specs.Reading.{lineAt, fresh, stopped, named, tabbed, b
 
 pub digit-low : (b : ℕ) → isDigit b ≡ true → 48 ≤ b
 digit-low b e = leb-true 48 b (and-left (leb 48 b) (leb b 57) e)
+
+-- a line that is not past the last counts one more
+pub one-more : (w : ℕ) → w < 1000000 → min 1000000 (w + 1) ≡ w + 1
+one-more w h = omega arith
 
 -- ---- what the ranges say by the place, and back
 
@@ -76,7 +80,7 @@ begun-fits w k v b h i =
     (λ j. pick-case Fit (isDigit b) (λ q. hand-in w k (eqb k 5) h i (eq-eqb k 5 (omega (arith, ltb-false k 5 j)))) (λ q. stopped-fits w (omega arith))))
 
 closed-fits : (w p k v b : ℕ) → w < 1000000 → Fit (closed (lineAt w p k v) b)
-closed-fits w p k v b h = pick-case Fit (eqb b 10) (λ e. fresh-fits (w + 1) (omega arith)) (λ e. stopped-fits w (omega arith))
+closed-fits w p k v b h = pick-case Fit (eqb b 10) (λ e. fresh-fits (min 1000000 (w + 1)) (omega arith)) (λ e. stopped-fits w (omega arith))
 
 counted-fits : (w k v b : ℕ) → w < 1000000 → k ≤ 5 → eqb k 5 ≡ true → Fit (counted (lineAt w 4 k v) b)
 unfolding pick lineFits

@@ -2,4 +2,3 @@
 pub mod Cases
 pub mod Hand
 pub mod Runs
-pub mod Puts

@@ -14,7 +14,7 @@ use Rattle.laws.specs.Pick.{pick, pick-case, and-both, and-no-left, and-no-righ
 use Rattle.lines.specs.declared.Line.{Line}
 use Rattle.lines.specs.Lines.{kindOf, isDigit}
 use Rattle.lines.specs.Reading.{lineAt, closed, next, closes, said, read, found, lineFits}
-use Rattle.lines.proofs.Hand.{digit-low, next-fits, read-fits, past-fits, whole-small}
+use Rattle.lines.proofs.Hand.{digit-low, one-more, in-hand, next-fits, read-fits, past-fits, whole-small}
 
 pub read-append : (l : Line) (x y : List ℕ) → read l (x ++ y) ≡ read (read l x) y
 unfolding read
@@ -66,41 +66,41 @@ found-length l [] = omega arith
 found-length l (b ∷ x) =
     rw length-append (omega (arith, said-length l b, one-or-none (closes l b), found-length (next l b) x))
 
-none-more : (w : ℕ) (l : Line) (b : ℕ) → closes l b ≡ false → w ≡ w + length (said l b)
+none-said : (w : ℕ) (l : Line) (b : ℕ) → closes l b ≡ false → w ≡ w + length (said l b)
 unfolding pick
-none-more w l b e = rw (said-length l b, e) (omega arith)
+none-said w l b e = rw (said-length l b, e) (omega arith)
 
-one-more : (w : ℕ) (l : Line) (b : ℕ) → closes l b ≡ true → w + 1 ≡ w + length (said l b)
+one-said : (w : ℕ) (l : Line) (b : ℕ) → closes l b ≡ true → w + 1 ≡ w + length (said l b)
 unfolding pick
-one-more w l b e = rw (said-length l b, e) refl
+one-said w l b e = rw (said-length l b, e) refl
 
-closed-whole : (l : Line) (b : ℕ) → (eqb (l .place) 3 || eqb (l .place) 4) ≡ true → closed l b .whole ≡ l .whole + length (said l b)
-closed-whole l b h =
+closed-whole : (l : Line) (b : ℕ) → l .whole < 1000000 → (eqb (l .place) 3 || eqb (l .place) 4) ≡ true → closed l b .whole ≡ l .whole + length (said l b)
+closed-whole l b i h =
     pick-case (λ (y : Line). y .whole ≡ l .whole + length (said l b)) (eqb b 10)
-    (λ e. one-more (l .whole) l b (and-both (eqb b 10) (eqb (l .place) 3 || eqb (l .place) 4) e h))
-    (λ e. none-more (l .whole) l b (and-no-left (eqb b 10) (eqb (l .place) 3 || eqb (l .place) 4) e))
+    (λ e. one-more (l .whole) i ∙ one-said (l .whole) l b (and-both (eqb b 10) (eqb (l .place) 3 || eqb (l .place) 4) e h))
+    (λ e. none-said (l .whole) l b (and-no-left (eqb b 10) (eqb (l .place) 3 || eqb (l .place) 4) e))
 
 next-whole-at : (w p k v b : ℕ) → lineFits (lineAt w p k v) ≡ true → next (lineAt w p k v) b .whole ≡ w + length (said (lineAt w p k v) b)
 unfolding pick next
 next-whole-at w zero k v b f =
     pick-case (λ (y : Line). y .whole ≡ w + length (said (lineAt w 0 k v) b)) (ltb w 1000000 && ltb (kindOf b) 6)
-    (λ e. none-more w (lineAt w 0 k v) b (and-no-right (eqb b 10) false refl)) (λ e. none-more w (lineAt w 0 k v) b (and-no-right (eqb b 10) false refl))
+    (λ e. none-said w (lineAt w 0 k v) b (and-no-right (eqb b 10) false refl)) (λ e. none-said w (lineAt w 0 k v) b (and-no-right (eqb b 10) false refl))
 next-whole-at w (suc zero) k v b f =
     pick-case (λ (y : Line). y .whole ≡ w + length (said (lineAt w 1 k v) b)) (eqb b 9)
-    (λ e. none-more w (lineAt w 1 k v) b (and-no-right (eqb b 10) false refl)) (λ e. none-more w (lineAt w 1 k v) b (and-no-right (eqb b 10) false refl))
+    (λ e. none-said w (lineAt w 1 k v) b (and-no-right (eqb b 10) false refl)) (λ e. none-said w (lineAt w 1 k v) b (and-no-right (eqb b 10) false refl))
 next-whole-at w (suc (suc zero)) k v b f =
-    let no : w ≡ w + length (said (lineAt w 2 k v) b) = none-more w (lineAt w 2 k v) b (and-no-right (eqb b 10) false refl) in
+    let no : w ≡ w + length (said (lineAt w 2 k v) b) = none-said w (lineAt w 2 k v) b (and-no-right (eqb b 10) false refl) in
     let P : Line → Type 0 = λ y. y .whole ≡ w + length (said (lineAt w 2 k v) b) in
     pick-case P (eqb b 48) (λ e. no)
     (λ e. pick-case P (ltb k 5) (λ i. pick-case P (eqb b 49) (λ j. no) (λ j. no)) (λ i. pick-case P (isDigit b) (λ j. no) (λ j. no)))
-next-whole-at w (suc (suc (suc zero))) k v b f = closed-whole (lineAt w 3 k v) b refl
+next-whole-at w (suc (suc (suc zero))) k v b f = closed-whole (lineAt w 3 k v) b (in-hand (lineAt w 3 k v) 2 refl (omega arith) f) refl
 next-whole-at w (suc (suc (suc (suc zero)))) k v b f =
     let P : Line → Type 0 = λ y. y .whole ≡ w + length (said (lineAt w 4 k v) b) in
     pick-case P (isDigit b)
-    (λ e. let no : w ≡ w + length (said (lineAt w 4 k v) b) = none-more w (lineAt w 4 k v) b (and-no-left (eqb b 10) true (ne-eqb b 10 (λ i. omega (arith, digit-low b e)))) in
+    (λ e. let no : w ≡ w + length (said (lineAt w 4 k v) b) = none-said w (lineAt w 4 k v) b (and-no-left (eqb b 10) true (ne-eqb b 10 (λ i. omega (arith, digit-low b e)))) in
     pick-case P (ltb (v * 10 + (b - 48)) (2 ^ 32)) (λ i. no) (λ i. no))
-    (λ e. closed-whole (lineAt w 4 k v) b refl)
-next-whole-at w (suc (suc (suc (suc (suc zero))))) k v b f = none-more w (lineAt w 5 k v) b (and-no-right (eqb b 10) false refl)
+    (λ e. closed-whole (lineAt w 4 k v) b (in-hand (lineAt w 4 k v) 3 refl (omega arith) f) refl)
+next-whole-at w (suc (suc (suc (suc (suc zero))))) k v b f = none-said w (lineAt w 5 k v) b (and-no-right (eqb b 10) false refl)
 next-whole-at w (suc (suc (suc (suc (suc (suc p)))))) k v b f = absurd (true≢false (sym f ∙ past-fits w (suc (suc (suc (suc (suc (suc p)))))) k v (omega arith)))
 
 pub next-whole : (l : Line) (b : ℕ) → lineFits l ≡ true → next l b .whole ≡ l .whole + length (said l b)

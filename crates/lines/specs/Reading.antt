@@ -1,5 +1,5 @@
 -- A text byte by byte: the line in hand after each, and the events of the lines that end. What it has to do with whole lines is a theorem of `trace` (its proofs/Whole.antt).
-use Prim.Native.Nat.{ℕ, _+_, _*_, _-_, _^_}
+use Prim.Native.Nat.{ℕ, _+_, _*_, _-_, _^_, min}
 use mathlib.Core.Bool.{Bool, _&&_, _||_}
 use mathlib.Core.List.{List, [], _∷_, _++_}
 use lib.Dec.{eqb, leb, ltb}
@@ -37,8 +37,9 @@ begun l b =
     (pick (ltb (l .kind) 5) (pick (eqb b 49) (lineAt (l .whole) 3 (l .kind) 1) (stopped (l .whole)))
     (pick (isDigit b) (lineAt (l .whole) 4 (l .kind) (b - 48)) (stopped (l .whole))))
 
+-- the count stays at a million, which no line in hand inside its ranges has reached
 abbrev pub closed : Line → ℕ → Line
-closed l b = pick (eqb b 10) (fresh (l .whole + 1)) (stopped (l .whole))
+closed l b = pick (eqb b 10) (fresh (min 1000000 (l .whole + 1))) (stopped (l .whole))
 
 abbrev pub longer : Line → ℕ → Line
 longer l b = pick (ltb (l .value * 10 + (b - 48)) (2 ^ 32)) (lineAt (l .whole) 4 (l .kind) (l .value * 10 + (b - 48))) (stopped (l .whole))

@@ -1,13 +1,8 @@
-// One line of a trace text: read a byte at a time into an event, and printed with its number and Q. The player over whole texts is `trace`.
+// One line of a trace text, a byte at a time. The player over whole texts is `trace`.
 //
-// Its calls are inner ones, for the player: parse, a run of bytes; print, put_bad and put_bytes, what is put out; fits and ended, of the line in hand.
-mod printing;
+// Its calls are inner ones, for the player, each for every line: next, what a byte makes of it; closing, whether a byte ends it; event, what it says;
+// fits, its ranges; ended, the end of the text.
 mod reading;
-
-pub use printing::print;
-pub use printing::put_bad;
-pub use printing::put_bytes;
-pub use reading::parse;
 
 // The line in hand.
 pub struct Line {

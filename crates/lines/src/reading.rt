@@ -1,11 +1,10 @@
-// The line in hand: what the next byte makes of it, and a run of bytes.
+// The line in hand: what the next byte makes of it, and its ranges.
 ghost use mathlib.Core.Path.{_≡_};
 ghost use mathlib.Core.Bool.{true};
-ghost use Prim.Native.Nat.{_+_, _*_, _-_, _<_, _≤_};
-ghost use lib.ListN.{length, take};
+ghost use Prim.Native.Nat.{_+_, _*_, _-_, min};
 ghost use Rattle.laws.specs.Pick.{pick};
 ghost use Rattle.lines.specs.Lines.{kindOf, eventNumber, isDigit};
-ghost use Rattle.lines.specs.Reading.{lineAt, stopped, named, tabbed, begun, closed, longer, counted, next, closes, read, found, ended, lineFits, handFits, valueFits, noneFits};
+ghost use Rattle.lines.specs.Reading.{lineAt, stopped, named, tabbed, begun, closed, longer, counted, next, closes, ended, lineFits, handFits, valueFits, noneFits};
 use crate::Line;
 
 // The kind of event that a name gives, 6 for no name.
@@ -35,6 +34,13 @@ fn with_digit(value: u32, byte: u8) -> u64
     ensures { λ r. ⌜ r ≡ value * 10 + (byte - 48) ⌝ }
 {
     (value as u64) * 10 + ((byte - 48) as u64)
+}
+
+// The count of whole lines stays at a million.
+fn one_more(whole: u32) -> u32
+    ensures { λ r. ⌜ r ≡ min 1000000 (whole + 1) ⌝ }
+{
+    if whole < 1000000 { whole + 1 } else { 1000000 }
 }
 
 impl Line {
@@ -93,12 +99,11 @@ impl Line {
     }
 
     fn closed(self, byte: u8) -> Line
-        requires { ⌜ self .whole < 1000000 ⌝ }
         ensures { λ r. ⌜ r ≡ closed self byte ⌝ }
     {
         if byte == 10 {
             return Line {
-                whole: self.whole + 1,
+                whole: one_more(self.whole),
                 place: 0,
                 kind: 0,
                 value: 0,
@@ -119,7 +124,6 @@ impl Line {
     }
 
     fn counted(self, byte: u8) -> Line
-        requires { ⌜ self .whole < 1000000 ⌝ }
         ensures { λ r. ⌜ r ≡ counted self byte ⌝ }
     {
         if is_digit(byte) {
@@ -129,8 +133,7 @@ impl Line {
     }
 
     // What the next byte makes of the line.
-    fn next(self, byte: u8) -> Line
-        requires { ⌜ lineFits self ≡ true ⌝ }
+    pub fn next(self, byte: u8) -> Line
         ensures { λ r. ⌜ r ≡ next self byte ⌝ }
     {
         let place = self.place;
@@ -145,7 +148,7 @@ impl Line {
     }
 
     // How many lines the byte ends: one, or none.
-    fn closing(self, byte: u8) -> usize
+    pub fn closing(self, byte: u8) -> usize
         ensures { λ r. ⌜ r ≡ pick (closes self byte) 1 0 ⌝ }
     {
         if (byte == 10) & ((self.place == 3) | (self.place == 4)) {
@@ -154,40 +157,11 @@ impl Line {
         0
     }
 
-    fn event(self) -> u64
+    // What the line says, where its value is whole.
+    pub fn event(self) -> u64
         ensures { λ r. ⌜ r ≡ eventNumber (self .kind) (self .value) ⌝ }
     {
         (self.kind as u64) * 4294967296 + (self.value as u64)
-    }
-}
-
-// A run of bytes: the line in hand after it, and how many lines ended in it.
-pub struct Parsed {
-    pub line: Line,
-    pub count: usize,
-}
-
-// The bytes of a text one after another; the events of the lines that end in it stand at the start of `events`, which has room for one a byte.
-pub fn parse(line: Line, text: &[u8], events: &mut [u64]) -> Parsed
-    requires { ⌜ (lineFits line ≡ true) × (length (now text) ≤ length (now events)) ⌝ }
-    ensures { λ r. ⌜ r .line ≡ read line (now (text .entry)) ⌝ }
-    ensures { λ r. ⌜ take (r .count) (now (events .exit)) ≡ found line (now (text .entry)) ⌝ }
-    ensures { λ r. ⌜ r .count ≡ length (found line (now (text .entry))) ⌝ }
-    ensures { λ r. ⌜ r .count ≤ length (now (text .entry)) ⌝ }
-{
-    let mut hand = line;
-    let mut count: usize = 0;
-    let mut i: usize = 0;
-    while i < text.len() {
-        let byte = text[i];
-        events[count] = hand.event();
-        count += hand.closing(byte);
-        hand = hand.next(byte);
-        i += 1;
-    }
-    Parsed {
-        line: hand,
-        count: count,
     }
 }
 

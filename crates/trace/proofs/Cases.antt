@@ -9,7 +9,7 @@ use Rattle.edges.specs.Rising.{risen}
 use Rattle.pins.specs.Devices.{q}
 use Rattle.lines.specs.Digits.{digits, decimal}
 use Rattle.lines.specs.Lines.{kindOf, digitsSay, lineSays}
-use Rattle.lines.specs.Printing.{goodLine, badLine, printed}
+use Rattle.trace.specs.Printing.{goodLine, badLine, printed}
 use Rattle.trace.specs.Texts.{firstLine, afterLine, goodLines, hasBad, header, textOutput}
 
 -- S⇥0, C⇥1, X⇥1

@@ -13,10 +13,10 @@ use Rattle.laws.specs.And.{and-3-out}
 use Rattle.chip.specs.Part.{m95512}
 use Rattle.pins.specs.Ranges.{deviceFits}
 use Rattle.lines.specs.declared.Line.{Line}
-use Rattle.lines.specs.Printing.{badLine}
+use Rattle.trace.specs.Printing.{badLine}
 use Rattle.lines.specs.Reading.{lineFits}
-use Rattle.lines.specs.Put.{put}
-use Rattle.lines.proofs.Puts.{put-put}
+use Rattle.trace.specs.Put.{put}
+use Rattle.trace.proofs.Puts.{put-put}
 use Rattle.trace.specs.declared.Player.{Player}
 use Rattle.trace.specs.declared.Answer.the-variants.{Played, BadLine}
 use Rattle.trace.specs.Texts.{header}

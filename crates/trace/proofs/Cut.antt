@@ -17,7 +17,7 @@ use Rattle.rules.proofs.Sound.{m95512-sound}
 use Rattle.rules.proofs.Fits.{Sized, played-fits, played-sized, powered-fits}
 use Rattle.lines.specs.declared.Line.{Line}
 use Rattle.lines.specs.Lines.{lineSays}
-use Rattle.lines.specs.Printing.{badLine, printed}
+use Rattle.trace.specs.Printing.{badLine, printed}
 use Rattle.lines.specs.Reading.{fresh, stopped, read, found, ended, lineFits}
 use Rattle.lines.proofs.Hand.{read-fits, fresh-fits, ended-fits}
 use Rattle.lines.proofs.Runs.{read-append, read-still, found-still}

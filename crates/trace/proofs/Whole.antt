@@ -12,7 +12,7 @@ use Rattle.laws.specs.Pick.{pick, yes-so, no-so, pick-same, and-right, and-no-l
 use Rattle.lines.specs.declared.Line.{Line}
 use Rattle.lines.specs.Lines.{Said, event, bad, kindOf, isDigit, isEmpty, endSays, digitsSay, valueSays, tabSays, lineSays}
 use Rattle.lines.specs.Reading.{lineAt, fresh, stopped, next, closes, read, found, ended}
-use Rattle.lines.proofs.Hand.{digit-low}
+use Rattle.lines.proofs.Hand.{digit-low, one-more}
 use Rattle.lines.proofs.Runs.{read-still, found-still, said-none}
 use Rattle.trace.specs.Texts.{firstLine, afterLine, goodThen, goodLines, badThen, hasBad}
 
@@ -50,14 +50,14 @@ first-more : (b : ℕ) (x : List ℕ) → eqb b 10 ≡ false → firstLine (b �
 unfolding pick firstLine
 first-more b x n = rw n refl
 
--- ---- by the place in the line
+-- ---- by the place in the line, which is not past the last
 
-module _ (w : ℕ) where
+module _ (w : ℕ) (h : w < 1000000) where
   goes-end : (k v : ℕ) (x : List ℕ) → Goes (lineAt w 3 k v) x (endSays k v (firstLine x))
   unfolding pick next found read ended firstLine afterLine
   goes-end k v [] = (refl, refl)
   goes-end k v (b ∷ x) =
-      split (eqb b 10) (λ e. rw (eqb-true b 10 e) (refl, refl))
+      split (eqb b 10) (λ e. rw (eqb-true b 10 e, one-more w h) (refl, refl))
       (λ e. goes-as (lineAt w 3 k v) (b ∷ x) (no-so _ (and-no-left (eqb b 10) _ e) refl) (goes-bad (lineAt w 3 k v) b x (and-no-left (eqb b 10) true e) (rw e refl)))
 
   -- a reading that is too large stays so
@@ -80,8 +80,8 @@ module _ (w : ℕ) where
 
   goes-digits : (v : ℕ) (x : List ℕ) → v < 2 ^ 32 → Goes (lineAt w 4 5 v) x (digitsSay v (firstLine x))
   unfolding pick next found read ended firstLine afterLine digitsSay
-  goes-digits v [] h = (refl, refl)
-  goes-digits v (b ∷ x) h =
+  goes-digits v [] s = (refl, refl)
+  goes-digits v (b ∷ x) s =
       split (isDigit b)
       (λ d. let n = digit-lf b d in
       let says : digitsSay (v * 10 + (b - 48)) (firstLine x) ≡ digitsSay v (firstLine (b ∷ x)) = yes-so _ d (rw n refl) in
@@ -90,14 +90,14 @@ module _ (w : ℕ) where
       (λ i. goes-as (lineAt w 4 5 v) (b ∷ x) (sym (too-large (v * 10 + (b - 48)) (firstLine x) (ltb-false _ _ i)) ∙ says)
       (goes-bad (lineAt w 4 5 v) b x (and-no-left (eqb b 10) true n) (rw (d, i) refl))))
       (λ d. split (eqb b 10)
-      (λ e. rw (eqb-true b 10 e, lt-ltb v (2 ^ 32) h) (refl, refl))
-      (λ e. goes-as (lineAt w 4 5 v) (b ∷ x) (no-so _ d (yes-so _ (lt-ltb v (2 ^ 32) h) (no-so _ (and-no-left (eqb b 10) (isEmpty (pick (eqb b 10) [] (firstLine x))) e) refl)))
+      (λ e. rw (eqb-true b 10 e, lt-ltb v (2 ^ 32) s, one-more w h) (refl, refl))
+      (λ e. goes-as (lineAt w 4 5 v) (b ∷ x) (no-so _ d (yes-so _ (lt-ltb v (2 ^ 32) s) (no-so _ (and-no-left (eqb b 10) (isEmpty (pick (eqb b 10) [] (firstLine x))) e) refl)))
       (goes-bad (lineAt w 4 5 v) b x (and-no-left (eqb b 10) true e) (rw (d, e) refl))))
 
   goes-value : (k v : ℕ) (x : List ℕ) → k ≤ 5 → Goes (lineAt w 2 k v) x (valueSays k (firstLine x))
   unfolding pick next found read ended firstLine afterLine
-  goes-value k v [] h = goes-as (lineAt w 2 k v) [] (sym (pick-same (ltb k 5) bad)) (refl, refl)
-  goes-value k v (b ∷ x) h =
+  goes-value k v [] m = goes-as (lineAt w 2 k v) [] (sym (pick-same (ltb k 5) bad)) (refl, refl)
+  goes-value k v (b ∷ x) m =
       let here = lineAt w 2 k v in
       let shut = and-no-right (eqb b 10) false refl in
       split (eqb b 48)
@@ -120,18 +120,18 @@ module _ (w : ℕ) where
 
   goes-tab : (k v : ℕ) (x : List ℕ) → k ≤ 5 → Goes (lineAt w 1 k v) x (tabSays k (firstLine x))
   unfolding pick next found read ended firstLine afterLine
-  goes-tab k v [] h = (refl, refl)
-  goes-tab k v (b ∷ x) h =
+  goes-tab k v [] m = (refl, refl)
+  goes-tab k v (b ∷ x) m =
       let here = lineAt w 1 k v in
       split (eqb b 9)
       (λ e. let n = ne-eqb b 10 (λ i. omega (arith, eqb-true b 9 e)) in
-      goes-as here (b ∷ x) {S = valueSays k (firstLine x)} (yes-so _ e (rw n refl)) (goes-on here (lineAt w 2 k 0) b x (valueSays k (firstLine x)) refl n (rw e refl) (goes-value k 0 x h)))
+      goes-as here (b ∷ x) {S = valueSays k (firstLine x)} (yes-so _ e (rw n refl)) (goes-on here (lineAt w 2 k 0) b x (valueSays k (firstLine x)) refl n (rw e refl) (goes-value k 0 x m)))
       (λ e. goes-as here (b ∷ x) {S = bad} (no-so _ e refl) (goes-bad here b x (and-no-right (eqb b 10) false refl) (rw e refl)))
 
   -- a line from its start
-  goes-line : w < 1000000 → (b : ℕ) (x : List ℕ) → Goes (fresh w) (b ∷ x) (lineSays (firstLine (b ∷ x)))
+  goes-line : (b : ℕ) (x : List ℕ) → Goes (fresh w) (b ∷ x) (lineSays (firstLine (b ∷ x)))
   unfolding pick next firstLine lineSays
-  goes-line h b x =
+  goes-line b x =
       let here = fresh w in
       let below : ltb w 1000000 ≡ true = lt-ltb w 1000000 h in
       split (ltb (kindOf b) 6)

@@ -15,8 +15,8 @@ use Rattle.pins.specs.Answers.{Bench, played}
 use Rattle.lists.specs.Answers.{playedQ}
 use Rattle.lines.specs.declared.Line.{Line}
 use Rattle.lines.specs.Reading.{fresh, isStopped, read, found, ended, lineFits}
-use Rattle.lines.specs.Printing.{badLine, printed}
-use Rattle.lines.specs.Put.{put}
+use Rattle.trace.specs.Printing.{badLine, printed}
+use Rattle.trace.specs.Put.{put}
 use Rattle.trace.specs.declared.Player.{Player}
 use Rattle.trace.specs.declared.Answer.{Answer}
 use Rattle.trace.specs.declared.Answer.the-variants.{Played, BadLine, Refused}

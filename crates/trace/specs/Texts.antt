@@ -11,7 +11,7 @@ use Rattle.pins.specs.Devices.{resting}
 use Rattle.pins.specs.Answers.{Bench, played}
 use Rattle.lists.specs.Answers.{playedQ}
 use Rattle.lines.specs.Lines.{Said, event, bad, isEmpty, lineSays}
-use Rattle.lines.specs.Printing.{badLine, printed}
+use Rattle.trace.specs.Printing.{badLine, printed}
 
 -- ---- lines: the first line of a text ends with its LF, or with the text
 

@@ -1,4 +1,4 @@
-// The trace text: what a whole text puts out, taken a chunk at a time.
+// The trace text: what a whole text puts out, taken a chunk at a time. One line of it, a byte at a time, is `lines`.
 //
 // Public calls, each for every input: start and memory, what a text starts from; feed, a chunk of the text; finish, its end.
 use chip::Refusal;
@@ -6,6 +6,8 @@ use lines::Line;
 use pins::Device;
 
 mod chunks;
+mod parsing;
+mod printing;
 mod public;
 
 pub use public::feed;

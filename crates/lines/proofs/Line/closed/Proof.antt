@@ -5,12 +5,13 @@ use Rattle.lines.proofs.Line.closed.Tie as tie
 use Rattle.lines.proofs.Line.closed.Reads as reads
 use Rattle.lines.proofs.Line.closed.Lts as lts
 use Rattle.lines.proofs.Line.stopped.Reads as stopped-reads
+use Rattle.lines.proofs.reading.one_more.Reads as one-more-reads
 
-add-t4 : tie.Need-add-t4
-add-t4 c = search needs
+one-more-requires : tie.Need-one-more-requires
+one-more-requires c κs = search needs
 
 returns : tie.Need-returns
-returns c = search arms depth 12
+returns c = rw (← c .one-more .ensures) (search arms depth 12)
 
 stopped-requires : tie.Need-stopped-requires
 stopped-requires c κs = search needs
@@ -19,4 +20,4 @@ returns-2 : tie.Need-returns-2
 returns-2 c = search arms depth 12
 
 pub closed-spec : {M : Type 1} → statement M
-closed-spec = tie.close (tie.spec add-t4 returns stopped-requires returns-2)
+closed-spec = tie.close (tie.spec one-more-requires returns stopped-requires returns-2)

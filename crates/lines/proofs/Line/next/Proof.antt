@@ -1,6 +1,4 @@
 use Rattle.lines.specs.Reading.{next}
-use Rattle.lines.proofs.Hand.{in-hand}
-use native.Mathlib.Omega.{arith}
 use Rattle.laws.specs.Pick.{arms}
 use borrow.Author.Needs.{needs}
 use Rattle.lines.proofs.Line.next.Statement.{statement}
@@ -23,10 +21,10 @@ begun-requires : tie.Need-begun-requires
 begun-requires c κs = search needs
 
 closed-requires : tie.Need-closed-requires
-closed-requires c κs = in-hand (c .before .args .self) 2 (search needs) (omega arith) (c .before .pre)
+closed-requires c κs = search needs
 
 counted-requires : tie.Need-counted-requires
-counted-requires c κs = in-hand (c .before .args .self) 3 (search needs) (omega arith) (c .before .pre)
+counted-requires c κs = search needs
 
 returns : tie.Need-returns
 unfolding next

@@ -7,8 +7,8 @@ use lib.Seq.{length-take-le}
 use Rattle.chip.specs.Part.{m95512}
 use Rattle.pins.specs.Answers.{Bench, played}
 use Rattle.lists.specs.Answers.{playedQ}
-use Rattle.lines.specs.Printing.{printed}
-use Rattle.lines.specs.Put.{put}
+use Rattle.trace.specs.Printing.{printed}
+use Rattle.trace.specs.Put.{put}
 use Rattle.lines.proofs.Hand.{read-fits, whole-small}
 use Rattle.lines.proofs.Runs.{found-length, found-room}
 use Rattle.trace.specs.Chunks.{playedLines, shownLines}

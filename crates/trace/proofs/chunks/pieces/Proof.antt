@@ -10,8 +10,8 @@ use Rattle.chip.specs.Part.{m95512}
 use Rattle.pins.specs.Ranges.{deviceFits}
 use Rattle.pins.specs.Answers.{Bench}
 use Rattle.lines.specs.Reading.{read, lineFits}
-use Rattle.lines.specs.Put.{put}
-use Rattle.lines.proofs.Puts.{put-nil, put-put}
+use Rattle.trace.specs.Put.{put}
+use Rattle.trace.proofs.Puts.{put-nil, put-put}
 use Rattle.trace.specs.Chunks.{benchWith, playedLines, shownLines}
 use Rattle.trace.proofs.Chunking.{part-length, played-nothing, shown-nothing, turn-line, turn-bench, turn-shown}
 use Rattle.trace.proofs.chunks.pieces.Statement.{statement}

@@ -4,9 +4,9 @@ use mathlib.Core.List.{List}
 use Prim.Native.Nat.{ℕ, _+_}
 use native.Mathlib.Nat.{add-zero}
 use lib.ListN.{length}
-use Rattle.lines.specs.Put.{put}
+use Rattle.trace.specs.Put.{put}
 use Rattle.lines.proofs.Hand.{whole-small}
-use Rattle.lines.proofs.Puts.{put-nil}
+use Rattle.trace.proofs.Puts.{put-nil}
 use Rattle.trace.proofs.Choosing.{bad-before, bad-now, bad-not}
 use borrow.Author.Needs.{needs}
 use Rattle.trace.proofs.chunks.put_bad_between.Statement.{statement}

@@ -1,8 +1,8 @@
 use mathlib.Core.Path.{ap, sym, _∙_}
 use native.Mathlib.Omega.{arith}
 use lib.ListN.{length}
-use Rattle.lines.specs.Put.{put}
-use Rattle.lines.proofs.Puts.{put-nil}
+use Rattle.trace.specs.Put.{put}
+use Rattle.trace.proofs.Puts.{put-nil}
 use Rattle.trace.specs.Texts.{header}
 use Rattle.trace.proofs.Choosing.{head-first, head-out}
 use borrow.Author.Needs.{needs}

@@ -4,8 +4,8 @@ use Prim.Native.Nat.{ℕ, _+_}
 use native.Mathlib.Omega.{arith}
 use lib.ListN.{length}
 use Rattle.chip.specs.Part.{m95512}
-use Rattle.lines.specs.Printing.{printed}
-use Rattle.lines.specs.Put.{put}
+use Rattle.trace.specs.Printing.{printed}
+use Rattle.trace.specs.Put.{put}
 use Rattle.trace.proofs.Plays.{playedQ-length}
 use borrow.Author.Needs.{needs}
 use Rattle.trace.proofs.chunks.show.Statement.{statement}

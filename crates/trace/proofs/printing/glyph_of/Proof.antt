@@ -1,6 +1,6 @@
 use Rattle.laws.specs.Pick.{arms}
-use Rattle.lines.proofs.printing.glyph_of.Statement.{statement}
-use Rattle.lines.proofs.printing.glyph_of.Tie as tie
+use Rattle.trace.proofs.printing.glyph_of.Statement.{statement}
+use Rattle.trace.proofs.printing.glyph_of.Tie as tie
 
 returns : tie.Need-returns
 returns c = search arms

@@ -1,11 +1,11 @@
 use native.Mathlib.Omega.{arith}
 use lib.ListN.{length-set, length-append}
 use Rattle.lines.specs.Digits.{decimal}
-use Rattle.lines.specs.Printing.{goodLine}
-use Rattle.lines.proofs.Puts.{put-three}
+use Rattle.trace.specs.Printing.{goodLine}
+use Rattle.trace.proofs.Puts.{put-three}
 use borrow.Author.Needs.{needs}
-use Rattle.lines.proofs.printing.put_line.Statement.{statement}
-use Rattle.lines.proofs.printing.put_line.Tie as tie
+use Rattle.trace.proofs.printing.put_line.Statement.{statement}
+use Rattle.trace.proofs.printing.put_line.Tie as tie
 
 put-decimal-requires : tie.Need-put-decimal-requires
 put-decimal-requires c κs = search needs

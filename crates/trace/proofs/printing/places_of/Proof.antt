@@ -1,7 +1,7 @@
 use native.Mathlib.Omega.{arith}
 use Rattle.laws.specs.Pick.{arms}
-use Rattle.lines.proofs.printing.places_of.Statement.{statement}
-use Rattle.lines.proofs.printing.places_of.Tie as tie
+use Rattle.trace.proofs.printing.places_of.Statement.{statement}
+use Rattle.trace.proofs.printing.places_of.Tie as tie
 
 returns : tie.Need-returns
 returns c = (search arms depth 12, omega arith)

@@ -2,9 +2,9 @@
 ghost use mathlib.Core.Path.{_≡_};
 ghost use Prim.Native.Nat.{_+_, _*_, _≤_};
 ghost use lib.ListN.{length};
 ghost use Rattle.lines.specs.Digits.{digits, places, decimal};
-ghost use Rattle.lines.specs.Printing.{glyph, goodLine, badLine, printed};
-ghost use Rattle.lines.specs.Put.{put};
+ghost use Rattle.trace.specs.Printing.{glyph, goodLine, badLine, printed};
+ghost use Rattle.trace.specs.Put.{put};
 
 fn places_of(n: u32) -> usize
     ensures { λ r. ⌜ (r ≡ places n) × (r ≤ 7) ⌝ }
@@ -81,7 +81,7 @@ fn put_line(out: &mut [u8], at: usize, n: u32, q: u8) -> usize
 }
 
 // The bad line.
-pub fn put_bad(out: &mut [u8], at: usize, n: u32) -> usize
+pub(crate) fn put_bad(out: &mut [u8], at: usize, n: u32) -> usize
     requires { ⌜ at + 12 ≤ length (now out) ⌝ }
     ensures { λ _. ⌜ now (out .exit) ≡ put (now (out .entry)) at (badLine n) ⌝ }
     ensures { λ r. ⌜ (r ≡ at + length (badLine n)) × (r ≤ at + 12) ⌝ }
@@ -91,7 +91,7 @@ pub fn put_bad(out: &mut [u8], at: usize, n: u32) -> usize
 }
 
 // Bytes as they are.
-pub fn put_bytes(out: &mut [u8], at: usize, bytes: &[u8]) -> usize
+pub(crate) fn put_bytes(out: &mut [u8], at: usize, bytes: &[u8]) -> usize
     requires { ⌜ at + length (now bytes) ≤ length (now out) ⌝ }
     ensures { λ _. ⌜ now (out .exit) ≡ put (now (out .entry)) at (now (bytes .entry)) ⌝ }
     ensures { λ r. ⌜ r ≡ at + length (now (bytes .entry)) ⌝ }
@@ -105,7 +105,7 @@ pub fn put_bytes(out: &mut [u8], at: usize, bytes: &[u8]) -> usize
 }
 
 // A line for each Q, from number n on.
-pub fn print(out: &mut [u8], at: usize, n: u32, qs: &[u8]) -> usize
+pub(crate) fn print(out: &mut [u8], at: usize, n: u32, qs: &[u8]) -> usize
     requires { ⌜ (at + 10 * length (now qs) ≤ length (now out)) × (n + length (now qs) ≤ 1000001) ⌝ }
     ensures { λ _. ⌜ now (out .exit) ≡ put (now (out .entry)) at (printed n (now (qs .entry))) ⌝ }
     ensures { λ r. ⌜ (r ≡ at + length (printed n (now (qs .entry)))) × (r ≤ at + 10 * length (now (qs .entry))) ⌝ }

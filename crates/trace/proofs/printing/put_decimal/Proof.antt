@@ -2,12 +2,12 @@ use mathlib.Core.Path.{_≡_, ap, sym, _∙_}
 use Prim.Native.Nat.{ℕ, _+_}
 use native.Mathlib.Omega.{arith}
 use lib.ListN.{length}
 use Rattle.lines.specs.Digits.{digits, decimal}
-use Rattle.lines.specs.Put.{put}
-use Rattle.lines.proofs.Puts.{digits-length}
+use Rattle.trace.specs.Put.{put}
+use Rattle.trace.proofs.Puts.{digits-length}
 use borrow.Author.Needs.{needs}
-use Rattle.lines.proofs.printing.put_decimal.Statement.{statement}
-use Rattle.lines.proofs.printing.put_decimal.Tie as tie
+use Rattle.trace.proofs.printing.put_decimal.Statement.{statement}
+use Rattle.trace.proofs.printing.put_decimal.Tie as tie
 
 places-of-requires : tie.Need-places-of-requires
 places-of-requires c κs = search needs

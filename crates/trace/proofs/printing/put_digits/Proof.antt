@@ -2,11 +2,11 @@ use mathlib.Core.Path.{_≡_, refl, sym, _∙_}
 use Prim.Native.Nat.{_≤_}
 use native.Mathlib.Omega.{arith}
 use lib.ListN.{length, length-set}
 use Rattle.lines.specs.Digits.{digits}
-use Rattle.lines.specs.Put.{put}
-use Rattle.lines.proofs.Puts.{digits-none, digits-turn}
-use Rattle.lines.proofs.printing.put_digits.Statement.{statement}
-use Rattle.lines.proofs.printing.put_digits.Tie as tie
+use Rattle.trace.specs.Put.{put}
+use Rattle.trace.proofs.Puts.{digits-none, digits-turn}
+use Rattle.trace.proofs.printing.put_digits.Statement.{statement}
+use Rattle.trace.proofs.printing.put_digits.Tie as tie
 
 abbrev Inv-loop : tie.InvT-loop
 Inv-loop out₀ at k n rest₀ left₀ out rest left =

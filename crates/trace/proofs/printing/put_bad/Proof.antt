@@ -3,13 +3,13 @@ use mathlib.Core.List.{List, [], _∷_}
 use Prim.Native.Nat.{ℕ, _+_}
 use native.Mathlib.Omega.{arith}
 use lib.ListN.{length, length-append}
 use Rattle.lines.specs.Digits.{decimal}
-use Rattle.lines.specs.Printing.{badLine}
-use Rattle.lines.specs.Put.{put}
-use Rattle.lines.proofs.Puts.{put-put}
+use Rattle.trace.specs.Printing.{badLine}
+use Rattle.trace.specs.Put.{put}
+use Rattle.trace.proofs.Puts.{put-put}
 use borrow.Author.Needs.{needs}
-use Rattle.lines.proofs.printing.put_bad.Statement.{statement}
-use Rattle.lines.proofs.printing.put_bad.Tie as tie
+use Rattle.trace.proofs.printing.put_bad.Statement.{statement}
+use Rattle.trace.proofs.printing.put_bad.Tie as tie
 
 put-decimal-requires : tie.Need-put-decimal-requires
 put-decimal-requires c κs = search needs

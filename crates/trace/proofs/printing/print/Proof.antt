@@ -5,11 +5,11 @@ use native.Mathlib.Numerals.{add-one}
 use native.Mathlib.Omega.{arith}
 use lib.ListN.{length, take, getD, length-append}
 use lib.Seq.{take-all}
-use Rattle.lines.specs.Printing.{goodLine, printed}
-use Rattle.lines.specs.Put.{put}
-use Rattle.lines.proofs.Puts.{put-nil, put-put, printed-more}
-use Rattle.lines.proofs.printing.print.Statement.{statement}
-use Rattle.lines.proofs.printing.print.Tie as tie
+use Rattle.trace.specs.Printing.{goodLine, printed}
+use Rattle.trace.specs.Put.{put}
+use Rattle.trace.proofs.Puts.{put-nil, put-put, printed-more}
+use Rattle.trace.proofs.printing.print.Statement.{statement}
+use Rattle.trace.proofs.printing.print.Tie as tie
 
 abbrev Inv-loop : tie.InvT-loop
 Inv-loop out₀ at n qs end₀ number₀ i₀ out end number i =

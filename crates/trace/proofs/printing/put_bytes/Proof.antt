@@ -4,10 +4,10 @@ use native.Mathlib.Numerals.{add-one}
 use native.Mathlib.Omega.{arith}
 use lib.ListN.{length, take, getD, length-set}
 use lib.Seq.{take-all, take-suc, length-take-le}
-use Rattle.lines.specs.Put.{put}
-use Rattle.lines.proofs.Puts.{put-nil, put-more}
-use Rattle.lines.proofs.printing.put_bytes.Statement.{statement}
-use Rattle.lines.proofs.printing.put_bytes.Tie as tie
+use Rattle.trace.specs.Put.{put}
+use Rattle.trace.proofs.Puts.{put-nil, put-more}
+use Rattle.trace.proofs.printing.put_bytes.Statement.{statement}
+use Rattle.trace.proofs.printing.put_bytes.Tie as tie
 
 abbrev Inv-loop : tie.InvT-loop
 Inv-loop out₀ at bytes i₀ out i =

@@ -1,5 +1,4 @@
 use mathlib.Core.Path.{_≡_, refl, ap, sym, _∙_}
-use mathlib.Core.Bool.{true}
 use mathlib.Core.List.{List, _++_}
 use Prim.Native.Nat.{ℕ, suc, _+_, _-_, _≤_}
 use native.Mathlib.Numerals.{add-one}
@@ -7,16 +6,15 @@ use native.Mathlib.Omega.{arith}
 use borrow.Author.Needs.{needs}
 use lib.ListN.{length, take, getD, length-set, length-append}
 use lib.Seq.{take-all}
 use Rattle.lines.specs.Lines.{eventNumber}
-use Rattle.lines.specs.Reading.{read, found, said, closes, next, lineFits}
-use Rattle.lines.proofs.Hand.{next-fits}
+use Rattle.lines.specs.Reading.{read, found, said, closes, next}
 use Rattle.lines.proofs.Runs.{read-more, found-more, collected, said-length, one-or-none}
-use Rattle.lines.proofs.reading.parse.Statement.{statement}
-use Rattle.lines.proofs.reading.parse.Tie as tie
+use Rattle.trace.proofs.parsing.parse.Statement.{statement}
+use Rattle.trace.proofs.parsing.parse.Tie as tie
 
 abbrev Inv-loop : tie.InvT-loop
 Inv-loop text events₀ hand₀ count₀ i₀ events hand count i =
-    (i ≤ length text) × (count ≤ i) × (length events ≡ length events₀) × (lineFits hand ≡ true) × (hand ≡ read hand₀ (take i text))
+    (i ≤ length text) × (count ≤ i) × (length events ≡ length events₀) × (hand ≡ read hand₀ (take i text))
     × (take count events ≡ found hand₀ (take i text)) × (count ≡ length (found hand₀ (take i text)))
 
 abbrev μ-loop : tie.MeasureT-loop
@@ -24,7 +22,7 @@ abbrev μ-loop : tie.MeasureT-loop
 
 loop-holds : tie.Need-loop-holds Inv-loop μ-loop
 unfolding read found
-loop-holds c = (omega arith, omega arith, omega arith, c .before .before .pre .0, refl, refl, refl)
+loop-holds c = (omega arith, omega arith, omega arith, refl, refl, refl)
 
 shared-slice-read-byte : tie.Need-shared-slice-read-byte Inv-loop μ-loop
 shared-slice-read-byte c = omega arith
@@ -47,7 +45,7 @@ add-count c =
     omega (arith, c .closing .ensures, one-or-none (closes (l .hand) (getD (c .before .before .before .before .before .before .before .args .text .now) (l .i) 0)))
 
 next-requires : tie.Need-next-requires Inv-loop μ-loop
-next-requires c κs = c .before .before .before .before .loop .inv .3
+next-requires c κs = search needs
 
 add-i : tie.Need-add-i Inv-loop μ-loop
 add-i c = omega arith
@@ -64,15 +62,14 @@ loop-again c =
     let below : l .i + 1 ≤ length x = omega arith in
     let one = one-or-none (closes (l .hand) b) in
     let n = c .before .closing .ensures in
-    let more : found (a .line) (take (suc (l .i)) x) ≡ found (a .line) (take (l .i) x) ++ said (l .hand) b = found-more (a .line) x (l .i) (omega arith) ∙ rw (l .inv .4) refl in (
+    let more : found (a .line) (take (suc (l .i)) x) ≡ found (a .line) (take (l .i) x) ++ said (l .hand) b = found-more (a .line) x (l .i) (omega arith) ∙ rw (l .inv .3) refl in (
       omega arith,
       omega (arith, n, one),
       simp length-set (omega arith),
-      rw (c .next .ensures) (next-fits (l .hand) b (l .inv .3)),
-      rw add-one (c .next .ensures ∙ ap (λ h. next h b) (l .inv .4) ∙ sym (read-more (a .line) x (l .i) (omega arith))),
+      rw add-one (c .next .ensures ∙ ap (λ h. next h b) (l .inv .3) ∙ sym (read-more (a .line) x (l .i) (omega arith))),
       rw (add-one, n, c .before .before .event .ensures)
-          (collected (l .events) (l .count) (eventNumber (l .hand .kind) (l .hand .value)) (closes (l .hand) b) (omega arith) ∙ ap (λ (es : List ℕ). es ++ said (l .hand) b) (l .inv .5) ∙ sym more),
-      rw (add-one, more, length-append) (omega (arith, n, said-length (l .hand) b, l .inv .6)),
+          (collected (l .events) (l .count) (eventNumber (l .hand .kind) (l .hand .value)) (closes (l .hand) b) (omega arith) ∙ ap (λ (es : List ℕ). es ++ said (l .hand) b) (l .inv .4) ∙ sym more),
+      rw (add-one, more, length-append) (omega (arith, n, said-length (l .hand) b, l .inv .5)),
     )
 
 same-length : tie.Need-same-length Inv-loop μ-loop
@@ -84,7 +81,7 @@ returns c =
     let a = c .before .before .before .before .args in
     let x = a .text .now in
     let all : take (l .i) x ≡ x = take-all (l .i) x (omega arith) in
-    (rw all at (l .inv .4), (rw all at (l .inv .5), (rw all at (l .inv .6), omega arith)))
+    (rw all at (l .inv .3), (rw all at (l .inv .4), (rw all at (l .inv .5), omega arith)))
 
 pub parse-spec : {M : Type 1} → statement M
 parse-spec =
