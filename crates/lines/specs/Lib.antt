@@ -1,4 +1,3 @@
--- A line of the trace text: what it says; the same, a byte at a time; and a number as decimal text.
-pub mod Digits
+-- A line of the trace text: what it says; and the same, a byte at a time.
 pub mod Lines
 pub mod Reading

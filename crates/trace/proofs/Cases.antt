@@ -7,7 +7,7 @@ use Rattle.lists.specs.Answers.{playedQ}
 use Rattle.pins.specs.Events.{onS, onC}
 use Rattle.edges.specs.Rising.{risen}
 use Rattle.pins.specs.Devices.{q}
-use Rattle.lines.specs.Digits.{digits, decimal}
+use Rattle.trace.specs.Digits.{digits, decimal}
 use Rattle.lines.specs.Lines.{kindOf, digitsSay, lineSays}
 use Rattle.trace.specs.Printing.{goodLine, badLine, printed}
 use Rattle.trace.specs.Texts.{firstLine, afterLine, goodLines, hasBad, header, textOutput}

@@ -8,7 +8,7 @@ use native.Mathlib.Numerals.{add-one}
 use lib.ListN.{length, take, drop, getD, set, length-append, take-append-drop}
 use lib.Seq.{drop-cons, set-split, length-take-le, take-at, drop-at, drop-drop, take-suc, take-set-le, drop-set-add}
 use Rattle.laws.specs.Spliced.{spliced-length}
-use Rattle.lines.specs.Digits.{digits}
+use Rattle.trace.specs.Digits.{digits}
 use Rattle.trace.specs.Printing.{goodLine, printed}
 use Rattle.trace.specs.Put.{put}
 

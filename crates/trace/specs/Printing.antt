@@ -3,7 +3,7 @@ use Prim.Native.Nat.{ℕ, suc}
 use mathlib.Core.List.{List, [], _∷_, _++_}
 use lib.Dec.{eqb}
 use Rattle.laws.specs.Pick.{pick}
-use Rattle.lines.specs.Digits.{decimal}
+use Rattle.trace.specs.Digits.{decimal}
 
 -- 0, 1 or Z
 abbrev pub glyph : ℕ → ℕ

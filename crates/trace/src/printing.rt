@@ -2,7 +2,7 @@
 ghost use mathlib.Core.Path.{_≡_};
 ghost use Prim.Native.Nat.{_+_, _*_, _≤_};
 ghost use lib.ListN.{length};
-ghost use Rattle.lines.specs.Digits.{digits, places, decimal};
+ghost use Rattle.trace.specs.Digits.{digits, places, decimal};
 ghost use Rattle.trace.specs.Printing.{glyph, goodLine, badLine, printed};
 ghost use Rattle.trace.specs.Put.{put};
 

@@ -3,7 +3,7 @@ use mathlib.Core.List.{List, [], _∷_}
 use Prim.Native.Nat.{ℕ, _+_}
 use native.Mathlib.Omega.{arith}
 use lib.ListN.{length, length-append}
-use Rattle.lines.specs.Digits.{decimal}
+use Rattle.trace.specs.Digits.{decimal}
 use Rattle.trace.specs.Printing.{badLine}
 use Rattle.trace.specs.Put.{put}
 use Rattle.trace.proofs.Puts.{put-put}

@@ -2,7 +2,7 @@ use mathlib.Core.Path.{_≡_, ap, sym, _∙_}
 use Prim.Native.Nat.{ℕ, _+_}
 use native.Mathlib.Omega.{arith}
 use lib.ListN.{length}
-use Rattle.lines.specs.Digits.{digits, decimal}
+use Rattle.trace.specs.Digits.{digits, decimal}
 use Rattle.trace.specs.Put.{put}
 use Rattle.trace.proofs.Puts.{digits-length}
 use borrow.Author.Needs.{needs}

@@ -2,7 +2,7 @@ use mathlib.Core.Path.{_≡_, refl, sym, _∙_}
 use Prim.Native.Nat.{_≤_}
 use native.Mathlib.Omega.{arith}
 use lib.ListN.{length, length-set}
-use Rattle.lines.specs.Digits.{digits}
+use Rattle.trace.specs.Digits.{digits}
 use Rattle.trace.specs.Put.{put}
 use Rattle.trace.proofs.Puts.{digits-none, digits-turn}
 use Rattle.trace.proofs.printing.put_digits.Statement.{statement}

@@ -1,6 +1,6 @@
 use native.Mathlib.Omega.{arith}
 use lib.ListN.{length-set, length-append}
-use Rattle.lines.specs.Digits.{decimal}
+use Rattle.trace.specs.Digits.{decimal}
 use Rattle.trace.specs.Printing.{goodLine}
 use Rattle.trace.proofs.Puts.{put-three}
 use borrow.Author.Needs.{needs}
