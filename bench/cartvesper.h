@@ -41,7 +41,7 @@ typedef struct {
     cartvesper_waiting waits;
 } cartvesper_core;
 
-/* The device of the pin model: levels are 0 or 1, HOLD low pauses. */
+/* The levels of the five pins, 0 or 1. */
 typedef struct {
     uint8_t s, c, d, w, hold;
 } cartvesper_pins;
@@ -60,6 +60,7 @@ typedef struct {
     cartvesper_latch latch;
 } cartvesper_frame_part;
 
+/* The device of the pin model. held is 1 in a pause. */
 typedef struct {
     cartvesper_pins pins;
     uint8_t held;
@@ -115,16 +116,22 @@ cartvesper_value cartvesper_core_protected(cartvesper_core core, uint32_t addres
 
 /* ---- the pin model */
 
+/* Power-up, as in the frame model, with the pins at rest: S, W and HOLD high, C and D low. */
 cartvesper_device_answer cartvesper_device_power_up(uint32_t cycle, uint8_t srwd, uint8_t bp1, uint8_t bp0, uint32_t reading);
+/* One pin to a level: S falling selects and S rising ends the frame; C rising takes the bit on D, C falling moves Q, so it is lent the memory that a
+ * READ shows; HOLD pauses while C is low. */
 cartvesper_device_answer cartvesper_device_set_s(cartvesper_device device, uint8_t level);
 cartvesper_device_answer cartvesper_device_set_c(cartvesper_device device, uint8_t level, const uint8_t *memory, size_t size);
 cartvesper_device_answer cartvesper_device_set_d(cartvesper_device device, uint8_t level);
 cartvesper_device_answer cartvesper_device_set_w(cartvesper_device device, uint8_t level);
 cartvesper_device_answer cartvesper_device_set_hold(cartvesper_device device, uint8_t level);
+/* A clock reading, selected or not; the end of a cycle stores what waits. */
 cartvesper_device_answer cartvesper_device_read_clock(cartvesper_device device, uint32_t reading, uint8_t *memory, size_t size);
 /* Q: value 0, 1, or 2 for Z */
 cartvesper_value cartvesper_device_q(cartvesper_device device);
+/* the status byte */
 cartvesper_value cartvesper_device_status(cartvesper_device device);
+/* number 0 and value 1 where the device is inside its ranges, else number 2 */
 cartvesper_value cartvesper_device_in_ranges(cartvesper_device device);
 /* A list of events at once, each a number: bits 32 to 34 are the kind (0 S, 1 C, 2 D, 3 W, 4 HOLD, 5 to 7 a clock reading), the low 32 bits the
  * reading, or the level in the lowest. out has the list's length and gets Q after each event: 0, 1, or 2 for Z. */
@@ -139,8 +146,8 @@ cartvesper_device_answer cartvesper_device_play(cartvesper_device device, uint8_
  * 65,536 is taken with no data. Else the number is
  *   0 all pages done: the bytes are in the memory (no data: done at once, 0 frames, the clock not moved)
  *   9 a wait used its limit and WIP is still 1: the record and the memory are those after the last poll. The cycle goes on with the next clock
- *     reading; what it is to store (the page in hand, or, in the first wait, what waited before) still waits in the record and is not counted;
- *     pages counts those done before it, and they are stored
+ *     reading; what it is to store (the page in hand, or, in the first wait, what waited before) still waits in the record and is not counted.
+ *     pages is 0: all pages take the same polls, so only the first wait or the first page's can run out
  *  10 a page was not taken, because it is protected: the pages before it are stored, nothing of it is; WRDI was sent and counted, so WEL is 0 */
 cartvesper_driver_answer cartvesper_write(cartvesper_core core, uint8_t *memory, size_t size, uint64_t address, const uint8_t *bytes, size_t length,
                                           uint32_t interval, uint32_t limit);

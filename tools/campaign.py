@@ -28,7 +28,9 @@ SWAPS = [
     ("OutputLength", "BitCount"), ("BitCount", "FrameLength"), ("FrameLength", "BitCount"), ("AddressRange", "PollRange"), ("PollRange", "AddressRange"),
     ("CycleLength", "RecordRange"), ("Wren", "Wrdi"), ("Wrdi", "Wren"), ("Rdsr", "Read"), ("Read", "Rdsr"), ("Wrsr", "Write"), ("Write", "Wrsr"),
     ("Protected", "Open"), ("Open", "Protected"), ("TimedOut", "NotTaken"), ("NotTaken", "TimedOut"), ("Level::Zero", "Level::One"), ("Level::One", "Level::Z"),
-    ("Level::Z,", "Level::Zero,"), ("interval", "limit"), ("limit", "interval"),
+    ("Level::Z,", "Level::Zero,"), ("interval", "limit"), ("limit", "interval"), (".number()", ".value()"), (".value()", ".number()"),
+    (".pages()", ".frames()"), (".frames()", ".pages()"), (".undriven()", ".number()"), ("_refusal(", "_parts("), ("_parts(", "_refusal("), ("_address(", "_length("),
+    ("_length(", "_address("), ("set_s(", "set_d("), ("set_d(", "set_w("), ("set_w(", "set_hold("), ("set_hold(", "set_s("), (".q()", ".status()"), (".status()", ".q()"),
 ]
 
 
@@ -61,7 +63,7 @@ def edits_of(line):
     for old, new in SWAPS:
         for m in re.finditer(re.escape(old), code):
             before, after = code[m.start() - 1:m.start()], code[m.end():m.end() + 1]
-            if re.match(r"\w", old) and re.match(r"\w", before) or re.match(r"\w", old[-1]) and re.match(r"\w", after):
+            if old[0] != "_" and re.match(r"\w", old) and re.match(r"\w", before) or re.match(r"\w", old[-1]) and re.match(r"\w", after):
                 continue
             if old in ("<=", "==") or before not in ("<", ">"):
                 out.append(code[:m.start()] + new + code[m.end():])

@@ -25,7 +25,7 @@ use Rattle.split.proofs.Cases.{case-g-parts, case-g-lengths}
 use Rattle.driver.specs.Sequence.{wren}
 use Rattle.runs.proofs.Cases.{case-h}
 use Rattle.chip.proofs.Cases.{case-e, case-i}
-use Rattle.agree.specs.Starred.{after, guarded, Starred}
+use Rattle.agree.specs.Starred.{after, allBitsSet, Starred}
 
 -- READ at FFFFh is not refused
 read-taken : (m : List ℕ) → length m ≡ m95512 .size → frameOutcome m95512 (delivered m95512) (length m) 5 40 5 ≡ Done
@@ -49,9 +49,9 @@ starred =
       c = refl;
       d-below = refl;
       d-protected = refl;
-      e-idle = case-e guarded refl refl refl .idle refl refl;
-      e-wel = case-e (after (wren ∷ []) guarded .core) refl refl refl .with-wel refl refl;
-      e-cycle = case-e (after (wren ∷ frame true (0x01 ∷ 0x8c ∷ []) 16 ∷ []) guarded .core) refl refl refl .in-cycle refl (lit≤ tt);
+      e-idle = case-e allBitsSet refl refl refl .idle refl refl;
+      e-wel = case-e (after (wren ∷ []) allBitsSet .core) refl refl refl .with-wel refl refl;
+      e-cycle = case-e (after (wren ∷ frame true (0x01 ∷ 0x8c ∷ []) 16 ∷ []) allBitsSet .core) refl refl refl .in-cycle refl (lit≤ tt);
       f = read-rolls;
       g-parts = case-g-parts;
       g-lengths = case-g-lengths;

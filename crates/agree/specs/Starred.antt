@@ -25,12 +25,12 @@ abbrev pub after : List Act → Core → Device
 after acts c = played m95512 acts (fresh c)
 
 -- WREN, the bytes as a frame of so many bits with W high, then the end of a cycle
-abbrev pub stored : List ℕ → ℕ → Core → List ℕ
-stored bytes bits c = after (wren ∷ frame true bytes bits ∷ reading 5000 ∷ []) c .memory
+abbrev pub storedCells : List ℕ → ℕ → Core → List ℕ
+storedCells bytes bits c = after (wren ∷ frame true bytes bits ∷ reading 5000 ∷ []) c .memory
 
 -- the time left after WREN and the frame: 0 where no cycle began
-abbrev pub begun : List ℕ → ℕ → Core → ℕ
-begun bytes bits c = after (wren ∷ frame true bytes bits ∷ []) c .core .left
+abbrev pub timeLeft : List ℕ → ℕ → Core → ℕ
+timeLeft bytes bits c = after (wren ∷ frame true bytes bits ∷ []) c .core .left
 
 abbrev pub cells : List ℕ → List ℕ → List ℕ
 cells m [] = []
@@ -44,8 +44,8 @@ abbrev pub frameC : List ℕ
 frameC = 0x02 ∷ 0x00 ∷ 0x00 ∷ table 130 (λ i. i)
 
 -- SRWD, BP1, BP0 all 1
-abbrev pub guarded : Core
-guarded = idle m95512 true true true 5000 0
+abbrev pub allBitsSet : Core
+allBitsSet = idle m95512 true true true 5000 0
 
 -- BP 01
 abbrev pub upperQuarter : Core
@@ -58,21 +58,21 @@ run300 = replicate 300 0x55
 pub record Starred : Type 0 where
   -- a: the data runs past the page's end and back to its start; the cell after it is as delivered
   pub a :
-      cells (stored frameA 56 (delivered m95512)) (0x007e ∷ 0x007f ∷ 0x0000 ∷ 0x0001 ∷ 0x0002 ∷ [])
+      cells (storedCells frameA 56 (delivered m95512)) (0x007e ∷ 0x007f ∷ 0x0000 ∷ 0x0001 ∷ 0x0002 ∷ [])
       ≡ 0x11 ∷ 0x22 ∷ 0x33 ∷ 0x44 ∷ 0xff ∷ []
   -- b: with 55 or 57 bits, no cycle; with 56 there is one
-  pub b-55 : begun frameA 55 (delivered m95512) ≡ 0
-  pub b-57 : begun (frameA ++ (0x55 ∷ [])) 57 (delivered m95512) ≡ 0
-  pub b-56 : begun frameA 56 (delivered m95512) ≡ 5000
+  pub b-55 : timeLeft frameA 55 (delivered m95512) ≡ 0
+  pub b-57 : timeLeft (frameA ++ (0x55 ∷ [])) 57 (delivered m95512) ≡ 0
+  pub b-56 : timeLeft frameA 56 (delivered m95512) ≡ 5000
   -- c: the latest byte for a cell wins
-  pub c : cells (stored frameC (8 * 133) (delivered m95512)) (0 ∷ 1 ∷ 2 ∷ []) ≡ 0x80 ∷ 0x81 ∷ 0x02 ∷ []
+  pub c : cells (storedCells frameC (8 * 133) (delivered m95512)) (0 ∷ 1 ∷ 2 ∷ []) ≡ 0x80 ∷ 0x81 ∷ 0x02 ∷ []
   -- d: BFFFh is taken, C000h is not
-  pub d-below : begun (0x02 ∷ 0xbf ∷ 0xff ∷ 0x55 ∷ []) 32 upperQuarter ≡ 5000
-  pub d-protected : begun (0x02 ∷ 0xc0 ∷ 0x00 ∷ 0x55 ∷ []) 32 upperQuarter ≡ 0
+  pub d-below : timeLeft (0x02 ∷ 0xbf ∷ 0xff ∷ 0x55 ∷ []) 32 upperQuarter ≡ 5000
+  pub d-protected : timeLeft (0x02 ∷ 0xc0 ∷ 0x00 ∷ 0x55 ∷ []) 32 upperQuarter ≡ 0
   -- e: idle 8Ch, with WEL 8Eh, in a cycle 8Fh
-  pub e-idle : status guarded ≡ 0x8c
-  pub e-wel : status (after (wren ∷ []) guarded .core) ≡ 0x8e
-  pub e-cycle : status (after (wren ∷ frame true (0x01 ∷ 0x8c ∷ []) 16 ∷ []) guarded .core) ≡ 0x8f
+  pub e-idle : status allBitsSet ≡ 0x8c
+  pub e-wel : status (after (wren ∷ []) allBitsSet .core) ≡ 0x8e
+  pub e-cycle : status (after (wren ∷ frame true (0x01 ∷ 0x8c ∷ []) 16 ∷ []) allBitsSet .core) ≡ 0x8f
   -- f: READ at FFFFh for two bytes, of any memory
   pub f : (m : List ℕ) → length m ≡ m95512 .size
       → framedOutput m95512 (delivered m95512) m (0x03 ∷ 0xff ∷ 0xff ∷ 0x00 ∷ 0x00 ∷ []) 40 (replicate 5 0x00)

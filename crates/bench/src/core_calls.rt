@@ -8,7 +8,7 @@ use crate::Value;
 use chip::Core;
 use chip::wide;
 
-// Power-up. 2 for a flag that is not 0 or 1, then 6 for the cycle length; both leave the delivered record.
+// Power-up. Refusal 2 for a flag that is not 0 or 1, then 6 for the cycle length; both leave the delivered record.
 #[no_mangle]
 pub extern "C" fn cartvesper_power_up(
     cycle: u32,
@@ -34,7 +34,7 @@ pub extern "C" fn cartvesper_power_up(
     }
 }
 
-// A clock reading, which may end a cycle and store its page. 1, 2.
+// A clock reading, which may end a cycle and store its page. Refusals 1, 2.
 #[no_mangle]
 pub extern "C" fn cartvesper_clock_reading(
     core: Core,
@@ -53,7 +53,7 @@ pub extern "C" fn cartvesper_clock_reading(
     }
 }
 
-// 1 for a record inside its ranges; 2 and 0 for one outside them.
+// Value 1 for a record inside its ranges; refusal 2 for one outside them.
 #[no_mangle]
 pub extern "C" fn cartvesper_core_in_ranges(core: Core) -> Value
     ensures { λ r. ⌜ r ≡ inRangesCall m95512 core ⌝ }
@@ -70,7 +70,7 @@ pub extern "C" fn cartvesper_core_in_ranges(core: Core) -> Value
     }
 }
 
-// The status byte. 2.
+// The status byte. Refusal 2.
 #[no_mangle]
 pub extern "C" fn cartvesper_core_status(core: Core) -> Value
     ensures { λ r. ⌜ r ≡ statusCall m95512 core ⌝ }
@@ -87,7 +87,7 @@ pub extern "C" fn cartvesper_core_status(core: Core) -> Value
     }
 }
 
-// 1 where the address is protected. 2, then 7.
+// Value 1 where the address is protected. Refusals 2, then 7.
 #[no_mangle]
 pub extern "C" fn cartvesper_core_protected(core: Core, address: u32) -> Value
     ensures { λ r. ⌜ r ≡ protectedCall m95512 core address ⌝ }

@@ -38,7 +38,7 @@ fn refused(number: u32, device: Device) -> DeviceAnswer
     }
 }
 
-// Power-up. 2 for a flag that is not 0 or 1, then 6 for the cycle length; both leave the delivered record, at rest.
+// Power-up. Refusal 2 for a flag that is not 0 or 1, then 6 for the cycle length; both leave the delivered record, at rest.
 #[no_mangle]
 pub extern "C" fn cartvesper_device_power_up(
     cycle: u32,
@@ -55,7 +55,7 @@ pub extern "C" fn cartvesper_device_power_up(
     refused(2, Device::resting(Core::delivered()))
 }
 
-// S to a level. 2 for a level that is not 0 or 1, or a device outside its ranges.
+// S to a level. Refusal 2 for a level that is not 0 or 1, or a device outside its ranges.
 #[no_mangle]
 pub extern "C" fn cartvesper_device_set_s(device: Device, level: u8) -> DeviceAnswer
     ensures { λ r. ⌜ r ≡ pinCall m95512 level (onS m95512 (on level) device) device ⌝ }
@@ -66,7 +66,7 @@ pub extern "C" fn cartvesper_device_set_s(device: Device, level: u8) -> DeviceAn
     refused(2, device)
 }
 
-// D to a level. 2.
+// D to a level. Refusal 2.
 #[no_mangle]
 pub extern "C" fn cartvesper_device_set_d(device: Device, level: u8) -> DeviceAnswer
     ensures { λ r. ⌜ r ≡ pinCall m95512 level (onD (on level) device) device ⌝ }
@@ -77,7 +77,7 @@ pub extern "C" fn cartvesper_device_set_d(device: Device, level: u8) -> DeviceAn
     refused(2, device)
 }
 
-// W to a level. 2.
+// W to a level. Refusal 2.
 #[no_mangle]
 pub extern "C" fn cartvesper_device_set_w(device: Device, level: u8) -> DeviceAnswer
     ensures { λ r. ⌜ r ≡ pinCall m95512 level (onW (on level) device) device ⌝ }
@@ -88,7 +88,7 @@ pub extern "C" fn cartvesper_device_set_w(device: Device, level: u8) -> DeviceAn
     refused(2, device)
 }
 
-// HOLD to a level. 2.
+// HOLD to a level. Refusal 2.
 #[no_mangle]
 pub extern "C" fn cartvesper_device_set_hold(device: Device, level: u8) -> DeviceAnswer
     ensures { λ r. ⌜ r ≡ pinCall m95512 level (onHold (on level) device) device ⌝ }
@@ -109,7 +109,7 @@ pub(crate) fn bad_level(size: usize) -> u32
     1
 }
 
-// C to a level. 1 for the memory, then 2.
+// C to a level. Refusals 1, then 2.
 #[no_mangle]
 pub extern "C" fn cartvesper_device_set_c(device: Device, level: u8, memory: &[u8]) -> DeviceAnswer
     ensures { λ r. ⌜ r ≡ clockPinCall m95512 level (onC m95512 (on level) (now (memory .entry)) device) device (now (memory .entry)) ⌝ }
@@ -120,7 +120,7 @@ pub extern "C" fn cartvesper_device_set_c(device: Device, level: u8, memory: &[u
     refused(bad_level(memory.len()), device)
 }
 
-// A clock reading, which may end a cycle and store its page. 1, 2.
+// A clock reading, which may end a cycle and store its page. Refusals 1, 2.
 #[no_mangle]
 pub extern "C" fn cartvesper_device_read_clock(
     device: Device,
@@ -133,7 +133,7 @@ pub extern "C" fn cartvesper_device_read_clock(
     answered(device.read_clock(reading, memory))
 }
 
-// 1 for a device inside its ranges; 2 and 0 for one outside them.
+// Value 1 for a device inside its ranges; refusal 2 for one outside them.
 #[no_mangle]
 pub extern "C" fn cartvesper_device_in_ranges(device: Device) -> Value
     ensures { λ r. ⌜ r ≡ deviceInRangesCall m95512 device ⌝ }
@@ -150,7 +150,7 @@ pub extern "C" fn cartvesper_device_in_ranges(device: Device) -> Value
     }
 }
 
-// What Q shows: 0, 1, or 2 for Z. 2.
+// What Q shows: value 0, 1, or 2 for Z. Refusal 2.
 #[no_mangle]
 pub extern "C" fn cartvesper_device_q(device: Device) -> Value
     ensures { λ r. ⌜ r ≡ qCall m95512 device ⌝ }
@@ -162,7 +162,7 @@ pub extern "C" fn cartvesper_device_q(device: Device) -> Value
     }
 }
 
-// The status byte. 2.
+// The status byte. Refusal 2.
 #[no_mangle]
 pub extern "C" fn cartvesper_device_status(device: Device) -> Value
     ensures { λ r. ⌜ r ≡ deviceStatusCall m95512 device ⌝ }
@@ -174,7 +174,7 @@ pub extern "C" fn cartvesper_device_status(device: Device) -> Value
     }
 }
 
-// A list of events, each a number, and Q after each in the output. 1, 2, 5.
+// A list of events, each a number, and Q after each in the output. Refusals 1, 2, 5.
 #[no_mangle]
 pub extern "C" fn cartvesper_device_play(
     device: Device,

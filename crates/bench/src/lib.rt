@@ -11,12 +11,14 @@ mod part_calls;
 use chip::Core;
 use pins::Device;
 
+// An answer's number and the record that it leaves.
 #[repr(C)]
 pub struct CoreAnswer {
     pub number: u32,
     pub core: Core,
 }
 
+// Of a frame: also how many leading bits were undriven.
 #[repr(C)]
 pub struct FrameAnswer {
     pub number: u32,
@@ -24,12 +26,14 @@ pub struct FrameAnswer {
     pub core: Core,
 }
 
+// Of an event, a list of events or power-up of the pin model.
 #[repr(C)]
 pub struct DeviceAnswer {
     pub number: u32,
     pub device: Device,
 }
 
+// Of a run of the driver: also pages done and frames sent.
 #[repr(C)]
 pub struct DriverAnswer {
     pub number: u32,
@@ -38,6 +42,7 @@ pub struct DriverAnswer {
     pub core: Core,
 }
 
+// A question's number and its value, 0 in a refusal.
 #[repr(C)]
 pub struct Value {
     pub number: u32,

@@ -1,5 +1,5 @@
 -- Bits as the code has them, and as the definitions have them.
-use Prim.Native.Nat.{ℕ, _/_, _%_, _^_, _≤_}
+use Prim.Native.Nat.{ℕ, _/_, _^_, _≤_}
 use mathlib.Core.Bool.{Bool, true, false}
 use mathlib.Core.Path.{_≡_, refl}
 use mir.Val.{boolByte}

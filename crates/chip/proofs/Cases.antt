@@ -1,17 +1,17 @@
 -- Document 01's cases e and i of the definitions; WIP; and the records of power-up, which are inside the ranges.
 use mathlib.Core.Path.{_≡_, refl, ap, _∙_}
-use mathlib.Core.Bool.{Bool, true, false, _&&_}
-use Prim.Native.Nat.{ℕ, _+_, _*_, _%_, _<_, _≤_}
+use mathlib.Core.Bool.{Bool, true, false}
+use Prim.Native.Nat.{ℕ, _%_, _<_, _≤_}
 use native.Mathlib.Omega.{arith}
-use lib.Dec.{leb, ltb, lit≤}
+use lib.Dec.{lit≤}
 use borrow.Author.Tests.{lt-ltb, le-ltb, le-leb}
-use Rattle.laws.specs.Pick.{pick, pick-case, and-both}
-use Rattle.chip.specs.Part.{Part, m95512}
-use Rattle.chip.specs.Status.{bit, on, statusByte}
+use Rattle.laws.specs.Pick.{pick-case, and-both}
+use Rattle.chip.specs.Part.{Part}
+use Rattle.chip.specs.Status.{bit}
 use Rattle.chip.specs.Records.{running, status, idle}
-use Rattle.chip.specs.Ranges.{flagsFit, cycleFits, inRanges}
+use Rattle.chip.specs.Ranges.{flagsFit, cycleFits}
 use Rattle.chip.specs.Time.{elapsed}
-use Rattle.chip.specs.Power.{delivered, poweredUp}
+use Rattle.chip.specs.Power.{poweredUp}
 use Rattle.chip.specs.declared.Core.{Core}
 use Rattle.chip.specs.declared.PoweredUp.{PoweredUp}
 use Rattle.chip.proofs.Within.{Within, quiet-within}

@@ -2,24 +2,23 @@
 use mathlib.Core.Path.{_≡_, refl, ap, sym, _∙_}
 use mathlib.Core.List.{List}
 use mathlib.Core.Bool.{Bool, true, false, _&&_, true≢false}
-use Prim.Native.Nat.{ℕ, suc, _+_, _-_, _*_, _/_, _%_, _^_, _<_, _≤_}
+use Prim.Native.Nat.{ℕ, suc, _+_, _-_, _*_, _/_, _^_, _<_, _≤_}
 use native.Mathlib.Nat.{mod-lt, mul-le-mul-right, div-mul-le-self, suc-mul}
 use native.Mathlib.Omega.{arith}
 use lib.ListN.{length, getD}
-use lib.Dec.{leb, ltb, eqb}
-use borrow.Author.Tests.{le-leb, lt-leb, le-ltb, lt-ltb, leb-true, leb-false, ltb-true, ltb-false}
-use Rattle.laws.specs.Pick.{pick, yes-so, no-so, at-yes, at-no, pick-case, pick-ap, pick-cong, pick-and, and-left, and-right, and-both, and-no-left}
-use Rattle.laws.specs.Table.{table-length}
+use lib.Dec.{leb}
+use borrow.Author.Tests.{le-leb, lt-ltb, leb-false, ltb-true}
+use Rattle.laws.specs.Pick.{pick, at-yes, at-no, pick-case, pick-ap, pick-cong, pick-and, and-left, and-right, and-both}
 use Rattle.chip.specs.Part.{Part, pages}
 use Rattle.chip.specs.Status.{bitOf}
-use Rattle.chip.specs.Latches.{latchFits, inPage, marked, byteAt, laidAt, stored, storedAt}
+use Rattle.chip.specs.Latches.{latchFits, inPage, marked, byteAt, stored}
 use Rattle.chip.specs.Records.{running, nothing, withStatus, withTime, withoutCycle, waitsStatus, waitsPage}
-use Rattle.chip.specs.Ranges.{flagsFit, inRanges, pageFits, valueFits, waitFits}
-use Rattle.chip.specs.Time.{elapsed, ends, ended, endedMemory, timed, timedMemory}
+use Rattle.chip.specs.Ranges.{flagsFit, pageFits, valueFits}
+use Rattle.chip.specs.Time.{elapsed, ends, endedMemory, timed, timedMemory}
 use Rattle.chip.specs.Cells.{offset, awaited}
 use Rattle.chip.specs.declared.Core.{Core}
 use Rattle.chip.proofs.Stores.{stored-at, stored-length}
-use Rattle.chip.proofs.Within.{Within, within, in-ranges, quiet-within, runs-within}
+use Rattle.chip.proofs.Within.{Within, quiet-within, runs-within}
 
 -- ---- the ranges are kept
 

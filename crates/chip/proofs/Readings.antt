@@ -5,7 +5,7 @@ use mathlib.Core.Bool.{true, false}
 use Prim.Native.Nat.{ℕ}
 use lib.ListN.{length}
 use borrow.Author.Tests.{eq-eqb, ne-eqb}
-use Rattle.laws.specs.Pick.{at-yes, at-no, yes-so, no-so}
+use Rattle.laws.specs.Pick.{at-no, yes-so, no-so}
 use Rattle.chip.specs.Part.{Part}
 use Rattle.chip.specs.Ranges.{inRanges}
 use Rattle.chip.specs.Time.{readingOutcome}

@@ -1,16 +1,16 @@
 -- What stands in each cell once a page write is stored; and that lending the page alone comes to the same.
 use mathlib.Core.Path.{_≡_, refl, ap, _∙_}
 use mathlib.Core.List.{List}
-use mathlib.Core.Bool.{Bool, true, false}
+use mathlib.Core.Bool.{true, false}
 use Prim.Native.Nat.{ℕ, _+_, _-_, _*_, _<_, _≤_}
 use native.Mathlib.Decide.{decLt}
 use native.Mathlib.Omega.{arith}
-use lib.ListN.{length, take, drop, getD, length-take, length-drop}
+use lib.ListN.{length, take, drop, getD}
 use lib.Seq.{getD-take, getD-drop}
 use lib.Dec.{leb, ltb}
 use borrow.Author.Tests.{le-leb, lt-leb, lt-ltb, le-ltb}
-use Rattle.laws.specs.Pick.{pick, pick-case, yes-so, no-so, at-yes, and-both, and-no-left, and-no-right}
-use Rattle.laws.specs.Table.{table, table-length, table-at, table-is}
+use Rattle.laws.specs.Pick.{pick-case, yes-so, no-so, at-yes, and-both, and-no-left, and-no-right}
+use Rattle.laws.specs.Table.{table-length, table-at, table-is}
 use Rattle.laws.specs.Spliced.{spliced, spliced-length, spliced-before, spliced-in, spliced-after}
 use Rattle.chip.specs.Part.{Part}
 use Rattle.chip.specs.Latches.{laid, laidAt, inPage, stored, storedAt}

@@ -1,18 +1,17 @@
 -- Inside the ranges: what the test says, part by part; and that a device with no cycle, and one whose cycle runs on, are inside them.
-use mathlib.Core.Path.{_≡_, refl, ap, sym, _∙_}
-use mathlib.Core.Bool.{Bool, true, false, _&&_, _||_}
-use Prim.Native.Nat.{ℕ, _+_, _-_, _*_, _/_, _%_, _^_, _<_, _≤_}
-use native.Mathlib.Nat.{mod-lt}
+use mathlib.Core.Path.{_≡_, refl, ap, _∙_}
+use mathlib.Core.Bool.{Bool, true, false, _&&_}
+use Prim.Native.Nat.{ℕ, _-_, _<_, _≤_}
 use native.Mathlib.Omega.{arith}
-use lib.ListN.{getD, getD-replicate}
-use lib.Dec.{leb, ltb, eqb, lit≤}
+use lib.ListN.{getD-replicate}
+use lib.Dec.{leb, ltb}
 use borrow.Author.Tests.{le-leb, leb-true, le-ltb, lt-ltb, eq-eqb, ltb-false, ltb-true}
-use Rattle.laws.specs.Pick.{pick, yes-so, no-so, at-yes, at-no, pick-case, and-left, and-right, and-both}
-use Rattle.laws.specs.Each.{each, each-of}
+use Rattle.laws.specs.Pick.{pick, at-no, and-left, and-right, and-both}
+use Rattle.laws.specs.Each.{each-of}
 use Rattle.chip.specs.Part.{Part}
-use Rattle.chip.specs.Latches.{zeros, noLatch, cellFits, latchFits}
-use Rattle.chip.specs.Records.{running, nothing, withTime}
-use Rattle.chip.specs.Ranges.{flagsFit, cycleFits, timeFits, tied, valueFits, pageFits, waitFits, inRanges}
+use Rattle.chip.specs.Latches.{zeros, noLatch, cellFits}
+use Rattle.chip.specs.Records.{nothing, withTime}
+use Rattle.chip.specs.Ranges.{flagsFit, cycleFits, timeFits, tied, waitFits, inRanges}
 use Rattle.chip.specs.declared.Core.{Core}
 
 pub record Within (P : Part) (c : Core) : Type 0 where

@@ -5,11 +5,29 @@ use Rattle.laws.specs.Pick.{pick}
 use Rattle.chip.specs.declared.Instruction.{Instruction}
 use Rattle.chip.specs.declared.Instruction.the-variants.{Wren, Wrdi, Rdsr, Wrsr, Read, Write, Silence}
 
+abbrev pub wrenCode : ℕ
+wrenCode = 0x06
+
+abbrev pub wrdiCode : ℕ
+wrdiCode = 0x04
+
+abbrev pub rdsrCode : ℕ
+rdsrCode = 0x05
+
+abbrev pub wrsrCode : ℕ
+wrsrCode = 0x01
+
+abbrev pub readCode : ℕ
+readCode = 0x03
+
+abbrev pub writeCode : ℕ
+writeCode = 0x02
+
 unfoldable pub decode : ℕ → Instruction
 decode code =
-    pick (eqb code 0x06) Wren
-    (pick (eqb code 0x04) Wrdi
-    (pick (eqb code 0x05) Rdsr
-    (pick (eqb code 0x01) Wrsr
-    (pick (eqb code 0x03) Read
-    (pick (eqb code 0x02) Write Silence)))))
+    pick (eqb code wrenCode) Wren
+    (pick (eqb code wrdiCode) Wrdi
+    (pick (eqb code rdsrCode) Rdsr
+    (pick (eqb code wrsrCode) Wrsr
+    (pick (eqb code readCode) Read
+    (pick (eqb code writeCode) Write Silence)))))

@@ -1,4 +1,4 @@
--- Where an instruction drives Q. Before its data output, and in a frame that is not executed, Q is Z.
+-- Where an instruction drives Q. Before its data output, and in a READ at whose eighth edge a cycle ran, Q is Z.
 use Prim.Native.Nat.{ℕ, _+_}
 use mathlib.Core.Bool.{Bool, false, not, _&&_}
 use lib.Dec.{leb}

@@ -16,7 +16,7 @@ use Rattle.chip.specs.declared.Refusal.the-variants.{MemoryLength, Recor
 use Rattle.chip.specs.declared.Outcome.{Outcome}
 use Rattle.chip.specs.declared.Outcome.the-variants.{Done, Refused}
 
--- new minus old on a free-running counter of 32 bits
+-- new minus old on a free-running counter of 32 bits; old is a reading, below 2^32: the record's field is a u32
 abbrev pub elapsed : ℕ → ℕ → ℕ
 elapsed old new = (new + 2 ^ 32 - old) % 2 ^ 32
 

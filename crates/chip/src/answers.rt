@@ -7,6 +7,7 @@ use crate::Protection;
 use crate::Refusal;
 
 impl Refusal {
+    // Document 01's number, 1 to 8.
     pub fn number(self) -> u32
         ensures { λ r. ⌜ r ≡ refusalNumber self ⌝ }
     {
@@ -24,6 +25,7 @@ impl Refusal {
 }
 
 impl Outcome {
+    // 0 for done, or the refusal's number.
     pub fn number(self) -> u32
         ensures { λ r. ⌜ r ≡ number self ⌝ }
     {
@@ -35,6 +37,7 @@ impl Outcome {
 }
 
 impl Protection {
+    // 0 for an answer, or the refusal's number.
     pub fn number(self) -> u32
         ensures { λ r. ⌜ r ≡ protectionNumber self ⌝ }
     {

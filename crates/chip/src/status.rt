@@ -8,6 +8,7 @@ use crate::Core;
 // The bits that WRSR writes: 7, 3 and 2.
 pub const WRITABLE: u8 = 0x8c;
 
+// SRWD 0 0 0 BP1 BP0 WEL WIP, high bit first.
 pub fn status_byte(srwd: bool, bp1: bool, bp0: bool, wel: bool, wip: bool) -> u8
     ensures { λ r. ⌜ r ≡ statusByte srwd bp1 bp0 wel wip ⌝ }
 {
@@ -54,6 +55,7 @@ impl Core {
         0 < self.left
     }
 
+    // The status byte of any record.
     pub fn status(self) -> u8
         ensures { λ r. ⌜ r ≡ status self ⌝ }
     {

@@ -25,6 +25,7 @@ pub fn elapsed(old: u32, new: u32) -> u32
 }
 
 impl Waiting {
+    // What waits where nothing does: every field is 0.
     pub fn nothing() -> Waiting
         ensures { λ r. ⌜ r ≡ nothing m95512 ⌝ }
     {

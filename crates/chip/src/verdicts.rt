@@ -117,6 +117,7 @@ pub fn judge(
 }
 
 impl Verdict {
+    // Every other verdict leaves the record as it was.
     pub fn is_executed(self) -> bool
         ensures { λ r. ⌜ r ≡ isExecuted self ⌝ }
     {

@@ -1,11 +1,11 @@
 -- The whole run: nothing for no data, a first wait that used its limit, or the page parts after it.
 use mathlib.Core.Path.{_≡_, refl, ap, sym, _∙_}
 use mathlib.Core.Bool.{true, false}
-use mathlib.Core.List.{List, [], _++_}
-use Prim.Native.Nat.{ℕ, _+_}
+use mathlib.Core.List.{List, []}
+use Prim.Native.Nat.{ℕ}
 use lib.ListN.{length}
 use borrow.Author.Tests.{eq-eqb, ne-eqb}
-use Rattle.laws.specs.Pick.{pick, at-yes, at-no}
+use Rattle.laws.specs.Pick.{at-yes, at-no}
 use Rattle.chip.specs.Part.{Part}
 use Rattle.chip.specs.Records.{running}
 use Rattle.frames.specs.Play.{Act, Device, played}

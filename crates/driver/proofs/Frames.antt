@@ -1,6 +1,6 @@
 -- The driver's frames through the quick model's promise: none is refused, a poll shows the status and leaves the record as it was.
 use mathlib.Core.Path.{_≡_, refl, ap, sym, _∙_}
-use mathlib.Core.Bool.{Bool, true, false, _&&_}
+use mathlib.Core.Bool.{true}
 use mathlib.Core.List.{List, [], _∷_, _++_}
 use Prim.Native.Nat.{ℕ, suc, _+_, _*_, _-_, _/_, _%_, _^_, _<_, _≤_}
 use native.Mathlib.Decide.{ℕ-discrete}
@@ -8,10 +8,10 @@ use native.Mathlib.Omega.{arith}
 use lib.ListN.{length, getD, set, take, drop, length-set, length-drop}
 use lib.Seq.{length-take-le, take-at}
 use borrow.Author.Tests.{le-leb, eq-eqb}
-use Rattle.laws.specs.Pick.{pick, pick-same, at-yes, yes-so, no-so, eq-so, ne-so, le-so, and-both}
+use Rattle.laws.specs.Pick.{pick, pick-same, at-yes, yes-so, eq-so, ne-so, le-so, and-both}
 use Rattle.laws.specs.Spliced.{spliced, spliced-length}
 use Rattle.laws.specs.Table.{from, table}
-use Rattle.chip.specs.Part.{Part, m95512}
+use Rattle.chip.specs.Part.{m95512}
 use Rattle.chip.specs.Records.{running, status}
 use Rattle.chip.specs.Ranges.{inRanges}
 use Rattle.chip.specs.Refusals.{isDone}
@@ -20,7 +20,6 @@ use Rattle.chip.proofs.Readings.{reading-taken}
 use Rattle.chip.specs.Instructions.{decode}
 use Rattle.chip.specs.Verdicts.{isExecuted}
 use Rattle.chip.specs.declared.Core.{Core}
-use Rattle.chip.specs.declared.Outcome.{Outcome}
 use Rattle.chip.specs.declared.Outcome.the-variants.{Done}
 use Rattle.frames.proofs.Showing.{copied}
 use Rattle.frames.specs.After.{judged, after}

@@ -1,6 +1,6 @@
 -- What it says of an input that it is not refused, document 01's number and counts of each answer, and what is handed back.
 use mathlib.Core.Path.{_≡_, refl, ap, sym, _∙_}
-use mathlib.Core.Bool.{Bool, true, _&&_}
+use mathlib.Core.Bool.{true}
 use mathlib.Core.List.{List}
 use Prim.Native.Nat.{ℕ, _+_, _-_, _≤_}
 use native.Mathlib.Decide.{decLe}
@@ -8,11 +8,10 @@ use native.Mathlib.Omega.{arith}
 use lib.Dec.{eqb, leb}
 use lib.ListN.{length}
 use borrow.Author.Tests.{eqb-true, leb-true, le-leb, lt-leb}
-use Rattle.laws.specs.Pick.{pick, pick-ap, pick-cong, at-yes, at-no}
+use Rattle.laws.specs.Pick.{pick, pick-ap, pick-cong}
 use Rattle.laws.specs.And.{and-4-out}
 use Rattle.chip.specs.Part.{Part, m95512}
 use Rattle.chip.specs.Ranges.{inRanges}
-use Rattle.chip.specs.Refusals.{refusalNumber}
 use Rattle.chip.specs.declared.Core.{Core}
 use Rattle.chip.specs.declared.Refusal.{Refusal}
 use Rattle.chip.specs.declared.Refusal.the-variants.{MemoryLength, RecordRange, AddressRange, PollRange}

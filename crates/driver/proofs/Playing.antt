@@ -1,7 +1,7 @@
 -- Acts one after another: what they leave, and how many frames they are.
 use mathlib.Core.Path.{_≡_, refl}
 use mathlib.Core.List.{List, [], _∷_, _++_}
-use Prim.Native.Nat.{ℕ, _+_}
+use Prim.Native.Nat.{_+_}
 use native.Mathlib.Omega.{arith}
 use Rattle.chip.specs.Part.{Part}
 use Rattle.frames.specs.Play.{Act, frame, reading, Device, acted, played}

@@ -6,7 +6,7 @@ use Prim.Native.Nat.{ℕ, suc, _+_, _-_, _<_, _≤_}
 use native.Mathlib.Decide.{decLe}
 use native.Mathlib.Omega.{arith}
 use lib.ListN.{length}
-use Rattle.laws.specs.Pick.{pick, at-yes, at-no}
+use Rattle.laws.specs.Pick.{at-yes, at-no}
 use Rattle.chip.specs.Part.{Part}
 use Rattle.chip.specs.Status.{on}
 use Rattle.chip.specs.Records.{running}

@@ -7,6 +7,7 @@ use lib.ListN.{length}
 use lib.Dec.{eqb}
 use Rattle.laws.specs.Pick.{pick}
 use Rattle.chip.specs.Part.{Part}
+use Rattle.chip.specs.Instructions.{wrenCode, wrdiCode, rdsrCode, writeCode}
 use Rattle.chip.specs.Status.{on}
 use Rattle.chip.specs.Records.{running}
 use Rattle.chip.specs.declared.Core.{Core}
@@ -21,14 +22,14 @@ abbrev pub whole : List ℕ → Act
 whole s = frame true s (8 * length s)
 
 abbrev pub wren : Act
-wren = whole (0x06 ∷ [])
+wren = whole (wrenCode ∷ [])
 
 abbrev pub wrdi : Act
-wrdi = whole (0x04 ∷ [])
+wrdi = whole (wrdiCode ∷ [])
 
 -- the code, and a byte in which the status shows
 abbrev pub rdsr : Act
-rdsr = whole (0x05 ∷ 0x00 ∷ [])
+rdsr = whole (rdsrCode ∷ 0x00 ∷ [])
 
 -- the low k bytes of an address, high byte first
 abbrev pub addressBytes : ℕ → ℕ → List ℕ
@@ -36,7 +37,7 @@ addressBytes zero a = []
 addressBytes (suc k) a = (a / 256 ^ k % 256) ∷ addressBytes k a
 
 abbrev pub writeBytes : Part → ℕ → List ℕ → List ℕ
-writeBytes P a bytes = 0x02 ∷ addressBytes (P .addressBytes) a ++ bytes
+writeBytes P a bytes = writeCode ∷ addressBytes (P .addressBytes) a ++ bytes
 
 abbrev pub write : Part → ℕ → List ℕ → Act
 write P a bytes = whole (writeBytes P a bytes)

@@ -34,6 +34,7 @@ pub enum Answer {
     Refused(Refusal),
 }
 
+// What a run hands back: its answer, and the record that follows or, in a refusal, the record as given.
 pub struct Driven {
     pub answer: Answer,
     pub core: Core,

@@ -27,6 +27,7 @@ pub fn outputs(i: Instruction, taken: u8, ran: bool) -> bool
     }
 }
 
+// The byte at an address; 0 past the memory.
 pub fn cell(memory: &[u8], address: u32) -> u8
     ensures { λ r. ⌜ r ≡ getD (now (memory .entry)) address 0 ⌝ }
 {
@@ -37,6 +38,7 @@ pub fn cell(memory: &[u8], address: u32) -> u8
     0
 }
 
+// The next address, from the last one back to the first.
 pub fn one_up(address: u32) -> u32
     ensures { λ r. ⌜ r ≡ (address + 1) % 65536 ⌝ }
 {

@@ -1,5 +1,5 @@
 // The frame in hand of the slow model, by the edges of its clock: what a counted rising edge takes, what an unheld falling edge shows, and the
-// ranges of its fields. No refusals here: the calls that answer every input are those of pins.
+// ranges of its fields. Its calls are inner ones, each total; the public ones, with their refusals, are those of pins and lists.
 use chip::Latch;
 
 mod falling;

@@ -134,6 +134,7 @@ impl Frame {
         address & value & self.out_fits(i) & latch.fits(latches(i, self.taken))
     }
 
+    // Is it inside its ranges, for every frame in hand.
     pub fn fits(self) -> bool
         ensures { λ r. ⌜ r ≡ frameFits m95512 self ⌝ }
     {

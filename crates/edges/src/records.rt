@@ -8,6 +8,7 @@ use crate::Frame;
 use chip::Latch;
 
 impl Frame {
+    // No byte and no bit taken.
     pub fn none() -> Frame
         ensures { λ r. ⌜ r ≡ noFrame m95512 ⌝ }
     {
@@ -75,12 +76,14 @@ impl Frame {
     }
 }
 
+// One whole byte more; the count stays at 4.
 pub fn one_more(taken: u8) -> u8
     ensures { λ r. ⌜ r ≡ min 4 (taken + 1) ⌝ }
 {
     if taken < 4 { taken + 1 } else { 4 }
 }
 
+// A level as a number: 1 for high.
 pub fn bit(level: bool) -> u8
     ensures { λ r. ⌜ r ≡ bit level ⌝ }
 {

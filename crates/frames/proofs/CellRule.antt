@@ -1,7 +1,7 @@
 -- Demand 2's cell rule, over any list of frames and clock readings: a frame changes no cell, and a cell changes only if it waits at the start or
 -- an executed WRITE of the list addresses it.
 use mathlib.Core.Path.{_≡_, refl, _∙_}
-use mathlib.Core.Bool.{Bool, true, false, _&&_, _||_}
+use mathlib.Core.Bool.{Bool, false, _&&_}
 use mathlib.Core.List.{List, [], _∷_}
 use Prim.Native.Nat.{ℕ, _*_, _-_, _/_, _<_}
 use lib.ListN.{length, getD}

@@ -18,7 +18,7 @@ pub data Act : Type 0 where
   -- the clock reads so much
   reading : ℕ → Act
 
--- a device with its memory
+-- a record with its memory; the pin model's is `Bench`
 pub record Device : Type 0 where
   pub core : Core
   pub memory : List ℕ

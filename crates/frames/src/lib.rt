@@ -24,6 +24,7 @@ pub enum Answer {
     Unshown(Refusal),
 }
 
+// What a frame hands back: its answer, and the record that follows or, in a refusal, the record as given.
 pub struct Framed {
     pub answer: Answer,
     pub core: Core,

@@ -192,6 +192,7 @@ impl Line {
         (self.whole <= 1000000) & (self.kind == 0) & (self.value == 0)
     }
 
+    // Is it inside its ranges, for every line in hand.
     pub fn fits(self) -> bool
         ensures { λ r. ⌜ r ≡ lineFits self ⌝ }
     {

@@ -1,4 +1,4 @@
--- Theorems on the pin model, and the facts that the functions' proofs share.
+-- The facts that the functions' proofs share, and that two results are equal. The theorems on the pin model are those of `rules`.
 pub mod Answering
 pub mod Stills
 pub mod Ones

@@ -1,4 +1,4 @@
--- Each public call allows one result; and one memory and one output where it is lent them.
+-- Each public call allows one result; and one memory where it is lent one to be written.
 use denote.Ref.{now}
 use Rattle.laws.specs.One.{OneResult, OneExit, same}
 use Rattle.pins.proofs.public.power_up.Kinds as power-up

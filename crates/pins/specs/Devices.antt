@@ -1,4 +1,4 @@
--- The device record: what its fields say, and every way in which one is made of another. No record is written out anywhere else.
+-- The device record: what its fields say, and every way in which one is made of another. But for a list's own parts (lists/Ways), no record is written out anywhere else.
 use Prim.Native.Nat.{ℕ}
 use mathlib.Core.Bool.{Bool, not, _&&_}
 use Rattle.chip.specs.Part.{Part}

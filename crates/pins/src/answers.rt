@@ -6,6 +6,7 @@ use crate::StatusAnswer;
 use chip::wide;
 
 impl QAnswer {
+    // 0 for an answer, or the refusal's number.
     pub fn number(self) -> u32
         ensures { λ r. ⌜ r ≡ qNumber self ⌝ }
     {
@@ -27,6 +28,7 @@ impl QAnswer {
 }
 
 impl StatusAnswer {
+    // 0 for an answer, or the refusal's number.
     pub fn number(self) -> u32
         ensures { λ r. ⌜ r ≡ statusNumber self ⌝ }
     {

@@ -47,7 +47,7 @@ impl Device {
         }
     }
 
-    // S to a level.
+    // S to a level. 2 for a device outside its ranges.
     pub fn set_s(self, level: bool) -> Stepped
         ensures { λ r. ⌜ r ≡ answer (recordOutcome m95512 self) (onS m95512 level self) self ⌝ }
         ensures { λ r. ⌜ number (r .outcome) ≡ recordNumber m95512 self ⌝ }
@@ -58,7 +58,7 @@ impl Device {
         self.refused(Refusal::RecordRange)
     }
 
-    // D to a level.
+    // D to a level. 2 for a device outside its ranges.
     pub fn set_d(self, level: bool) -> Stepped
         ensures { λ r. ⌜ r ≡ answer (recordOutcome m95512 self) (onD level self) self ⌝ }
         ensures { λ r. ⌜ number (r .outcome) ≡ recordNumber m95512 self ⌝ }
@@ -69,7 +69,7 @@ impl Device {
         self.refused(Refusal::RecordRange)
     }
 
-    // W to a level.
+    // W to a level. 2 for a device outside its ranges.
     pub fn set_w(self, level: bool) -> Stepped
         ensures { λ r. ⌜ r ≡ answer (recordOutcome m95512 self) (onW level self) self ⌝ }
         ensures { λ r. ⌜ number (r .outcome) ≡ recordNumber m95512 self ⌝ }
@@ -80,7 +80,7 @@ impl Device {
         self.refused(Refusal::RecordRange)
     }
 
-    // HOLD to a level.
+    // HOLD to a level. 2 for a device outside its ranges.
     pub fn set_hold(self, level: bool) -> Stepped
         ensures { λ r. ⌜ r ≡ answer (recordOutcome m95512 self) (onHold level self) self ⌝ }
         ensures { λ r. ⌜ number (r .outcome) ≡ recordNumber m95512 self ⌝ }
@@ -91,7 +91,7 @@ impl Device {
         self.refused(Refusal::RecordRange)
     }
 
-    // C to a level, with the memory that a READ shows.
+    // C to a level, with the memory that a READ shows. 1 for a memory of another length, then 2.
     pub fn set_c(self, level: bool, memory: &[u8]) -> Stepped
         ensures { λ r. ⌜ r ≡ answer (memoryOutcome m95512 self (now (memory .entry))) (onC m95512 level (now (memory .entry)) self) self ⌝ }
         ensures { λ r. ⌜ number (r .outcome) ≡ memoryNumber m95512 self (now (memory .entry)) ⌝ }
@@ -105,7 +105,7 @@ impl Device {
         self.refused(Refusal::MemoryLength)
     }
 
-    // A clock reading, with the memory that the end of a cycle changes.
+    // A clock reading, with the memory that the end of a cycle changes. 1 for a memory of another length, then 2.
     pub fn read_clock(self, reading: u32, memory: &mut [u8]) -> Stepped
         ensures { λ r. ⌜ r ≡ answer (memoryOutcome m95512 self (now (memory .entry))) (onTime m95512 reading self) self ⌝ }
         ensures { λ r. ⌜ number (r .outcome) ≡ memoryNumber m95512 self (now (memory .entry)) ⌝ }
@@ -120,7 +120,7 @@ impl Device {
         self.refused(Refusal::MemoryLength)
     }
 
-    // Q: 0, 1 or Z.
+    // Q: 0, 1 or Z. 2 for a device outside its ranges.
     pub fn q(self) -> QAnswer
         ensures { λ r. ⌜ r ≡ qAnswer m95512 self ⌝ }
         ensures { λ r. ⌜ qNumber r ≡ recordNumber m95512 self ⌝ }
@@ -132,7 +132,7 @@ impl Device {
         QAnswer::Unanswered(Refusal::RecordRange)
     }
 
-    // The status byte.
+    // The status byte. 2 for a device outside its ranges.
     pub fn status(self) -> StatusAnswer
         ensures { λ r. ⌜ r ≡ statusAnswer m95512 self ⌝ }
         ensures { λ r. ⌜ statusNumber r ≡ recordNumber m95512 self ⌝ }

@@ -37,7 +37,7 @@ use Rattle.edges.specs.Falling.{loading, fallen}
 use Rattle.edges.specs.Ranges.{latches}
 use Rattle.pins.specs.Ranges.{deviceFits}
 use Rattle.pins.specs.Events.{judgedNow, renewed, onS, onC, onD, onW, onHold, onTime, stepped, eventOf}
-use Rattle.rules.specs.Cells.{inFrame, writes, touched, dataFor, takes, addressed}
+use Rattle.rules.specs.Cells.{inFrame, writes, touched, dataFor, takes, byteTaken}
 use Rattle.pins.specs.Answers.{Bench, afterEvent, played}
 use Rattle.rules.proofs.Sound.{Sound}
 use Rattle.rules.proofs.Parts.{FrameFits, Fits, parts}
@@ -197,18 +197,18 @@ module _ (P : Part) (sound : Sound P) (i : ℕ) (x : Device) (t : Fits P x) (h :
 
 module _ (P : Part) (sound : Sound P) (i : ℕ) where
   unaddressed : (es : List ℕ) (b : Bench) → Sized P (b .device) → deviceFits P (b .device) ≡ true → inFrame P (b .device .frame) i ≡ false
-      → addressed P i es b ≡ false → touched P i es b ≡ false
-  unfolding addressed touched
+      → byteTaken P i es b ≡ false → touched P i es b ≡ false
+  unfolding byteTaken touched
   unaddressed [] b sized fits h none = refl
   unaddressed (e ∷ es) b sized fits h none =
       let x = b .device in
       let t = parts P x fits in
-      let two = or-none-out (takes P i (eventOf e) x) (addressed P i es (afterEvent P e b)) none in
+      let two = or-none-out (takes P i (eventOf e) x) (byteTaken P i es (afterEvent P e b)) none in
       or-none-in (writes P i (eventOf e) x) (touched P i es (afterEvent P e b)) (unwritten P sound i x t h (eventOf e))
       (unaddressed es (afterEvent P e b) (stepped-sized P x sized (b .memory) (eventOf e)) (stepped-fits P sound x sized fits (b .memory) (eventOf e))
       (event-frame P sound i x t h (b .memory) (eventOf e) (two .0)) (two .1))
 
   pub unaddressed-cell : (es : List ℕ) (b : Bench) → i < P .size → length (b .memory) ≡ P .size → Sized P (b .device) → deviceFits P (b .device) ≡ true
-      → awaited P (b .device .core) i ≡ false → inFrame P (b .device .frame) i ≡ false → addressed P i es b ≡ false
+      → awaited P (b .device .core) i ≡ false → inFrame P (b .device .frame) i ≡ false → byteTaken P i es b ≡ false
       → getD (played P es b .memory) i 0 ≡ getD (b .memory) i 0
   unaddressed-cell es b below size sized fits a h none = untouched-cell P sound i below es b size sized fits a (unaddressed es b sized fits h none)

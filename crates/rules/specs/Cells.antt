@@ -60,6 +60,6 @@ takes P i (Hold level) x = false
 takes P i (Time t) x = false
 
 -- .. at some event of a list
-unfoldable pub addressed : Part → ℕ → List ℕ → Bench → Bool
-addressed P i [] b = false
-addressed P i (e ∷ es) b = takes P i (eventOf e) (b .device) || addressed P i es (afterEvent P e b)
+unfoldable pub byteTaken : Part → ℕ → List ℕ → Bench → Bool
+byteTaken P i [] b = false
+byteTaken P i (e ∷ es) b = takes P i (eventOf e) (b .device) || byteTaken P i es (afterEvent P e b)

@@ -1,6 +1,7 @@
 // The trace text: what a whole text puts out, taken a chunk at a time. One line of it, a byte at a time, is `lines`.
 //
-// Public calls, each for every input: start and memory, what a text starts from; feed, a chunk of the text; finish, its end.
+// Public calls, each for every input: start and memory, what a text starts from; feed, a chunk of the text; finish, its end; in_ranges, of a
+// player.
 use chip::Refusal;
 use lines::Line;
 use pins::Device;

@@ -7,7 +7,6 @@ use Rattle.frames.specs.Play.{Device, played}
 use Rattle.driver.specs.Sequence.{latePoll}
 use Rattle.driver.proofs.Ready.{Ready, device-of, ready-played}
 use Rattle.driver.proofs.Waits.{goes-on, is-over, Onward, onward-first, onward-next, onward-last}
-use borrow.Author.Needs.{needs}
 use Rattle.driver.proofs.waiting.poll_on.Statement.{statement}
 use Rattle.driver.proofs.waiting.poll_on.Tie as tie
 use Rattle.driver.proofs.waiting.poll_on.Reads as reads
