@@ -21,7 +21,7 @@ use Rattle.frames.specs.Answers.{framed, framedOutput}
 use Rattle.pins.specs.declared.Event.{Event}
 use Rattle.pins.specs.Devices.{resting}
 use Rattle.pins.specs.Ranges.{deviceFits}
-use Rattle.pins.specs.Answers.{Bench}
+use Rattle.pins.specs.Answers.{PinBench, pinBench}
 use Rattle.agree.specs.Drawings.{Act, send, reading, flat, Wave, between}
 use Rattle.agree.specs.Reports.{Report, watched, framesPlayed, Unselected, Agreement}
 use Rattle.agree.proofs.Agree.{agreement}
@@ -69,8 +69,8 @@ frames-seen = record { bits = refl; registers = refl; cell = refl }
 
 -- ---- and so the pin model, from the same device, whatever drawing of the list
 
-abbrev pub bench : Bench
-bench = record { device = resting m95512 (delivered m95512); memory = deliveredMemory m95512 }
+abbrev pub bench : PinBench
+bench = pinBench (resting m95512 (delivered m95512)) (deliveredMemory m95512)
 
 unselected : Unselected m95512 bench
 unfolding deviceFits inRanges each pick decode zeros

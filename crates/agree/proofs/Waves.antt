@@ -29,12 +29,12 @@ use Rattle.edges.specs.Falling.{fallen, loading}
 use Rattle.chip.specs.Output.{outputs}
 use Rattle.pins.specs.Devices.{q}
 use Rattle.pins.specs.Events.{onS, onC, onD, onW, onHold, onTime}
-use Rattle.pins.specs.Answers.{Bench}
+use Rattle.pins.specs.Answers.{PinBench}
 use Rattle.agree.specs.Drawings.{Act, mode0, mode3, Phase, between, inside, paused, sOf, cOf, holdOf, stays, Sendable, bitsOf, Wave, data′, stay′, end′, clock′, reading′, protect′, select′, rise′, fall′, deselect′, hold′, idle′, resume′}
 use Rattle.agree.specs.Reports.{Report, asOne, watched, framesPlayed}
 use Rattle.agree.proofs.Ticks.{tick, shows, seenOf, endOf, decidesAt, decides}
 
-abbrev pub mk : (s c d w h z : Bool) → Frame → Core → List ℕ → Bench
+abbrev pub mk : (s c d w h z : Bool) → Frame → Core → List ℕ → PinBench
 mk s c d w h z f k m =
     record {
       device = record { pins = record { s = bit s; c = bit c; d = bit d; w = bit w; hold = bit h }; held = bit z; frame = f; core = k };
@@ -42,7 +42,7 @@ mk s c d w h z f k m =
     }
 
 -- the bench in a phase: held where HOLD is low
-abbrev pub at : Phase → Bool → Bool → Frame → Core → List ℕ → Bench
+abbrev pub at : Phase → Bool → Bool → Frame → Core → List ℕ → PinBench
 at p d w f c m = mk (sOf p) (cOf p) d w (holdOf p) (not (holdOf p)) f c m
 
 module _ (P : Part) where

@@ -16,7 +16,7 @@ use Rattle.edges.specs.declared.Level.{Level}
 use Rattle.edges.specs.declared.Level.the-variants.{Zero, One, Z}
 use Rattle.pins.specs.Devices.{selected, counting, q}
 use Rattle.pins.specs.Ranges.{deviceFits}
-use Rattle.pins.specs.Answers.{Bench, next}
+use Rattle.pins.specs.Answers.{PinBench, next}
 use Rattle.agree.specs.Drawings.{Act, send, reading, protect, bitsOf, Wave, between}
 
 -- after each frame: the output bits at its counted clocks, then the memory and the record (status, time left, what waits)
@@ -52,7 +52,7 @@ isEnd (Hold b) x = false
 isEnd (Time t) x = false
 
 -- seen: the bits at the counted clocks since the frame began
-unfoldable pub watched : Part → List Event → List Bool → Bench → List Report
+unfoldable pub watched : Part → List Event → List Bool → PinBench → List Report
 watched P [] seen b = []
 watched P (e ∷ es) seen b =
     let x = b .device in
@@ -74,7 +74,7 @@ framesPlayed P (protect w′ ∷ ks) w c m = framesPlayed P ks w′ c m
 -- ---- demand 3
 
 -- inside the ranges, not selected, HOLD high, with its memory
-pub record Unselected (P : Part) (b : Bench) : Type 0 where
+pub record Unselected (P : Part) (b : PinBench) : Type 0 where
   pub fits : deviceFits P (b .device) ≡ true
   pub up : b .device .pins .s ≡ 1
   pub free : b .device .pins .hold ≡ 1
@@ -83,6 +83,6 @@ pub record Unselected (P : Part) (b : Bench) : Type 0 where
 -- from one unselected device and memory, whatever drawing es of the acts ks: the bench sees the same of both models
 unfoldable pub Agreement : Part → Type 0
 Agreement P =
-    (b : Bench) (ks : List Act) (es : List Event) → Unselected P b
+    (b : PinBench) (ks : List Act) (es : List Event) → Unselected P b
     → Wave P (between (on (b .device .pins .c))) (on (b .device .pins .d)) (on (b .device .pins .w)) [] ks es
     → watched P es [] b ≡ framesPlayed P ks (on (b .device .pins .w)) (b .device .core) (b .memory)

@@ -12,17 +12,17 @@ use Rattle.chip.specs.Time.{elapsed}
 use Rattle.chip.specs.Power.{delivered, deliveredMemory}
 use Rattle.chip.specs.declared.Core.{Core}
 use Rattle.frames.specs.Answers.{framedOutput}
-use Rattle.frames.specs.Play.{Act, frame, reading, Device, played}
+use Rattle.frames.specs.Play.{Act, frame, reading, FrameBench, actedAll, frameBench}
 use Rattle.split.specs.Split.{splitParts, splitLength}
-use Rattle.driver.specs.Sequence.{wren, sent, device, run}
+use Rattle.driver.specs.Sequence.{wren, sent, run}
 
 -- a record with a memory as delivered
-abbrev pub fresh : Core → Device
+abbrev pub fresh : Core → FrameBench
 fresh c = device c (deliveredMemory m95512)
 
--- frames and readings played on such a device
-abbrev pub after : List Act → Core → Device
-after acts c = played m95512 acts (fresh c)
+-- frames and readings actedAll on such a device
+abbrev pub after : List Act → Core → FrameBench
+after acts c = actedAll m95512 acts (fresh c)
 
 -- WREN, the bytes as a frame of so many bits with W high, then the end of a cycle
 abbrev pub storedCells : List ℕ → ℕ → Core → List ℕ

@@ -19,7 +19,7 @@ use Rattle.pins.specs.declared.Device.{Device}
 use Rattle.pins.specs.Devices.{resting}
 use Rattle.pins.specs.Ranges.{deviceFits}
 use Rattle.pins.specs.Events.{onTime}
-use Rattle.pins.specs.Answers.{answer, recordOutcome, recordNumber, memoryOutcome, memoryNumber, qAsked, statusAsked, powered, played}
+use Rattle.pins.specs.Answers.{answer, recordOutcome, recordNumber, memoryOutcome, memoryNumber, qAsked, statusAsked, powered, played, pinBench}
 use Rattle.lists.specs.Answers.{playOutcome, playNumber}
 use Rattle.bench.specs.declared.FrameAnswer.{FrameAnswer}
 use Rattle.bench.specs.declared.DeviceAnswer.{DeviceAnswer}
@@ -106,7 +106,7 @@ deviceInRangesCall P x = pick (deviceFits P x) (valueAnswer 0 1) (valueAnswer 2 
 abbrev pub playCall : Part → Device → List ℕ → List ℕ → ℕ → DeviceAnswer
 playCall P x m es room =
     deviceAnswer (playNumber P x m (length es) room)
-    (answer (playOutcome P x m (length es) room) (played P es (record { device = x; memory = m }) .device) x .device)
+    (answer (playOutcome P x m (length es) room) (played P es (pinBench x m) .device) x .device)
 
 -- ---- the driver
 

@@ -8,19 +8,19 @@ use borrow.Author.Tests.{eq-eqb, ne-eqb}
 use Rattle.laws.specs.Pick.{at-yes, at-no}
 use Rattle.chip.specs.Part.{Part}
 use Rattle.chip.specs.Records.{running}
-use Rattle.frames.specs.Play.{Act, Device, played}
+use Rattle.frames.specs.Play.{Act, FrameBench, actedAll}
 use Rattle.driver.specs.declared.Driven.{Driven}
 use Rattle.driver.specs.declared.Answer.{Answer}
 use Rattle.driver.specs.Sequence.{sent, firstWait, Ending, allDone, timedOut, Run, stopped, begun, allParts, run}
 use Rattle.driver.specs.Answers.{endingAnswer, countedAnswer, partsAnswer, runAnswer}
 use Rattle.driver.proofs.Playing.{played-append, sent-append}
 
-module _ (P : Part) (i limit a : ℕ) (bytes : List ℕ) (d : Device) where
+module _ (P : Part) (i limit a : ℕ) (bytes : List ℕ) (d : FrameBench) where
   abbrev pub first : List Act
   first = firstWait P i limit d
 
-  abbrev pub rested : Device
-  rested = played P first d
+  abbrev pub rested : FrameBench
+  rested = actedAll P first d
 
   abbrev whole : Run
   whole = run P i limit a bytes d
@@ -42,33 +42,33 @@ module _ (P : Part) (i limit a : ℕ) (bytes : List ℕ) (d : Device) where
   -- ---- what is handed back of each, and what is left in the memory
 
   abbrev pub Drove : Driven → List ℕ → Type 0
-  Drove r m = (r ≡ record { answer = runAnswer whole; core = played P (whole .acts) d .core }) × (m ≡ played P (whole .acts) d .memory)
+  Drove r m = (r ≡ record { answer = runAnswer whole; core = actedAll P (whole .acts) d .core }) × (m ≡ actedAll P (whole .acts) d .memory)
 
-  stops : (acts : List Act) (e : Ending) (n : ℕ) (y : Device) → whole ≡ stopped acts e → y ≡ played P acts d → n ≡ sent acts
+  stops : (acts : List Act) (e : Ending) (n : ℕ) (y : FrameBench) → whole ≡ stopped acts e → y ≡ actedAll P acts d → n ≡ sent acts
       → Drove (record { answer = endingAnswer e (record { pages = 0; frames = n }); core = y .core }) (y .memory)
   stops acts e n y there last counted = rw (there, last, counted) (refl, refl)
 
   pub drove-none : length bytes ≡ 0 → Drove (record { answer = endingAnswer allDone (record { pages = 0; frames = 0 }); core = d .core }) (d .memory)
   drove-none e = stops [] allDone 0 d (run-none e) refl refl
 
-  pub drove-late : (n : ℕ) (y : Device) → (length bytes ≡ 0 → ⊥) → y ≡ rested → n ≡ sent first → running (y .core) ≡ true
+  pub drove-late : (n : ℕ) (y : FrameBench) → (length bytes ≡ 0 → ⊥) → y ≡ rested → n ≡ sent first → running (y .core) ≡ true
       → Drove (record { answer = endingAnswer timedOut (record { pages = 0; frames = n }); core = y .core }) (y .memory)
-  drove-late n y some e counted r = stops first timedOut n y (run-late some (sym (ap (λ (x : Device). running (x .core)) e) ∙ r)) e counted
+  drove-late n y some e counted r = stops first timedOut n y (run-late some (sym (ap (λ (x : FrameBench). running (x .core)) e) ∙ r)) e counted
 
-  pub drove-parts : (r : Driven) (m : List ℕ) (n : ℕ) (y : Device) → (length bytes ≡ 0 → ⊥) → y ≡ rested → n ≡ sent first → running (y .core) ≡ false
-      → r ≡ record { answer = partsAnswer n (allParts P i limit a bytes y); core = played P (allParts P i limit a bytes y .acts) y .core }
-      → m ≡ played P (allParts P i limit a bytes y .acts) y .memory
+  pub drove-parts : (r : Driven) (m : List ℕ) (n : ℕ) (y : FrameBench) → (length bytes ≡ 0 → ⊥) → y ≡ rested → n ≡ sent first → running (y .core) ≡ false
+      → r ≡ record { answer = partsAnswer n (allParts P i limit a bytes y); core = actedAll P (allParts P i limit a bytes y .acts) y .core }
+      → m ≡ actedAll P (allParts P i limit a bytes y .acts) y .memory
       → Drove r m
   drove-parts r m n y some e counted idle p q =
       let parts = allParts P i limit a bytes rested in
-      let there : whole ≡ begun first parts = run-parts some (sym (ap (λ (x : Device). running (x .core)) e) ∙ idle) in
-      let after : played P (parts .acts) rested ≡ played P (whole .acts) d =
-      sym (ap (λ (x : Run). played P (x .acts) d) there ∙ played-append P first (parts .acts) d) in
+      let there : whole ≡ begun first parts = run-parts some (sym (ap (λ (x : FrameBench). running (x .core)) e) ∙ idle) in
+      let after : actedAll P (parts .acts) rested ≡ actedAll P (whole .acts) d =
+      sym (ap (λ (x : Run). actedAll P (x .acts) d) there ∙ played-append P first (parts .acts) d) in
       let answer : partsAnswer (sent first) parts ≡ runAnswer whole =
       ap (λ (k : ℕ). countedAnswer k parts) (sym (sent-append first (parts .acts))) ∙ ap runAnswer (sym there) in (
         p
             ∙ rw (e, counted)
-            (ap (λ (x : Answer). record { answer = x; core = played P (parts .acts) rested .core }) answer
-            ∙ ap (λ (x : Device). record { answer = runAnswer whole; core = x .core }) after),
-        q ∙ rw e (ap (λ (x : Device). x .memory) after),
+            (ap (λ (x : Answer). record { answer = x; core = actedAll P (parts .acts) rested .core }) answer
+            ∙ ap (λ (x : FrameBench). record { answer = runAnswer whole; core = x .core }) after),
+        q ∙ rw e (ap (λ (x : FrameBench). x .memory) after),
       )

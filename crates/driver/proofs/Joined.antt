@@ -7,57 +7,57 @@ use native.Mathlib.Omega.{arith}
 use Rattle.chip.specs.Part.{Part, m95512}
 use Rattle.chip.specs.Records.{status}
 use Rattle.chip.specs.declared.Core.{Core}
-use Rattle.frames.specs.Play.{Act, Device, acted, played}
+use Rattle.frames.specs.Play.{Act, FrameBench, acted, actedAll, frameBench}
 use Rattle.driver.specs.Sequence.{sent, rdsr, latePoll, pollsOn, firstWait, pageWait, wrenAndWrite, pageActs}
 use Rattle.driver.specs.declared.waiting.Waited.{Waited}
 use Rattle.driver.proofs.Playing.{played-append, sent-append}
 use Rattle.driver.proofs.Frames.{poll-leaves}
 use Rattle.driver.proofs.Waits.{sent-most}
 
-pub record Follows (P : Part) (all : List Act) (d : Device) (rest : List Act) (x : Device) (n : ℕ) : Type 0 where
-  pub leaves : played P rest x ≡ played P all d
+pub record Follows (P : Part) (all : List Act) (d : FrameBench) (rest : List Act) (x : FrameBench) (n : ℕ) : Type 0 where
+  pub leaves : actedAll P rest x ≡ actedAll P all d
   pub counts : sent rest + n ≡ sent all
 
 -- the rest is made of the device that the first acts leave
-pub follows : (P : Part) (first : List Act) (rest : Device → List Act) (d x : Device) → x ≡ played P first d
-    → Follows P (first ++ rest (played P first d)) d (rest x) x (sent first)
+pub follows : (P : Part) (first : List Act) (rest : FrameBench → List Act) (d x : FrameBench) → x ≡ actedAll P first d
+    → Follows P (first ++ rest (actedAll P first d)) d (rest x) x (sent first)
 follows P first rest d x e =
     record {
-      leaves = rw e (sym (played-append P first (rest (played P first d)) d));
-      counts = rw e (omega (arith, sent-append first (rest (played P first d))));
+      leaves = rw e (sym (played-append P first (rest (actedAll P first d)) d));
+      counts = rw e (omega (arith, sent-append first (rest (actedAll P first d))));
     }
 
 -- what a wait hands back, beside the n frames before it
-abbrev pub Told : Part → List Act → Device → Waited → List ℕ → Type 0
+abbrev pub Told : Part → List Act → FrameBench → Waited → List ℕ → Type 0
 Told P acts d r m =
-    (r .core ≡ played P acts d .core) × ((r .status ≡ status (r .core)) × ((r .frames ≡ sent acts) × (m ≡ played P acts d .memory)))
+    (r .core ≡ actedAll P acts d .core) × ((r .status ≡ status (r .core)) × ((r .frames ≡ sent acts) × (m ≡ actedAll P acts d .memory)))
 
-pub told : (P : Part) (all : List Act) (d : Device) (rest : List Act) (x : Device) (n : ℕ) → Follows P all d rest x n
+pub told : (P : Part) (all : List Act) (d : FrameBench) (rest : List Act) (x : FrameBench) (n : ℕ) → Follows P all d rest x n
     → (w r : Waited) (m : List ℕ) → Told P rest x w m → r ≡ record { status = w .status; core = w .core; frames = w .frames + n } → Told P all d r m
 told P all d rest x n f w r m t e =
-    rw e (t .0 ∙ ap (λ (y : Device). y .core) (f .leaves), (t .1 .0, (ap (λ (k : ℕ). k + n) (t .1 .1 .0) ∙ f .counts, t .1 .1 .1 ∙ ap (λ (y : Device). y .memory) (f .leaves))))
+    rw e (t .0 ∙ ap (λ (y : FrameBench). y .core) (f .leaves), (t .1 .0, (ap (λ (k : ℕ). k + n) (t .1 .1 .0) ∙ f .counts, t .1 .1 .1 ∙ ap (λ (y : FrameBench). y .memory) (f .leaves))))
 
 -- a poll leaves the device as it was
-pub rdsr-leaves : (d : Device) → acted m95512 rdsr d ≡ d
-rdsr-leaves d = ap (λ (c : Core). record { core = c; memory = d .memory }) (poll-leaves (d .core))
+pub rdsr-leaves : (d : FrameBench) → acted m95512 rdsr d ≡ d
+rdsr-leaves d = ap (λ (c : Core). frameBench c (d .memory)) (poll-leaves (d .core))
 
-module _ (i limit : ℕ) (d x : Device) where
+module _ (i limit : ℕ) (d x : FrameBench) where
   pub first-wait : x ≡ d → Follows m95512 (firstWait m95512 i limit d) d (pollsOn m95512 i (limit - 1) x) x 1
   unfolding firstWait
   first-wait e = follows m95512 (rdsr ∷ []) (pollsOn m95512 i (limit - 1)) d x (e ∙ sym (rdsr-leaves d))
 
-  pub page-wait : x ≡ played m95512 (latePoll i d) d → Follows m95512 (pageWait m95512 i limit d) d (pollsOn m95512 i (limit - 1) x) x 1
+  pub page-wait : x ≡ actedAll m95512 (latePoll i d) d → Follows m95512 (pageWait m95512 i limit d) d (pollsOn m95512 i (limit - 1) x) x 1
   unfolding pageWait
   page-wait e = follows m95512 (latePoll i d) (pollsOn m95512 i (limit - 1)) d x e
 
-  pub page-acts : (a : ℕ) (bytes : List ℕ) → x ≡ played m95512 (wrenAndWrite m95512 a bytes) d
+  pub page-acts : (a : ℕ) (bytes : List ℕ) → x ≡ actedAll m95512 (wrenAndWrite m95512 a bytes) d
       → Follows m95512 (pageActs m95512 i limit a bytes d) d (pageWait m95512 i limit x) x 2
   unfolding pageActs
   page-acts a bytes e = follows m95512 (wrenAndWrite m95512 a bytes) (pageWait m95512 i limit) d x e
 
 -- ---- a wait ends within its limit
 
-module _ (P : Part) (i limit : ℕ) (d : Device) (some : 1 ≤ limit) where
+module _ (P : Part) (i limit : ℕ) (d : FrameBench) (some : 1 ≤ limit) where
   pub first-most : sent (firstWait P i limit d) ≤ limit
   unfolding firstWait
   first-most = omega (arith, sent-most P i (limit - 1) (acted P rdsr d))
@@ -65,10 +65,10 @@ module _ (P : Part) (i limit : ℕ) (d : Device) (some : 1 ≤ limit) where
   pub page-most : sent (pageWait P i limit d) ≤ limit
   unfolding pageWait
   page-most =
-      omega (arith, sent-append (latePoll i d) (pollsOn P i (limit - 1) (played P (latePoll i d) d)), sent-most P i (limit - 1) (played P (latePoll i d) d))
+      omega (arith, sent-append (latePoll i d) (pollsOn P i (limit - 1) (actedAll P (latePoll i d) d)), sent-most P i (limit - 1) (actedAll P (latePoll i d) d))
 
 -- and a page's frames are two more
-pub acts-most : (P : Part) (i limit a : ℕ) (bytes : List ℕ) (d : Device) → 1 ≤ limit → sent (pageActs P i limit a bytes d) ≤ limit + 2
+pub acts-most : (P : Part) (i limit a : ℕ) (bytes : List ℕ) (d : FrameBench) → 1 ≤ limit → sent (pageActs P i limit a bytes d) ≤ limit + 2
 unfolding pageActs
 acts-most P i limit a bytes d h =
-    omega (arith, sent-append (wrenAndWrite P a bytes) (pageWait P i limit (played P (wrenAndWrite P a bytes) d)), page-most P i limit (played P (wrenAndWrite P a bytes) d) h)
+    omega (arith, sent-append (wrenAndWrite P a bytes) (pageWait P i limit (actedAll P (wrenAndWrite P a bytes) d)), page-most P i limit (actedAll P (wrenAndWrite P a bytes) d) h)

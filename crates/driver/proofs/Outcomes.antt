@@ -18,12 +18,12 @@ use Rattle.chip.specs.declared.Refusal.the-variants.{MemoryLength, RecordRange,
 use Rattle.chip.specs.declared.Outcome.{Outcome}
 use Rattle.chip.specs.declared.Outcome.the-variants as outcome
 use Rattle.frames.proofs.Outcomes.{not-refused}
-use Rattle.frames.specs.Play.{Device, played}
+use Rattle.frames.specs.Play.{FrameBench, actedAll, frameBench}
 use Rattle.driver.specs.declared.Sent.{Sent}
 use Rattle.driver.specs.declared.Answer.{Answer}
 use Rattle.driver.specs.declared.Answer.the-variants.{Refused}
 use Rattle.driver.specs.declared.Driven.{Driven}
-use Rattle.driver.specs.Sequence.{device, Ending, allDone, timedOut, notTaken, Run, run}
+use Rattle.driver.specs.Sequence.{Ending, allDone, timedOut, notTaken, Run, run}
 use Rattle.driver.specs.Answers.{answerNumber, answerPages, answerFrames, endingAnswer, runAnswer, pollsFit, driveChoice, driveOutcome, endingNumber, driveNumber, drivePages, driveFrames, answered, driven, drivenMemory}
 
 -- the test that makes no sum
@@ -91,8 +91,8 @@ module _ (P : Part) (c : Core) (size a len interval limit : ℕ) (r : Run) where
 -- ---- what is handed back and left in the memory: a run that is taken, and one that is refused
 
 module _ (P : Part) (c : Core) (m : List ℕ) (a : ℕ) (bytes : List ℕ) (interval limit : ℕ) where
-  abbrev began : Device
-  began = device c m
+  abbrev began : FrameBench
+  began = frameBench c m
 
   abbrev whole : Run
   whole = run P interval limit a bytes began
@@ -123,7 +123,7 @@ module _ (P : Part) (c : Core) (m : List ℕ) (a : ℕ) (bytes : List ℕ) (inte
   frames o e = by answerFrames o e (ending-frames (whole .ending) _)
 
   pub drove : (r : Driven) (m′ : List ℕ) {o : Outcome} → o ≡ driveOutcome P c (length m) a (length bytes) interval limit → o ≡ outcome.Done
-      → r ≡ record { answer = runAnswer whole; core = played P (whole .acts) began .core } → m′ ≡ played P (whole .acts) began .memory → HandsBack r m′
+      → r ≡ record { answer = runAnswer whole; core = actedAll P (whole .acts) began .core } → m′ ≡ actedAll P (whole .acts) began .memory → HandsBack r m′
   unfolding driven drivenMemory pick
   drove r m′ found done p q =
       let e = sym found ∙ done in

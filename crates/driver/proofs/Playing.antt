@@ -4,10 +4,10 @@ use mathlib.Core.List.{List, [], _∷_, _++_}
 use Prim.Native.Nat.{_+_}
 use native.Mathlib.Omega.{arith}
 use Rattle.chip.specs.Part.{Part}
-use Rattle.frames.specs.Play.{Act, frame, reading, Device, acted, played}
+use Rattle.frames.specs.Play.{Act, frame, reading, FrameBench, acted, actedAll}
 use Rattle.driver.specs.Sequence.{sent}
 
-pub played-append : (P : Part) (xs ys : List Act) (d : Device) → played P (xs ++ ys) d ≡ played P ys (played P xs d)
+pub played-append : (P : Part) (xs ys : List Act) (d : FrameBench) → actedAll P (xs ++ ys) d ≡ actedAll P ys (actedAll P xs d)
 played-append P [] ys d = refl
 played-append P (x ∷ xs) ys d = played-append P xs ys (acted P x d)
 

@@ -1,4 +1,4 @@
--- A device that no call refuses, and that whatever is played on it leaves one.
+-- A device that no call refuses, and that whatever is actedAll on it leaves one.
 use mathlib.Core.Path.{_≡_, refl, _∙_}
 use mathlib.Core.Bool.{true}
 use mathlib.Core.List.{List, [], _∷_}
@@ -9,23 +9,23 @@ use Rattle.chip.specs.Ranges.{inRanges}
 use Rattle.chip.specs.declared.Core.{Core}
 use Rattle.chip.proofs.Within.{within, in-ranges}
 use Rattle.chip.proofs.Executed.{m95512-paged}
-use Rattle.frames.specs.Play.{Act, reading, Device, acted, played}
+use Rattle.frames.specs.Play.{Act, reading, FrameBench, acted, actedAll, frameBench}
 use Rattle.frames.proofs.CellRule.{played-length, played-within}
 
-pub record Ready (d : Device) : Type 0 where
+pub record Ready (d : FrameBench) : Type 0 where
   pub whole : length (d .memory) ≡ 65536
   pub ranges : inRanges m95512 (d .core) ≡ true
 
 -- a record and a memory, each known
-pub device-of : {c : Core} {m : List ℕ} (d : Device) → c ≡ d .core → m ≡ d .memory → record { core = c; memory = m } ≡ d
-device-of d p q = rw (p, q) refl
+pub bench-of : {c : Core} {m : List ℕ} (d : FrameBench) → c ≡ d .core → m ≡ d .memory → frameBench c m ≡ d
+bench-of d p q = rw (p, q) refl
 
-pub ready-played : (acts : List Act) (d : Device) → Ready d → Ready (played m95512 acts d)
+pub ready-played : (acts : List Act) (d : FrameBench) → Ready d → Ready (actedAll m95512 acts d)
 ready-played acts d r =
     record {
       whole = played-length m95512 acts d ∙ r .whole;
       ranges = in-ranges m95512 _ (played-within m95512 m95512-paged acts d (within m95512 _ (r .ranges)));
     }
 
-pub ready-read : (t : ℕ) (d : Device) → Ready d → Ready (acted m95512 (reading t) d)
+pub ready-read : (t : ℕ) (d : FrameBench) → Ready d → Ready (acted m95512 (reading t) d)
 ready-read t d r = ready-played (reading t ∷ []) d r

@@ -14,7 +14,7 @@ use Rattle.split.specs.Split.{count, splitAddress}
 use Rattle.split.specs.Pieces.{piece}
 use Rattle.split.proofs.Parts.{there}
 use Rattle.split.proofs.Numbers.{count-formula}
-use Rattle.frames.specs.Play.{Act, Device, acted, played}
+use Rattle.frames.specs.Play.{Act, FrameBench, acted, actedAll}
 use Rattle.driver.specs.declared.Answer.the-variants.{Done, TimedOut, NotTaken}
 use Rattle.driver.specs.declared.Driven.{Driven}
 use Rattle.driver.specs.Sequence.{sent, wrdi, pageActs, Ending, allDone, timedOut, notTaken, Run, stopped, pageDone, pagesFrom}
@@ -23,15 +23,15 @@ use Rattle.driver.proofs.Playing.{played-append, sent-append}
 
 module _ (P : Part) (i limit a : ℕ) (bytes : List ℕ) where
   -- part k's acts, and the device after them
-  abbrev pub partActs : ℕ → Device → List Act
+  abbrev pub partActs : ℕ → FrameBench → List Act
   partActs k d = pageActs P i limit (splitAddress (P .size) (P .page) a (length bytes) k) (piece (P .size) (P .page) a bytes k) d
 
-  abbrev pub afterPart : ℕ → Device → Device
-  afterPart k d = played P (partActs k d) d
+  abbrev pub afterPart : ℕ → FrameBench → FrameBench
+  afterPart k d = actedAll P (partActs k d) d
 
   -- ---- the ways that a page ends
 
-  module _ (n k : ℕ) (d : Device) where
+  module _ (n k : ℕ) (d : FrameBench) where
     pub pages-late : running (afterPart k d .core) ≡ true → pagesFrom P i limit a bytes (suc n) k d ≡ stopped (partActs k d) timedOut
     unfolding pagesFrom
     pages-late r = at-yes _ _ r
@@ -46,22 +46,22 @@ module _ (P : Part) (i limit a : ℕ) (bytes : List ℕ) where
     unfolding pagesFrom
     pages-next r w = at-no _ _ r ∙ at-no _ _ w
 
-  pub pages-none : (n k : ℕ) (d : Device) → n ≡ 0 → pagesFrom P i limit a bytes n k d ≡ stopped [] allDone
+  pub pages-none : (n k : ℕ) (d : FrameBench) → n ≡ 0 → pagesFrom P i limit a bytes n k d ≡ stopped [] allDone
   unfolding pagesFrom
   pages-none n k d e = rw e refl
 
   -- ---- the loop: k parts done of all, and so many frames sent
 
-  module _ (parts before : ℕ) (d₀ : Device) where
+  module _ (parts before : ℕ) (d₀ : FrameBench) where
     abbrev whole : Run
     whole = pagesFrom P i limit a bytes parts 0 d₀
 
-    abbrev rest : ℕ → Device → Run
+    abbrev rest : ℕ → FrameBench → Run
     rest k d = pagesFrom P i limit a bytes (parts - k) k d
 
     -- what is left to do is what there was to do from d₀ on
-    pub record Rest (k frames : ℕ) (d : Device) : Type 0 where
-      pub leaves : played P (rest k d .acts) d ≡ played P (whole .acts) d₀
+    pub record Rest (k frames : ℕ) (d : FrameBench) : Type 0 where
+      pub leaves : actedAll P (rest k d .acts) d ≡ actedAll P (whole .acts) d₀
       pub pages : k + rest k d .pages ≡ whole .pages
       pub counts : frames + sent (rest k d .acts) ≡ before + sent (whole .acts)
       pub ending : rest k d .ending ≡ whole .ending
@@ -71,27 +71,27 @@ module _ (P : Part) (i limit a : ℕ) (bytes : List ℕ) where
         let all : parts - 0 ≡ parts = omega arith in
         let same : rest 0 d₀ ≡ whole = ap (λ (n : ℕ). pagesFrom P i limit a bytes n 0 d₀) all in
         record {
-          leaves = ap (λ (r : Run). played P (r .acts) d₀) same;
+          leaves = ap (λ (r : Run). actedAll P (r .acts) d₀) same;
           pages = rw same (omega arith);
           counts = rw same;
           ending = rw same;
         }
 
     -- a page is done
-    pub rest-next : (k frames f : ℕ) (d x : Device) → k < parts → x ≡ afterPart k d → f ≡ sent (partActs k d)
+    pub rest-next : (k frames f : ℕ) (d x : FrameBench) → k < parts → x ≡ afterPart k d → f ≡ sent (partActs k d)
         → running (x .core) ≡ false → on (x .core .wel) ≡ false → Rest k frames d → Rest (k + 1) (frames + f) x
     rest-next k frames f d x h e g r w o =
         let one : parts - k ≡ suc (parts - (k + 1)) = omega arith in
         let up : suc k ≡ k + 1 = omega arith in
         let there : rest k d ≡ pageDone (partActs k d) (rest (k + 1) x) =
         ap (λ (n : ℕ). pagesFrom P i limit a bytes n k d) one
-        ∙ pages-next (parts - (k + 1)) k d (sym (ap (λ (y : Device). running (y .core)) e) ∙ r) (sym (ap (λ (y : Device). on (y .core .wel)) e) ∙ w)
+        ∙ pages-next (parts - (k + 1)) k d (sym (ap (λ (y : FrameBench). running (y .core)) e) ∙ r) (sym (ap (λ (y : FrameBench). on (y .core .wel)) e) ∙ w)
         ∙ rw (up, e) in
         record {
           leaves =
-              ap (λ (y : Device). played P (rest (k + 1) x .acts) y) e
+              ap (λ (y : FrameBench). actedAll P (rest (k + 1) x .acts) y) e
               ∙ sym (played-append P (partActs k d) (rest (k + 1) x .acts) d)
-              ∙ sym (ap (λ (q : Run). played P (q .acts) d) there)
+              ∙ sym (ap (λ (q : Run). actedAll P (q .acts) d) there)
               ∙ o .leaves;
           pages = omega (arith, ap (λ (q : Run). q .pages) there, o .pages);
           counts = omega (arith, g, ap (λ (q : Run). sent (q .acts)) there, sent-append (partActs k d) (rest (k + 1) x .acts), o .counts);
@@ -101,33 +101,33 @@ module _ (P : Part) (i limit a : ℕ) (bytes : List ℕ) where
     -- it ends: what is handed back, and what is left in the memory
     abbrev pub Ended : Driven → List ℕ → Type 0
     Ended r m =
-        (r ≡ record { answer = partsAnswer before whole; core = played P (whole .acts) d₀ .core }) × (m ≡ played P (whole .acts) d₀ .memory)
+        (r ≡ record { answer = partsAnswer before whole; core = actedAll P (whole .acts) d₀ .core }) × (m ≡ actedAll P (whole .acts) d₀ .memory)
 
-    pub rest-ends : (k frames n : ℕ) (d y : Device) (acts : List Act) (e : Ending) → rest k d ≡ stopped acts e → y ≡ played P acts d
+    pub rest-ends : (k frames n : ℕ) (d y : FrameBench) (acts : List Act) (e : Ending) → rest k d ≡ stopped acts e → y ≡ actedAll P acts d
         → n ≡ frames + sent acts → Rest k frames d
         → Ended (record { answer = endingAnswer e (record { pages = k; frames = n }); core = y .core }) (y .memory)
     rest-ends k frames n d y acts e there last counted o =
         let ends : e ≡ whole .ending = sym (ap (λ (q : Run). q .ending) there) ∙ o .ending in
         let pages : k ≡ whole .pages = omega (arith, ap (λ (q : Run). q .pages) there, o .pages) in
         let counts : n ≡ before + sent (whole .acts) = omega (arith, ap (λ (q : Run). sent (q .acts)) there, o .counts) in
-        let leaves : y ≡ played P (whole .acts) d₀ = last ∙ sym (ap (λ (q : Run). played P (q .acts) d) there) ∙ o .leaves in (
+        let leaves : y ≡ actedAll P (whole .acts) d₀ = last ∙ sym (ap (λ (q : Run). actedAll P (q .acts) d) there) ∙ o .leaves in (
           ap (λ (z : Ending). record { answer = endingAnswer z (record { pages = k; frames = n }); core = y .core }) ends
               ∙ ap (λ (z : ℕ). record { answer = endingAnswer (whole .ending) (record { pages = z; frames = n }); core = y .core }) pages
               ∙ ap (λ (z : ℕ). record { answer = endingAnswer (whole .ending) (record { pages = whole .pages; frames = z }); core = y .core }) counts
-              ∙ ap (λ (z : Device). record { answer = partsAnswer before whole; core = z .core }) leaves,
-          ap (λ (z : Device). z .memory) leaves,
+              ∙ ap (λ (z : FrameBench). record { answer = partsAnswer before whole; core = z .core }) leaves,
+          ap (λ (z : FrameBench). z .memory) leaves,
         )
 
     -- by the last poll of a page, or with no part left
-    pub rest-late : (k frames f : ℕ) (d x : Device) → k < parts → x ≡ afterPart k d → f ≡ sent (partActs k d)
+    pub rest-late : (k frames f : ℕ) (d x : FrameBench) → k < parts → x ≡ afterPart k d → f ≡ sent (partActs k d)
         → running (x .core) ≡ true → Rest k frames d
         → Ended (record { answer = TimedOut (record { pages = k; frames = frames + f }); core = x .core }) (x .memory)
     rest-late k frames f d x h e g r o =
         let one : parts - k ≡ suc (parts - (k + 1)) = omega arith in
         rest-ends k frames (frames + f) d x (partActs k d) timedOut
-        (ap (λ (n : ℕ). pagesFrom P i limit a bytes n k d) one ∙ pages-late (parts - (k + 1)) k d (sym (ap (λ (y : Device). running (y .core)) e) ∙ r)) e (ap (λ (n : ℕ). frames + n) g) o
+        (ap (λ (n : ℕ). pagesFrom P i limit a bytes n k d) one ∙ pages-late (parts - (k + 1)) k d (sym (ap (λ (y : FrameBench). running (y .core)) e) ∙ r)) e (ap (λ (n : ℕ). frames + n) g) o
 
-    pub rest-untaken : (k frames f : ℕ) (d x y : Device) → k < parts → x ≡ afterPart k d → f ≡ sent (partActs k d)
+    pub rest-untaken : (k frames f : ℕ) (d x y : FrameBench) → k < parts → x ≡ afterPart k d → f ≡ sent (partActs k d)
         → running (x .core) ≡ false → on (x .core .wel) ≡ true → y ≡ acted P wrdi x → Rest k frames d
         → Ended (record { answer = NotTaken (record { pages = k; frames = frames + f + 1 }); core = y .core }) (y .memory)
     rest-untaken k frames f d x y h e g r w last o =
@@ -135,15 +135,15 @@ module _ (P : Part) (i limit a : ℕ) (bytes : List ℕ) where
         let counted : frames + f + 1 ≡ frames + sent (partActs k d ++ (wrdi ∷ [])) = omega (arith, g, sent-append (partActs k d) (wrdi ∷ [])) in
         rest-ends k frames (frames + f + 1) d y (partActs k d ++ (wrdi ∷ [])) notTaken
         (ap (λ (n : ℕ). pagesFrom P i limit a bytes n k d) one
-        ∙ pages-untaken (parts - (k + 1)) k d (sym (ap (λ (z : Device). running (z .core)) e) ∙ r) (sym (ap (λ (z : Device). on (z .core .wel)) e) ∙ w))
+        ∙ pages-untaken (parts - (k + 1)) k d (sym (ap (λ (z : FrameBench). running (z .core)) e) ∙ r) (sym (ap (λ (z : FrameBench). on (z .core .wel)) e) ∙ w))
         (last ∙ ap (acted P wrdi) e ∙ sym (played-append P (partActs k d) (wrdi ∷ []) d)) counted o
 
-    pub rest-done : (k frames : ℕ) (d : Device) → parts ≤ k → Rest k frames d
+    pub rest-done : (k frames : ℕ) (d : FrameBench) → parts ≤ k → Rest k frames d
         → Ended (record { answer = Done (record { pages = k; frames = frames }); core = d .core }) (d .memory)
     rest-done k frames d h o = rest-ends k frames frames d d [] allDone (pages-none (parts - k) k d (omega arith)) refl (omega arith) o
 
   -- the same of another number that is theirs
-  pub ended-of : {r : Driven} {m : List ℕ} (parts n before : ℕ) (d₀ : Device) → parts ≡ n → Ended parts before d₀ r m → Ended n before d₀ r m
+  pub ended-of : {r : Driven} {m : List ℕ} (parts n before : ℕ) (d₀ : FrameBench) → parts ≡ n → Ended parts before d₀ r m → Ended n before d₀ r m
   ended-of {r} {m} parts n before d₀ e t = subst (λ (k : ℕ). Ended k before d₀ r m) e t
 
 -- a run has at most 512 parts

@@ -15,14 +15,14 @@ use Rattle.chip.specs.Status.{bit}
 use Rattle.chip.specs.Records.{running, status}
 use Rattle.chip.specs.declared.Core.{Core}
 use Rattle.chip.proofs.Cases.{wip}
-use Rattle.frames.specs.Play.{Act, Device, played}
+use Rattle.frames.specs.Play.{Act, FrameBench, actedAll}
 use Rattle.driver.specs.Sequence.{sent, latePoll, pollsOn}
 use Rattle.driver.proofs.Playing.{played-append, sent-append}
 
-module _ (P : Part) (i : ℕ) (d : Device) where
+module _ (P : Part) (i : ℕ) (d : FrameBench) where
   -- the device after a poll
-  abbrev polled : Device
-  polled = played P (latePoll i d) d
+  abbrev polled : FrameBench
+  polled = actedAll P (latePoll i d) d
 
   polls-on-busy : (k : ℕ) → running (d .core) ≡ true → pollsOn P i (suc k) d ≡ latePoll i d ++ pollsOn P i k polled
   unfolding pollsOn
@@ -38,11 +38,11 @@ module _ (P : Part) (i : ℕ) (d : Device) where
   unfolding pollsOn
   polls-on-none k e = rw e refl
 
-  -- what a poll leaves to be played, and to be counted
-  pub played-busy : (j k : ℕ) → j ≡ suc k → running (d .core) ≡ true → played P (pollsOn P i j d) d ≡ played P (pollsOn P i k polled) polled
+  -- what a poll leaves to be actedAll, and to be counted
+  pub played-busy : (j k : ℕ) → j ≡ suc k → running (d .core) ≡ true → actedAll P (pollsOn P i j d) d ≡ actedAll P (pollsOn P i k polled) polled
   played-busy j k e r =
-      ap (λ (n : ℕ). played P (pollsOn P i n d) d) e
-      ∙ ap (λ (acts : List Act). played P acts d) (polls-on-busy k r)
+      ap (λ (n : ℕ). actedAll P (pollsOn P i n d) d) e
+      ∙ ap (λ (acts : List Act). actedAll P acts d) (polls-on-busy k r)
       ∙ played-append P (latePoll i d) (pollsOn P i k polled) d
 
   pub sent-busy : (j k : ℕ) → j ≡ suc k → running (d .core) ≡ true → sent (pollsOn P i j d) ≡ 1 + sent (pollsOn P i k polled)
@@ -50,12 +50,12 @@ module _ (P : Part) (i : ℕ) (d : Device) where
       ap (λ (n : ℕ). sent (pollsOn P i n d)) e ∙ ap sent (polls-on-busy k r) ∙ sent-append (latePoll i d) (pollsOn P i k polled)
 
 -- a wait makes at most the polls that are left
-pub sent-most : (P : Part) (i k : ℕ) (d : Device) → sent (pollsOn P i k d) ≤ k
+pub sent-most : (P : Part) (i k : ℕ) (d : FrameBench) → sent (pollsOn P i k d) ≤ k
 unfolding pollsOn
 sent-most P i zero d = omega arith
 sent-most P i (suc k) d =
     pick-case (λ (acts : List Act). sent acts ≤ suc k) (running (d .core))
-    (λ r. let rest = sent-most P i k (played P (latePoll i d) d) in omega (arith, sent-append (latePoll i d) (pollsOn P i k (played P (latePoll i d) d))))
+    (λ r. let rest = sent-most P i k (actedAll P (latePoll i d) d) in omega (arith, sent-append (latePoll i d) (pollsOn P i k (actedAll P (latePoll i d) d))))
     (λ r. omega arith)
 
 -- ---- the loop that waits: n polls made of those that were left at the start
@@ -78,7 +78,7 @@ goes-on n left s c e t =
     (ltb-true n left (and-left (ltb n left) (eqb (bitAnd s 1) 1) t), one-so (running c) (sym (seen s c e) ∙ eqb-true (bitAnd s 1) 1 (and-right (ltb n left) (eqb (bitAnd s 1) 1) t)))
 
 -- .. and else nothing is left to do
-pub is-over : (P : Part) (i n left s : ℕ) (d : Device) → s ≡ status (d .core) → (ltb n left && eqb (bitAnd s 1) 1) ≡ false → pollsOn P i (left - n) d ≡ []
+pub is-over : (P : Part) (i n left s : ℕ) (d : FrameBench) → s ≡ status (d .core) → (ltb n left && eqb (bitAnd s 1) 1) ≡ false → pollsOn P i (left - n) d ≡ []
 is-over P i n left s d e t = elim (decLt n left) [
   | yes h ↦
       polls-on-free P i d (left - n)
@@ -87,17 +87,17 @@ is-over P i n left s d e t = elim (decLt n left) [
 ]
 
 -- what is left to do is what there was to do from d₀ on
-pub record Onward (P : Part) (i left : ℕ) (d₀ : Device) (n : ℕ) (d : Device) : Type 0 where
-  pub leaves : played P (pollsOn P i (left - n) d) d ≡ played P (pollsOn P i left d₀) d₀
+pub record Onward (P : Part) (i left : ℕ) (d₀ : FrameBench) (n : ℕ) (d : FrameBench) : Type 0 where
+  pub leaves : actedAll P (pollsOn P i (left - n) d) d ≡ actedAll P (pollsOn P i left d₀) d₀
   pub counts : n + sent (pollsOn P i (left - n) d) ≡ sent (pollsOn P i left d₀)
 
-module _ (P : Part) (i left : ℕ) (d₀ : Device) where
+module _ (P : Part) (i left : ℕ) (d₀ : FrameBench) where
   pub onward-first : Onward P i left d₀ 0 d₀
   onward-first =
       let all : left - 0 ≡ left = omega arith in
-      record { leaves = ap (λ (k : ℕ). played P (pollsOn P i k d₀) d₀) all; counts = rw all (omega arith) }
+      record { leaves = ap (λ (k : ℕ). actedAll P (pollsOn P i k d₀) d₀) all; counts = rw all (omega arith) }
 
-  pub onward-next : (n : ℕ) (d d′ : Device) → d′ ≡ played P (latePoll i d) d → n < left → running (d .core) ≡ true → Onward P i left d₀ n d → Onward P i left d₀ (n + 1) d′
+  pub onward-next : (n : ℕ) (d d′ : FrameBench) → d′ ≡ actedAll P (latePoll i d) d → n < left → running (d .core) ≡ true → Onward P i left d₀ n d → Onward P i left d₀ (n + 1) d′
   onward-next n d d′ e h r o =
       let one : left - n ≡ suc (left - (n + 1)) = omega arith in
       record {
@@ -105,6 +105,6 @@ module _ (P : Part) (i left : ℕ) (d₀ : Device) where
         counts = rw e (omega (arith, sent-busy P i d (left - n) (left - (n + 1)) one r, o .counts));
       }
 
-  pub onward-last : (n : ℕ) (d : Device) → pollsOn P i (left - n) d ≡ [] → Onward P i left d₀ n d → (d ≡ played P (pollsOn P i left d₀) d₀) × (n ≡ sent (pollsOn P i left d₀))
+  pub onward-last : (n : ℕ) (d : FrameBench) → pollsOn P i (left - n) d ≡ [] → Onward P i left d₀ n d → (d ≡ actedAll P (pollsOn P i left d₀) d₀) × (n ≡ sent (pollsOn P i left d₀))
   onward-last n d e o =
-      (sym (ap (λ (acts : List Act). played P acts d) e) ∙ o .leaves, omega (arith, ap sent e, o .counts))
+      (sym (ap (λ (acts : List Act). actedAll P acts d) e) ∙ o .leaves, omega (arith, ap sent e, o .counts))

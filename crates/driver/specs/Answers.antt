@@ -12,12 +12,12 @@ use Rattle.chip.specs.declared.Core.{Core}
 use Rattle.chip.specs.declared.Refusal.the-variants.{MemoryLength, RecordRange, AddressRange, PollRange}
 use Rattle.chip.specs.declared.Outcome.{Outcome}
 use Rattle.chip.specs.declared.Outcome.the-variants as outcome
-use Rattle.frames.specs.Play.{Device, played}
+use Rattle.frames.specs.Play.{FrameBench, actedAll, frameBench}
 use Rattle.driver.specs.declared.Sent.{Sent}
 use Rattle.driver.specs.declared.Answer.{Answer}
 use Rattle.driver.specs.declared.Answer.the-variants.{Done, TimedOut, NotTaken, Refused}
 use Rattle.driver.specs.declared.Driven.{Driven}
-use Rattle.driver.specs.Sequence.{sent, device, Ending, allDone, timedOut, notTaken, Run, run}
+use Rattle.driver.specs.Sequence.{sent, Ending, allDone, timedOut, notTaken, Run, run}
 
 -- ---- the answer
 
@@ -90,11 +90,11 @@ driveNumber P c size a len interval limit e = driveChoice P c size a len interva
 -- its pages done, and its frames sent: those of the run, 0 in a refusal
 abbrev pub drivePages : Part → Core → List ℕ → ℕ → List ℕ → ℕ → ℕ → ℕ
 drivePages P c m a bytes interval limit =
-    driveChoice P c (length m) a (length bytes) interval limit 0 0 0 0 (run P interval limit a bytes (device c m) .pages)
+    driveChoice P c (length m) a (length bytes) interval limit 0 0 0 0 (run P interval limit a bytes (frameBench c m) .pages)
 
 abbrev pub driveFrames : Part → Core → List ℕ → ℕ → List ℕ → ℕ → ℕ → ℕ
 driveFrames P c m a bytes interval limit =
-    driveChoice P c (length m) a (length bytes) interval limit 0 0 0 0 (sent (run P interval limit a bytes (device c m) .acts))
+    driveChoice P c (length m) a (length bytes) interval limit 0 0 0 0 (sent (run P interval limit a bytes (frameBench c m) .acts))
 
 -- ---- what is handed back, and what is left in the memory
 
@@ -102,17 +102,17 @@ abbrev pub answered : Outcome → Run → Answer
 answered outcome.Done r = runAnswer r
 answered (outcome.Refused e) r = Refused e
 
-abbrev pub leaves : Part → Run → Core → List ℕ → Device
-leaves P r c m = played P (r .acts) (device c m)
+abbrev pub leaves : Part → Run → Core → List ℕ → FrameBench
+leaves P r c m = actedAll P (r .acts) (frameBench c m)
 
 unfoldable pub driven : Part → Core → List ℕ → ℕ → List ℕ → ℕ → ℕ → Driven
 driven P c m a bytes interval limit =
     let o = driveOutcome P c (length m) a (length bytes) interval limit in
-    let r = run P interval limit a bytes (device c m) in
+    let r = run P interval limit a bytes (frameBench c m) in
     record { answer = answered o r; core = pick (isDone o) (leaves P r c m .core) c }
 
 unfoldable pub drivenMemory : Part → Core → List ℕ → ℕ → List ℕ → ℕ → ℕ → List ℕ
 drivenMemory P c m a bytes interval limit =
     let o = driveOutcome P c (length m) a (length bytes) interval limit in
-    let r = run P interval limit a bytes (device c m) in
+    let r = run P interval limit a bytes (frameBench c m) in
     pick (isDone o) (leaves P r c m .memory) m

@@ -1,5 +1,5 @@
 -- What the driver sends: a list of frames and clock readings. Each wait takes its limit as the most polls that it may make; the state along the
--- way is that of the frame definitions played over the list, and nothing here counts but `sent`, over the list itself.
+-- way is that of the frame definitions actedAll over the list, and nothing here counts but `sent`, over the list itself.
 use Prim.Native.Nat.{ℕ, zero, suc, _+_, _-_, _*_, _/_, _%_, _^_}
 use mathlib.Core.Bool.{true}
 use mathlib.Core.List.{List, [], _∷_, _++_}
@@ -11,7 +11,7 @@ use Rattle.chip.specs.Instructions.{wrenCode, wrdiCode, rdsrCode, writeCode}
 use Rattle.chip.specs.Status.{on}
 use Rattle.chip.specs.Records.{running}
 use Rattle.chip.specs.declared.Core.{Core}
-use Rattle.frames.specs.Play.{Act, frame, reading, Device, acted, played}
+use Rattle.frames.specs.Play.{Act, frame, reading, FrameBench, acted, actedAll, frameBench}
 use Rattle.split.specs.Split.{count, splitAddress}
 use Rattle.split.specs.Pieces.{piece}
 
@@ -48,44 +48,41 @@ sent [] = 0
 sent (frame w s n ∷ acts) = suc (sent acts)
 sent (reading t ∷ acts) = sent acts
 
--- a device made of its record and memory, and what acts that depend on it leave
-abbrev pub device : Core → List ℕ → Device
-device c m = record { core = c; memory = m }
-
-abbrev pub playedFrom : Part → (Device → List Act) → Core → List ℕ → Device
-playedFrom P acts c m = played P (acts (device c m)) (device c m)
+-- what acts that depend on the bench leave
+abbrev pub playedFrom : Part → (FrameBench → List Act) → Core → List ℕ → FrameBench
+playedFrom P acts c m = actedAll P (acts (frameBench c m)) (frameBench c m)
 
 -- ---- a wait
 
 -- the clock moved by the interval; the counter wraps
-abbrev pub moved : ℕ → Device → Act
+abbrev pub moved : ℕ → FrameBench → Act
 moved interval d = reading ((d .core .last + interval) % 2 ^ 32)
 
 -- a poll after moving the clock
-abbrev pub latePoll : ℕ → Device → List Act
+abbrev pub latePoll : ℕ → FrameBench → List Act
 latePoll interval d = moved interval d ∷ rdsr ∷ []
 
 -- polls while WIP is 1 and some are left
-unfoldable pub pollsOn : Part → ℕ → ℕ → Device → List Act
+unfoldable pub pollsOn : Part → ℕ → ℕ → FrameBench → List Act
 pollsOn P interval zero d = []
 pollsOn P interval (suc left) d =
-    pick (running (d .core)) (latePoll interval d ++ pollsOn P interval left (played P (latePoll interval d) d)) []
+    pick (running (d .core)) (latePoll interval d ++ pollsOn P interval left (actedAll P (latePoll interval d) d)) []
 
 -- the first wait polls without moving the clock ..
-unfoldable pub firstWait : Part → ℕ → ℕ → Device → List Act
+unfoldable pub firstWait : Part → ℕ → ℕ → FrameBench → List Act
 firstWait P interval limit d = rdsr ∷ pollsOn P interval (limit - 1) (acted P rdsr d)
 
 -- .. and that of a page moves it before each poll
-unfoldable pub pageWait : Part → ℕ → ℕ → Device → List Act
-pageWait P interval limit d = latePoll interval d ++ pollsOn P interval (limit - 1) (played P (latePoll interval d) d)
+unfoldable pub pageWait : Part → ℕ → ℕ → FrameBench → List Act
+pageWait P interval limit d = latePoll interval d ++ pollsOn P interval (limit - 1) (actedAll P (latePoll interval d) d)
 
 -- ---- a page: WREN and WRITE without moving the clock, then its wait
 
 abbrev pub wrenAndWrite : Part → ℕ → List ℕ → List Act
 wrenAndWrite P a bytes = wren ∷ write P a bytes ∷ []
 
-unfoldable pub pageActs : Part → ℕ → ℕ → ℕ → List ℕ → Device → List Act
-pageActs P interval limit a bytes d = wrenAndWrite P a bytes ++ pageWait P interval limit (played P (wrenAndWrite P a bytes) d)
+unfoldable pub pageActs : Part → ℕ → ℕ → ℕ → List ℕ → FrameBench → List Act
+pageActs P interval limit a bytes d = wrenAndWrite P a bytes ++ pageWait P interval limit (actedAll P (wrenAndWrite P a bytes) d)
 
 -- ---- a run
 
@@ -112,24 +109,24 @@ abbrev pub pageDone : List Act → Run → Run
 pageDone acts r = record { acts = acts ++ r .acts; pages = suc (r .pages); ending = r .ending }
 
 -- n page parts from part k on, in rising address order. WIP 0 and WEL 1 after a page's WRITE mean that it was not taken
-unfoldable pub pagesFrom : Part → ℕ → ℕ → ℕ → List ℕ → ℕ → ℕ → Device → Run
+unfoldable pub pagesFrom : Part → ℕ → ℕ → ℕ → List ℕ → ℕ → ℕ → FrameBench → Run
 pagesFrom P interval limit a bytes zero k d = stopped [] allDone
 pagesFrom P interval limit a bytes (suc n) k d =
     let acts = pageActs P interval limit (splitAddress (P .size) (P .page) a (length bytes) k) (piece (P .size) (P .page) a bytes k) d in
-    let next = played P acts d in
+    let next = actedAll P acts d in
     pick (running (next .core)) (stopped acts timedOut)
     (pick (on (next .core .wel)) (stopped (acts ++ (wrdi ∷ [])) notTaken)
     (pageDone acts (pagesFrom P interval limit a bytes n (suc k) next)))
 
 -- all of them
-abbrev pub allParts : Part → ℕ → ℕ → ℕ → List ℕ → Device → Run
+abbrev pub allParts : Part → ℕ → ℕ → ℕ → List ℕ → FrameBench → Run
 allParts P interval limit a bytes d = pagesFrom P interval limit a bytes (count (P .size) (P .page) a (length bytes)) 0 d
 
 -- the whole run: nothing for no data, else the first wait, in which WEL is not looked at, and the page parts
-unfoldable pub run : Part → ℕ → ℕ → ℕ → List ℕ → Device → Run
+unfoldable pub run : Part → ℕ → ℕ → ℕ → List ℕ → FrameBench → Run
 run P interval limit a bytes d =
     let first = firstWait P interval limit d in
-    let next = played P first d in
+    let next = actedAll P first d in
     pick (eqb (length bytes) 0) (stopped [] allDone)
     (pick (running (next .core)) (stopped first timedOut)
     (begun first (allParts P interval limit a bytes next)))

@@ -22,7 +22,7 @@ use Rattle.chip.proofs.Within.{Within}
 use Rattle.chip.proofs.Passing.{timed-within, timed-length, cell-rule}
 use Rattle.frames.specs.Bytes.{instruction, address, written}
 use Rattle.frames.specs.After.{judged, after}
-use Rattle.frames.specs.Play.{Act, frame, reading, Device, acted, played, addresses, addressed}
+use Rattle.frames.specs.Play.{Act, frame, reading, FrameBench, acted, actedAll, addresses, addressed}
 use Rattle.chip.proofs.Executed.{Paged}
 use Rattle.frames.proofs.Kept.{after-within}
 
@@ -53,24 +53,24 @@ module _ (P : Part) (i : ℕ) where
 
 -- ---- the rule
 
-pub no-cell : (P : Part) (w : Bool) (s : List ℕ) (n : ℕ) (d : Device) → acted P (frame w s n) d .memory ≡ d .memory
+pub no-cell : (P : Part) (w : Bool) (s : List ℕ) (n : ℕ) (d : FrameBench) → acted P (frame w s n) d .memory ≡ d .memory
 no-cell P w s n d = refl
 
--- the memory keeps its size, and the record its ranges, whatever is played
-pub played-length : (P : Part) (acts : List Act) (d : Device) → length (played P acts d .memory) ≡ length (d .memory)
+-- the memory keeps its size, and the record its ranges, whatever is actedAll
+pub played-length : (P : Part) (acts : List Act) (d : FrameBench) → length (actedAll P acts d .memory) ≡ length (d .memory)
 played-length P [] d = refl
 played-length P (frame w s n ∷ acts) d = played-length P acts (acted P (frame w s n) d)
 played-length P (reading t ∷ acts) d = played-length P acts (acted P (reading t) d) ∙ timed-length P t (d .core) (d .memory)
 
-pub played-within : (P : Part) → Paged P → (acts : List Act) (d : Device) → Within P (d .core) → Within P (played P acts d .core)
+pub played-within : (P : Part) → Paged P → (acts : List Act) (d : FrameBench) → Within P (d .core) → Within P (actedAll P acts d .core)
 played-within P h [] d k = k
 played-within P h (frame w s n ∷ acts) d k =
     played-within P h acts (acted P (frame w s n) d) (after-within P h w (d .core) s n (running (d .core)) (λ r. r) k)
 played-within P h (reading t ∷ acts) d k = played-within P h acts (acted P (reading t) d) (timed-within P t (d .core) k)
 
 module _ (P : Part) (h : Paged P) (i : ℕ) (below : i < P .size) where
-  pub played-cell : (acts : List Act) (d : Device) → length (d .memory) ≡ P .size → Within P (d .core) → awaited P (d .core) i ≡ false
-      → addressed P acts d i ≡ false → getD (played P acts d .memory) i 0 ≡ getD (d .memory) i 0
+  pub played-cell : (acts : List Act) (d : FrameBench) → length (d .memory) ≡ P .size → Within P (d .core) → awaited P (d .core) i ≡ false
+      → addressed P acts d i ≡ false → getD (actedAll P acts d .memory) i 0 ≡ getD (d .memory) i 0
   played-cell [] d size k e f = refl
   played-cell (frame w s n ∷ acts) d size k e f =
       let next = acted P (frame w s n) d in

@@ -1,4 +1,4 @@
--- Any list of frames and clock readings, played over a record and a memory; and which cells its executed WRITEs address.
+-- Any list of frames and clock readings, actedAll over a record and a memory; and which cells its executed WRITEs address.
 use Prim.Native.Nat.{ℕ, _*_, _-_, _/_}
 use mathlib.Core.Bool.{Bool, false, _&&_, _||_}
 use mathlib.Core.List.{List, [], _∷_}
@@ -18,18 +18,21 @@ pub data Act : Type 0 where
   -- the clock reads so much
   reading : ℕ → Act
 
--- a record with its memory; the pin model's is `Bench`
-pub record Device : Type 0 where
+-- a bench of the frame model: a record with its memory; the pin model's is `PinBench`
+pub record FrameBench : Type 0 where
   pub core : Core
   pub memory : List ℕ
 
-abbrev pub acted : Part → Act → Device → Device
-acted P (frame w s n) d = record { core = after P (running (d .core)) w (d .core) s n; memory = d .memory }
-acted P (reading t) d = record { core = timed P t (d .core); memory = timedMemory P t (d .core) (d .memory) }
+abbrev pub frameBench : Core → List ℕ → FrameBench
+frameBench c m = record { core = c; memory = m }
 
-abbrev pub played : Part → List Act → Device → Device
-played P [] d = d
-played P (a ∷ acts) d = played P acts (acted P a d)
+abbrev pub acted : Part → Act → FrameBench → FrameBench
+acted P (frame w s n) d = frameBench (after P (running (d .core)) w (d .core) s n) (d .memory)
+acted P (reading t) d = frameBench (timed P t (d .core)) (timedMemory P t (d .core) (d .memory))
+
+abbrev pub actedAll : Part → List Act → FrameBench → FrameBench
+actedAll P [] d = d
+actedAll P (a ∷ acts) d = actedAll P acts (acted P a d)
 
 -- ---- the cells that executed WRITE frames address
 
@@ -42,6 +45,6 @@ addresses P (frame w s n) c i =
     && marked (written P s) (i - address P s / P .page * P .page)
 addresses P (reading t) c i = false
 
-abbrev pub addressed : Part → List Act → Device → ℕ → Bool
+abbrev pub addressed : Part → List Act → FrameBench → ℕ → Bool
 addressed P [] d i = false
 addressed P (a ∷ acts) d i = addresses P a (d .core) i || addressed P acts (acted P a d) i

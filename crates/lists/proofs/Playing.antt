@@ -8,28 +8,28 @@ use lib.Seq.{take-suc}
 use Rattle.chip.specs.Part.{Part}
 use Rattle.pins.specs.Devices.{q}
 use Rattle.edges.specs.Falling.{levelNumber}
-use Rattle.pins.specs.Answers.{Bench, afterEvent, played}
+use Rattle.pins.specs.Answers.{PinBench, afterEvent, played}
 use Rattle.lists.specs.Answers.{playedQ}
 
 module _ (P : Part) where
-  played-end : (es : List ℕ) (e : ℕ) (b : Bench) → played P (es ++ (e ∷ [])) b ≡ afterEvent P e (played P es b)
+  played-end : (es : List ℕ) (e : ℕ) (b : PinBench) → played P (es ++ (e ∷ [])) b ≡ afterEvent P e (played P es b)
   unfolding played
   played-end [] e b = refl
   played-end (d ∷ es) e b = played-end es e (afterEvent P d b)
 
-  pub played-none : (es : List ℕ) (b : Bench) → b ≡ played P (take 0 es) b
+  pub played-none : (es : List ℕ) (b : PinBench) → b ≡ played P (take 0 es) b
   unfolding played
   played-none es b = refl
 
-  pub played-more : (es : List ℕ) (i : ℕ) (b : Bench) → i < length es → played P (take (suc i) es) b ≡ afterEvent P (getD es i 0) (played P (take i es) b)
+  pub played-more : (es : List ℕ) (i : ℕ) (b : PinBench) → i < length es → played P (take (suc i) es) b ≡ afterEvent P (getD es i 0) (played P (take i es) b)
   played-more es i b h = ap (λ (l : List ℕ). played P l b) (take-suc es i 0 h) ∙ played-end (take i es) (getD es i 0) b
 
-  pub q-length : (es : List ℕ) (b : Bench) → length (playedQ P es b) ≡ length es
+  pub q-length : (es : List ℕ) (b : PinBench) → length (playedQ P es b) ≡ length es
   unfolding playedQ
   q-length [] b = refl
   q-length (e ∷ es) b = ap suc (q-length es (afterEvent P e b))
 
-  pub q-at : (es : List ℕ) (i : ℕ) (b : Bench) → i < length es → getD (playedQ P es b) i 0 ≡ levelNumber (q (played P (take (suc i) es) b .device))
+  pub q-at : (es : List ℕ) (i : ℕ) (b : PinBench) → i < length es → getD (playedQ P es b) i 0 ≡ levelNumber (q (played P (take (suc i) es) b .device))
   unfolding played playedQ
   q-at [] i b h = absurd (omega arith)
   q-at (e ∷ es) zero b h = refl

@@ -11,10 +11,10 @@ use Rattle.chip.specs.declared.Outcome.the-variants.{Done, Refused}
 use Rattle.edges.specs.Falling.{levelNumber}
 use Rattle.pins.specs.declared.Device.{Device}
 use Rattle.pins.specs.Devices.{q}
-use Rattle.pins.specs.Answers.{Bench, afterEvent, memoryChoice}
+use Rattle.pins.specs.Answers.{PinBench, afterEvent, memoryChoice}
 
 -- Q after each event of a list
-unfoldable pub playedQ : Part → List ℕ → Bench → List ℕ
+unfoldable pub playedQ : Part → List ℕ → PinBench → List ℕ
 playedQ P [] b = []
 playedQ P (e ∷ es) b = levelNumber (q (afterEvent P e b .device)) ∷ playedQ P es (afterEvent P e b)
 

@@ -4,7 +4,7 @@ ghost use lib.ListN.{length};
 ghost use Rattle.chip.specs.Part.{m95512};
 ghost use Rattle.chip.specs.Refusals.{number};
 ghost use Rattle.pins.specs.Events.{eventOf};
-ghost use Rattle.pins.specs.Answers.{answer, answerMemory, played};
+ghost use Rattle.pins.specs.Answers.{answer, answerMemory, played, pinBench};
 ghost use Rattle.lists.specs.Answers.{playOutcome, playNumber, playedQ};
 use crate::fronts::front_of;
 use chip::Outcome;
@@ -33,9 +33,9 @@ fn event_of(number: u64) -> Event
 // The events one after another, and Q after each. The front is held apart, so that most events move numbers and copy no record.
 fn play_all(device: Device, memory: &mut [u8], events: &[u64], out: &mut [u8]) -> Device
     requires { ⌜ length (now out) ≡ length (now events) ⌝ }
-    ensures { λ r. ⌜ r ≡ played m95512 (now (events .entry)) (record { device = device; memory = now (memory .entry) }) .device ⌝ }
-    ensures { λ _. ⌜ now (memory .exit) ≡ played m95512 (now (events .entry)) (record { device = device; memory = now (memory .entry) }) .memory ⌝ }
-    ensures { λ _. ⌜ now (out .exit) ≡ playedQ m95512 (now (events .entry)) (record { device = device; memory = now (memory .entry) }) ⌝ }
+    ensures { λ r. ⌜ r ≡ played m95512 (now (events .entry)) (pinBench device (now (memory .entry))) .device ⌝ }
+    ensures { λ _. ⌜ now (memory .exit) ≡ played m95512 (now (events .entry)) (pinBench device (now (memory .entry))) .memory ⌝ }
+    ensures { λ _. ⌜ now (out .exit) ≡ playedQ m95512 (now (events .entry)) (pinBench device (now (memory .entry))) ⌝ }
 {
     let frame = device.frame;
     let mut front = front_of(device);
@@ -63,10 +63,10 @@ fn play_all(device: Device, memory: &mut [u8], events: &[u64], out: &mut [u8]) -
 // A lent list of events, each a number, and a lent output for Q after each: 0, 1, or 2 for Z. Refusals 1, 2, and 5 for an output of another
 // length, with everything as it was.
 pub fn play(device: Device, memory: &mut [u8], events: &[u64], out: &mut [u8]) -> Stepped
-    ensures { λ r. ⌜ r ≡ answer (playOutcome m95512 device (now (memory .entry)) (length (now (events .entry))) (length (now (out .entry)))) (played m95512 (now (events .entry)) (record { device = device; memory = now (memory .entry) }) .device) device ⌝ }
+    ensures { λ r. ⌜ r ≡ answer (playOutcome m95512 device (now (memory .entry)) (length (now (events .entry))) (length (now (out .entry)))) (played m95512 (now (events .entry)) (pinBench device (now (memory .entry))) .device) device ⌝ }
     ensures { λ r. ⌜ number (r .outcome) ≡ playNumber m95512 device (now (memory .entry)) (length (now (events .entry))) (length (now (out .entry))) ⌝ }
-    ensures { λ _. ⌜ now (memory .exit) ≡ answerMemory (playOutcome m95512 device (now (memory .entry)) (length (now (events .entry))) (length (now (out .entry)))) (played m95512 (now (events .entry)) (record { device = device; memory = now (memory .entry) }) .memory) (now (memory .entry)) ⌝ }
-    ensures { λ _. ⌜ now (out .exit) ≡ answerMemory (playOutcome m95512 device (now (memory .entry)) (length (now (events .entry))) (length (now (out .entry)))) (playedQ m95512 (now (events .entry)) (record { device = device; memory = now (memory .entry) })) (now (out .entry)) ⌝ }
+    ensures { λ _. ⌜ now (memory .exit) ≡ answerMemory (playOutcome m95512 device (now (memory .entry)) (length (now (events .entry))) (length (now (out .entry)))) (played m95512 (now (events .entry)) (pinBench device (now (memory .entry))) .memory) (now (memory .entry)) ⌝ }
+    ensures { λ _. ⌜ now (out .exit) ≡ answerMemory (playOutcome m95512 device (now (memory .entry)) (length (now (events .entry))) (length (now (out .entry)))) (playedQ m95512 (now (events .entry)) (pinBench device (now (memory .entry)))) (now (out .entry)) ⌝ }
 {
     if memory.len() == 65536 {
         if device.in_ranges() {

@@ -96,18 +96,21 @@ powered P n s b a t = steppedTo (poweredUp P n s b a t .outcome) (resting P (pow
 
 -- ---- a list of events: the single events one after another
 
--- a device and the memory lent to it
-pub record Bench : Type 0 where
+-- a bench of the pin model: a device and the memory lent to it
+pub record PinBench : Type 0 where
   pub device : Device
   pub memory : List ℕ
 
--- after one event; and after one that is given as a number
-abbrev pub next : Part → Event → Bench → Bench
-next P e b = record { device = stepped P (b .memory) e (b .device); memory = steppedMemory P e (b .device) (b .memory) }
+abbrev pub pinBench : Device → List ℕ → PinBench
+pinBench x m = record { device = x; memory = m }
 
-abbrev pub afterEvent : Part → ℕ → Bench → Bench
+-- after one event; and after one that is given as a number
+abbrev pub next : Part → Event → PinBench → PinBench
+next P e b = pinBench (stepped P (b .memory) e (b .device)) (steppedMemory P e (b .device) (b .memory))
+
+abbrev pub afterEvent : Part → ℕ → PinBench → PinBench
 afterEvent P n b = next P (eventOf n) b
 
-unfoldable pub played : Part → List ℕ → Bench → Bench
+unfoldable pub played : Part → List ℕ → PinBench → PinBench
 played P [] b = b
 played P (e ∷ es) b = played P es (afterEvent P e b)

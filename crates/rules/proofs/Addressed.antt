@@ -38,7 +38,7 @@ use Rattle.edges.specs.Ranges.{latches}
 use Rattle.pins.specs.Ranges.{deviceFits}
 use Rattle.pins.specs.Events.{judgedNow, renewed, onS, onC, onD, onW, onHold, onTime, stepped, eventOf}
 use Rattle.rules.specs.Cells.{inFrame, writes, touched, dataFor, takes, byteTaken}
-use Rattle.pins.specs.Answers.{Bench, afterEvent, played}
+use Rattle.pins.specs.Answers.{PinBench, afterEvent, played}
 use Rattle.rules.proofs.Sound.{Sound}
 use Rattle.rules.proofs.Parts.{FrameFits, Fits, parts}
 use Rattle.rules.proofs.Edges.{no-latch-fits}
@@ -196,7 +196,7 @@ module _ (P : Part) (sound : Sound P) (i : ℕ) (x : Device) (t : Fits P x) (h :
 -- ---- any list of events
 
 module _ (P : Part) (sound : Sound P) (i : ℕ) where
-  unaddressed : (es : List ℕ) (b : Bench) → Sized P (b .device) → deviceFits P (b .device) ≡ true → inFrame P (b .device .frame) i ≡ false
+  unaddressed : (es : List ℕ) (b : PinBench) → Sized P (b .device) → deviceFits P (b .device) ≡ true → inFrame P (b .device .frame) i ≡ false
       → byteTaken P i es b ≡ false → touched P i es b ≡ false
   unfolding byteTaken touched
   unaddressed [] b sized fits h none = refl
@@ -208,7 +208,7 @@ module _ (P : Part) (sound : Sound P) (i : ℕ) where
       (unaddressed es (afterEvent P e b) (stepped-sized P x sized (b .memory) (eventOf e)) (stepped-fits P sound x sized fits (b .memory) (eventOf e))
       (event-frame P sound i x t h (b .memory) (eventOf e) (two .0)) (two .1))
 
-  pub unaddressed-cell : (es : List ℕ) (b : Bench) → i < P .size → length (b .memory) ≡ P .size → Sized P (b .device) → deviceFits P (b .device) ≡ true
+  pub unaddressed-cell : (es : List ℕ) (b : PinBench) → i < P .size → length (b .memory) ≡ P .size → Sized P (b .device) → deviceFits P (b .device) ≡ true
       → awaited P (b .device .core) i ≡ false → inFrame P (b .device .frame) i ≡ false → byteTaken P i es b ≡ false
       → getD (played P es b .memory) i 0 ≡ getD (b .memory) i 0
   unaddressed-cell es b below size sized fits a h none = untouched-cell P sound i below es b size sized fits a (unaddressed es b sized fits h none)

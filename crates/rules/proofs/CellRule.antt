@@ -28,7 +28,7 @@ use Rattle.pins.specs.Devices.{withC, withPins, counting}
 use Rattle.pins.specs.Ranges.{deviceFits}
 use Rattle.pins.specs.Events.{judgedNow, decided, renewed, onS, onC, onD, onW, onHold, onTime, stepped, steppedMemory, eventOf}
 use Rattle.rules.specs.Cells.{endsCycle, inFrame, writes, touched}
-use Rattle.pins.specs.Answers.{Bench, afterEvent, played}
+use Rattle.pins.specs.Answers.{PinBench, afterEvent, played}
 use Rattle.rules.proofs.Sound.{Sound}
 use Rattle.rules.proofs.Parts.{parts}
 use Rattle.rules.proofs.Fits.{Sized, stepped-fits, stepped-sized}
@@ -116,7 +116,7 @@ module _ (P : Part) (x : Device) (i : ℕ) (a : awaited P (x .core) i ≡ false)
 -- ---- any list of events: a cell that does not wait at its start, and that no WRITE executed in it has marked, is as it was
 
 module _ (P : Part) (sound : Sound P) (i : ℕ) (h : i < P .size) where
-  pub untouched-cell : (es : List ℕ) (b : Bench) → length (b .memory) ≡ P .size → Sized P (b .device) → deviceFits P (b .device) ≡ true
+  pub untouched-cell : (es : List ℕ) (b : PinBench) → length (b .memory) ≡ P .size → Sized P (b .device) → deviceFits P (b .device) ≡ true
       → awaited P (b .device .core) i ≡ false → touched P i es b ≡ false → getD (played P es b .memory) i 0 ≡ getD (b .memory) i 0
   unfolding played touched
   untouched-cell [] b size sized fits a t = refl

@@ -36,7 +36,7 @@ use Rattle.chip.specs.Output.{outputs}
 use Rattle.edges.specs.Falling.{fallen}
 use Rattle.pins.specs.Ranges.{pinsFit, heldFits, ranFits, deviceFits}
 use Rattle.pins.specs.Events.{selecting, deselecting, renewed, raising, lowering, onS, onC, onD, onW, onHold, onTime, stepped, eventOf}
-use Rattle.pins.specs.Answers.{Bench, answer, afterEvent, played, powered}
+use Rattle.pins.specs.Answers.{PinBench, answer, afterEvent, played, powered}
 use Rattle.rules.proofs.Sound.{Sound}
 use Rattle.rules.proofs.Parts.{Fits, parts, device-fits}
 use Rattle.chip.proofs.Bits.{bit-small}
@@ -307,12 +307,12 @@ module _ (P : Part) (sound : Sound P) where
   stepped-fits x sized h m e = device-fits P (stepped P m e x) (event-fits P sound x (parts P x h) m sized e)
 
   -- .. by any list of them ..
-  pub played-sized : (es : List ℕ) (b : Bench) → Sized P (b .device) → Sized P (played P es b .device)
+  pub played-sized : (es : List ℕ) (b : PinBench) → Sized P (b .device) → Sized P (played P es b .device)
   unfolding played
   played-sized [] b sized = sized
   played-sized (e ∷ es) b sized = played-sized es (afterEvent P e b) (stepped-sized P (b .device) sized (b .memory) (eventOf e))
 
-  pub played-fits : (es : List ℕ) (b : Bench) → Sized P (b .device) → deviceFits P (b .device) ≡ true → deviceFits P (played P es b .device) ≡ true
+  pub played-fits : (es : List ℕ) (b : PinBench) → Sized P (b .device) → deviceFits P (b .device) ≡ true → deviceFits P (played P es b .device) ≡ true
   unfolding played
   played-fits [] b sized h = h
   played-fits (e ∷ es) b sized h =

@@ -17,7 +17,7 @@ use Rattle.edges.specs.declared.Level.the-variants.{Z}
 use Rattle.pins.specs.Devices.{withC, withHold, withPins, selected, counting, q}
 use Rattle.edges.specs.Falling.{fallen}
 use Rattle.pins.specs.Events.{renewed, lowering, onC, onD, onW, onHold, onTime, stepped, eventOf}
-use Rattle.pins.specs.Answers.{Bench, afterEvent, played}
+use Rattle.pins.specs.Answers.{PinBench, afterEvent, played, pinBench}
 use Rattle.rules.proofs.Showing.{shows-same, z-held, hold-frame}
 
 -- HOLD raised while C is low
@@ -79,7 +79,7 @@ module _ (P : Part) (x : Device) where
   event-pauses m (Hold level) y h p = absurd (true≢false (sym h))
   event-pauses m (Time t) y h p = record { frame = p .frame; selected = p .selected; low = p .low; held = p .held }
 
-  pub list-pauses : (es : List ℕ) (b : Bench) → allPause es ≡ true → Paused x (b .device) → Paused x (played P es b .device)
+  pub list-pauses : (es : List ℕ) (b : PinBench) → allPause es ≡ true → Paused x (b .device) → Paused x (played P es b .device)
   unfolding allPause played
   list-pauses [] b h p = p
   list-pauses (e ∷ es) b h p =
@@ -97,14 +97,14 @@ module _ (P : Part) (x : Device) where
 -- the whole pause: Q is Z in it, and shows what it showed when HOLD is raised with C low again
 module _ (P : Part) (x : Device) (m : List ℕ) (es : List ℕ) where
   abbrev pub inside : Device
-  inside = played P es (record { device = onHold false x; memory = m }) .device
+  inside = played P es (pinBench (onHold false x) m) .device
 
   pub pause-z : counting x ≡ true → on (x .pins .c) ≡ false → allPause es ≡ true → q inside ≡ Z
-  pause-z k c h = z-held inside (list-pauses P x es (record { device = onHold false x; memory = m }) h (begun P x k c) .held)
+  pause-z k c h = z-held inside (list-pauses P x es (pinBench (onHold false x) m) h (begun P x k c) .held)
 
   pub pause-shows : counting x ≡ true → on (x .pins .c) ≡ false → allPause es ≡ true → on (inside .pins .c) ≡ false → q (onHold true inside) ≡ q x
   pause-shows k c h low =
-      let p = list-pauses P x es (record { device = onHold false x; memory = m }) h (begun P x k c) in
+      let p = list-pauses P x es (pinBench (onHold false x) m) h (begun P x k c) in
       resumed x inside k (p .frame) (p .selected) low
 
 -- ---- HOLD moved while C is high: the falling edge begins or ends the pause

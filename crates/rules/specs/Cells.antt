@@ -17,7 +17,7 @@ use Rattle.pins.specs.declared.Event.{Event}
 use Rattle.pins.specs.declared.Event.the-variants.{S, C, D, W, Hold, Time}
 use Rattle.pins.specs.Devices.{counting}
 use Rattle.pins.specs.Events.{judgedNow, eventOf}
-use Rattle.pins.specs.Answers.{Bench, afterEvent}
+use Rattle.pins.specs.Answers.{PinBench, afterEvent}
 
 -- the event is a reading that ends the running cycle
 abbrev pub endsCycle : Event → Core → Bool
@@ -42,7 +42,7 @@ writes P i (Hold level) x = false
 writes P i (Time t) x = false
 
 -- .. at some event of a list
-unfoldable pub touched : Part → ℕ → List ℕ → Bench → Bool
+unfoldable pub touched : Part → ℕ → List ℕ → PinBench → Bool
 touched P i [] b = false
 touched P i (e ∷ es) b = writes P i (eventOf e) (b .device) || touched P i es (afterEvent P e b)
 
@@ -60,6 +60,6 @@ takes P i (Hold level) x = false
 takes P i (Time t) x = false
 
 -- .. at some event of a list
-unfoldable pub byteTaken : Part → ℕ → List ℕ → Bench → Bool
+unfoldable pub byteTaken : Part → ℕ → List ℕ → PinBench → Bool
 byteTaken P i [] b = false
 byteTaken P i (e ∷ es) b = takes P i (eventOf e) (b .device) || byteTaken P i es (afterEvent P e b)

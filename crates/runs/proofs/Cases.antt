@@ -14,14 +14,14 @@ use Rattle.chip.specs.Power.{delivered}
 use Rattle.frames.specs.Bytes.{latchedFrom}
 use Rattle.split.specs.Split.{pageParts, count, edge, start, end, splitAddress, splitLength}
 use Rattle.split.specs.Pieces.{piece}
-use Rattle.frames.specs.Play.{Device}
-use Rattle.driver.specs.Sequence.{sent, device, pollsOn, firstWait, pageWait, pageActs, pagesFrom, run}
+use Rattle.frames.specs.Play.{FrameBench, frameBench}
+use Rattle.driver.specs.Sequence.{sent, pollsOn, firstWait, pageWait, pageActs, pagesFrom, run}
 
 abbrev bytes : List ℕ
 bytes = replicate 300 0x55
 
-abbrev atRest : List ℕ → Device
-atRest m = device (delivered m95512) m
+abbrev atRest : List ℕ → FrameBench
+atRest m = frameBench (delivered m95512) m
 
 pub record CaseH (m : List ℕ) : Type 0 where
   pub frames : sent (run m95512 1000 5001 100 bytes (atRest m) .acts) ≡ 29

@@ -18,7 +18,7 @@ use Rattle.split.specs.Split.{count, splitAddress, splitLength}
 use Rattle.split.specs.Pieces.{piece, pieces}
 use Rattle.split.proofs.Numbers.{length-some, one-page}
 use Rattle.split.proofs.Whole.{pieces-more, before-part}
-use Rattle.frames.specs.Play.{Device, acted, played}
+use Rattle.frames.specs.Play.{FrameBench, acted, actedAll}
 use Rattle.driver.specs.Sequence.{sent, wrdi, Ending, allDone, timedOut, notTaken, Run, pagesFrom}
 use Rattle.runs.specs.Counts.{roundedUp, overwritten}
 use Rattle.runs.specs.Endings.{pageFrames, Meaning}
@@ -80,7 +80,7 @@ module _ (a : ℕ) (bytes : List ℕ) (k : ℕ) (h : k < count 65536 128 a (leng
 
 -- ---- an idle device, with the cycle length and the protection of c₀
 
-pub record Idle (c₀ : Core) (d : Device) : Type 0 where
+pub record Idle (c₀ : Core) (d : FrameBench) : Type 0 where
   pub left : d .core .left ≡ 0
   pub low : d .core .last < 2 ^ 32
   pub cycle : d .core .cycle ≡ c₀ .cycle
@@ -88,7 +88,7 @@ pub record Idle (c₀ : Core) (d : Device) : Type 0 where
   pub bp0 : d .core .bp0 ≡ c₀ .bp0
   pub whole : length (d .memory) ≡ 65536
 
-protects-kept : (c₀ : Core) (d : Device) → Idle c₀ d → (x : ℕ) → protects m95512 (d .core) x ≡ protects m95512 c₀ x
+protects-kept : (c₀ : Core) (d : FrameBench) → Idle c₀ d → (x : ℕ) → protects m95512 (d .core) x ≡ protects m95512 c₀ x
 protects-kept c₀ d i x = rw (i .bp1, i .bp0) refl
 
 module _ (i limit : ℕ) (some : 0 < i) (small : i ≤ 5000) (polls : 1 ≤ limit) (a : ℕ) (bytes : List ℕ) (c₀ : Core) (cycle : 0 < c₀ .cycle)
@@ -111,12 +111,12 @@ module _ (i limit : ℕ) (some : 0 < i) (small : i ≤ 5000) (polls : 1 ≤ limi
       (sym (ap (λ (j : ℕ). protects m95512 c₀ (splitAddress 65536 128 a (length bytes) j)) at) ∙ t .0, (omega (arith, t .1 .0, suc-mul pages frames-each), t .1 .1))
 
   -- the cells of the pages done, and every other cell as it was
-  abbrev pub Leaves : ℕ → ℕ → Device → Run → Type 0
+  abbrev pub Leaves : ℕ → ℕ → FrameBench → Run → Type 0
   Leaves n k d r =
-      (played m95512 (r .acts) d .memory ≡ overwritten a (pieces 65536 128 a bytes (k + r .pages)) m₀)
-      × Told (r .ending) n k (r .pages) (sent (r .acts)) (played m95512 (r .acts) d .core)
+      (actedAll m95512 (r .acts) d .memory ≡ overwritten a (pieces 65536 128 a bytes (k + r .pages)) m₀)
+      × Told (r .ending) n k (r .pages) (sent (r .acts)) (actedAll m95512 (r .acts) d .core)
 
-  abbrev rest : ℕ → ℕ → Device → Run
+  abbrev rest : ℕ → ℕ → FrameBench → Run
   rest n k d = pagesFrom m95512 i limit a bytes n k d
 
   abbrev Written : ℕ → List ℕ → Type 0
@@ -127,14 +127,14 @@ module _ (i limit : ℕ) (some : 0 < i) (small : i ≤ 5000) (polls : 1 ≤ limi
       let same : k ≡ k + 0 = omega arith in
       e ∙ w ∙ ap (λ (j : ℕ). overwritten a (pieces 65536 128 a bytes j) m₀) same
 
-  module _ (n k : ℕ) (d : Device) (h : k < parts) (idle : Idle c₀ d) (w : Written k (d .memory)) where
+  module _ (n k : ℕ) (d : FrameBench) (h : k < parts) (idle : Idle c₀ d) (w : Written k (d .memory)) where
     abbrev at-k : ℕ
     at-k = splitAddress 65536 128 a (length bytes) k
 
     abbrev bytes-k : List ℕ
     bytes-k = piece 65536 128 a bytes k
 
-    abbrev next : Device
+    abbrev next : FrameBench
     next = afterPart m95512 i limit a bytes k d
 
     positive : 0 < d .core .cycle
@@ -149,12 +149,12 @@ module _ (i limit : ℕ) (some : 0 < i) (small : i ≤ 5000) (polls : 1 ≤ limi
         let u = page-untaken i limit some small polls d (idle .low) free positive at-k bytes-k (part-low a bytes k h) (part-some a bytes k h) (protects-kept c₀ d idle at-k ∙ p) in
         let still : running (next .core) ≡ false = ap running (u .core) in
         let acts = partActs m95512 i limit a bytes k d in
-        let y : played m95512 (acts ++ (wrdi ∷ [])) d ≡ acted m95512 wrdi next = played-append m95512 acts (wrdi ∷ []) d in
+        let y : actedAll m95512 (acts ++ (wrdi ∷ [])) d ≡ acted m95512 wrdi next = played-append m95512 acts (wrdi ∷ []) d in
         let core : acted m95512 wrdi next .core ≡ withWel 0 (next .core) = disables (next .core) still in
         let left : withWel 0 (next .core) .left ≡ 0 = ap (λ (c : Core). c .left) (u .core) in
         let here : at-k ≡ splitAddress 65536 128 a (length bytes) (k + 0) = ap (splitAddress 65536 128 a (length bytes)) (omega arith) in
         subst (Leaves (suc n) k d) (sym (pages-untaken m95512 i limit a bytes n k d still (ap (λ (c : Core). on (c .wel)) (u .core))))
-        (stays k (d .memory) _ (ap (λ (x : Device). x .memory) y ∙ u .memory) w, (sym (ap (protects m95512 c₀) here) ∙ p, (sent-append acts (wrdi ∷ []) ∙ omega (arith, u .frames, zero-mul frames-each), (ap (λ (x : Device). x .core .left) y ∙ ap (λ (c : Core). c .left) core ∙ left, ap (λ (x : Device). x .core .wel) y ∙ ap (λ (c : Core). c .wel) core))))
+        (stays k (d .memory) _ (ap (λ (x : FrameBench). x .memory) y ∙ u .memory) w, (sym (ap (protects m95512 c₀) here) ∙ p, (sent-append acts (wrdi ∷ []) ∙ omega (arith, u .frames, zero-mul frames-each), (ap (λ (x : FrameBench). x .core .left) y ∙ ap (λ (c : Core). c .left) core ∙ left, ap (λ (x : FrameBench). x .core .wel) y ∙ ap (λ (c : Core). c .wel) core))))
 
     -- its wait runs out
     runs-out : protects m95512 c₀ at-k ≡ false → limit * i < c₀ .cycle → Leaves (suc n) k d (rest (suc n) k d)
@@ -184,14 +184,14 @@ module _ (i limit : ℕ) (some : 0 < i) (small : i ≤ 5000) (polls : 1 ≤ limi
         } in
         let r = rest n (suc k) next in
         let l = others idle-next written in
-        let y : played m95512 (acts ++ r .acts) d ≡ played m95512 (r .acts) next = played-append m95512 acts (r .acts) d in
+        let y : actedAll m95512 (acts ++ r .acts) d ≡ actedAll m95512 (r .acts) next = played-append m95512 acts (r .acts) d in
         let on-k : suc k + r .pages ≡ k + suc (r .pages) = omega arith in
         let frames : frames-each + sent (r .acts) ≡ sent (acts ++ r .acts) = omega (arith, sent-append acts (r .acts), u .frames, ap (λ (x : ℕ). roundedUp x i) (idle .cycle)) in
         subst (Leaves (suc n) k d) (sym (pages-next m95512 i limit a bytes n k d (ap running (u .core)) (ap (λ (c : Core). on (c .wel)) (u .core)))) (
-          ap (λ (x : Device). x .memory) y ∙ l .0 ∙ ap (λ (j : ℕ). overwritten a (pieces 65536 128 a bytes j) m₀) on-k,
-          subst (λ (f : ℕ). Told (r .ending) (suc n) k (suc (r .pages)) f (played m95512 (acts ++ r .acts) d .core)) frames
-              (subst (λ (x : Device). Told (r .ending) (suc n) k (suc (r .pages)) (frames-each + sent (r .acts)) (x .core)) (sym y)
-              (meaning-more (r .ending) n k (r .pages) (sent (r .acts)) (played m95512 (r .acts) next .core) enough (l .1))),
+          ap (λ (x : FrameBench). x .memory) y ∙ l .0 ∙ ap (λ (j : ℕ). overwritten a (pieces 65536 128 a bytes j) m₀) on-k,
+          subst (λ (f : ℕ). Told (r .ending) (suc n) k (suc (r .pages)) f (actedAll m95512 (acts ++ r .acts) d .core)) frames
+              (subst (λ (x : FrameBench). Told (r .ending) (suc n) k (suc (r .pages)) (frames-each + sent (r .acts)) (x .core)) (sym y)
+              (meaning-more (r .ending) n k (r .pages) (sent (r .acts)) (actedAll m95512 (r .acts) next .core) enough (l .1))),
         )
 
     -- one of the three
@@ -203,7 +203,7 @@ module _ (i limit : ℕ) (some : 0 < i) (small : i ≤ 5000) (polls : 1 ≤ limi
       | no few ↦ runs-out p (omega arith)
     ]
 
-  pub parts-leave : (n k : ℕ) (d : Device) → k + n ≡ parts → Idle c₀ d → Written k (d .memory) → Leaves n k d (rest n k d)
+  pub parts-leave : (n k : ℕ) (d : FrameBench) → k + n ≡ parts → Idle c₀ d → Written k (d .memory) → Leaves n k d (rest n k d)
   parts-leave zero k d e idle w =
       subst (Leaves zero k d) (sym (pages-none m95512 i limit a bytes 0 k d refl))
       (stays k (d .memory) (d .memory) refl w, (refl, (omega (arith, zero-mul frames-each), idle .left)))

@@ -14,7 +14,7 @@ use Rattle.chip.specs.Records.{running, waitsStatus, withTime}
 use Rattle.chip.specs.Time.{elapsed, ends, ended, endedMemory, timed, timedMemory}
 use Rattle.chip.specs.declared.Core.{Core}
 use Rattle.chip.proofs.Passing.{on-core, no-end}
-use Rattle.frames.specs.Play.{Device, played}
+use Rattle.frames.specs.Play.{FrameBench, actedAll}
 use Rattle.driver.specs.Sequence.{sent, latePoll, pollsOn}
 use Rattle.runs.specs.Counts.{roundedUp}
 use Rattle.driver.proofs.Frames.{poll-leaves}
@@ -35,14 +35,14 @@ rounded-more l i h h′ =
 -- ---- what a wait leaves of a cycle
 
 -- it is over: what waited is stored
-pub record Over (d y : Device) : Type 0 where
+pub record Over (d y : FrameBench) : Type 0 where
   pub read : ℕ
   pub low : read < 2 ^ 32
   pub core : y .core ≡ withTime read 0 (ended m95512 (d .core))
   pub memory : y .memory ≡ endedMemory m95512 (d .core) (d .memory)
 
 -- it still runs: only the time left and the last reading moved
-pub record Runs (d y : Device) (left : ℕ) : Type 0 where
+pub record Runs (d y : FrameBench) (left : ℕ) : Type 0 where
   pub read : ℕ
   pub low : read < 2 ^ 32
   pub core : y .core ≡ withTime read left (d .core)
@@ -56,7 +56,7 @@ ended-timed t n r c = elim (waitsStatus (c .waits)) as (λ b. waitsStatus (c .wa
   | false ↦ λ e. rw e refl
 ] refl
 
-over-after : (d x y : Device) (left : ℕ) → Runs d x left → Over x y → Over d y
+over-after : (d x y : FrameBench) (left : ℕ) → Runs d x left → Over x y → Over d y
 over-after d x y left r o =
     record {
       read = o .read;
@@ -65,7 +65,7 @@ over-after d x y left r o =
       memory = o .memory ∙ ap (λ (c : Core). endedMemory m95512 c (x .memory)) (r .core) ∙ ap (endedMemory m95512 (d .core)) (r .memory);
     }
 
-runs-after : (d x y : Device) (k n : ℕ) → Runs d x k → Runs x y n → Runs d y n
+runs-after : (d x y : FrameBench) (k n : ℕ) → Runs d x k → Runs x y n → Runs d y n
 runs-after d x y k n r s =
     record {
       read = s .read;
@@ -77,15 +77,15 @@ runs-after d x y k n r s =
 -- ---- one poll, and a whole wait
 
 module _ (i : ℕ) (some : 0 < i) (small : i ≤ 5000) where
-  module _ (d : Device) (low : d .core .last < 2 ^ 32) where
+  module _ (d : FrameBench) (low : d .core .last < 2 ^ 32) where
     abbrev read : ℕ
     read = (d .core .last + i) % 2 ^ 32
 
     gone : elapsed (d .core .last) read ≡ i
     gone = omega arith
 
-    abbrev polled : Device
-    polled = played m95512 (latePoll i d) d
+    abbrev polled : FrameBench
+    polled = actedAll m95512 (latePoll i d) d
 
     read-low : read < 2 ^ 32
     read-low = omega arith
@@ -115,11 +115,11 @@ module _ (i : ℕ) (some : 0 < i) (small : i ≤ 5000) where
         }
 
   -- enough polls: the cycle ends
-  pub record Waited (k : ℕ) (d : Device) : Type 0 where
+  pub record Waited (k : ℕ) (d : FrameBench) : Type 0 where
     pub polls : sent (pollsOn m95512 i k d) ≡ roundedUp (d .core .left) i
-    pub over : Over d (played m95512 (pollsOn m95512 i k d) d)
+    pub over : Over d (actedAll m95512 (pollsOn m95512 i k d) d)
 
-  pub waited : (k : ℕ) (d : Device) → d .core .last < 2 ^ 32 → 0 < d .core .left → d .core .left ≤ k * i → Waited k d
+  pub waited : (k : ℕ) (d : FrameBench) → d .core .last < 2 ^ 32 → 0 < d .core .left → d .core .left ≤ k * i → Waited k d
   waited zero d low h l = absurd (omega (arith, zero-mul i))
   waited (suc k) d low h l =
       let x = polled d low in
@@ -132,7 +132,7 @@ module _ (i : ℕ) (some : 0 < i) (small : i ≤ 5000) where
             let w = waited k x (rw last (r .low)) (omega arith) (omega (arith, suc-mul k i)) in
             record {
               polls = sent-busy m95512 i d (suc k) k refl busy ∙ omega (arith, w .polls, ap (λ (n : ℕ). roundedUp n i) left, rounded-more (d .core .left) i some m);
-              over = subst (Over d) (sym (played-busy m95512 i d (suc k) k refl busy)) (over-after d x (played m95512 (pollsOn m95512 i k x) x) (d .core .left - i) r (w .over));
+              over = subst (Over d) (sym (played-busy m95512 i d (suc k) k refl busy)) (over-after d x (actedAll m95512 (pollsOn m95512 i k x) x) (d .core .left - i) r (w .over));
             }
         | no m ↦
             let o = poll-over d low h (omega arith) in
@@ -143,23 +143,23 @@ module _ (i : ℕ) (some : 0 < i) (small : i ≤ 5000) where
                   ∙ omega (arith, ap sent (polls-on-free m95512 i x k free), rounded-one (d .core .left) i h (omega arith));
               over =
                   subst (Over d)
-                  (sym (played-busy m95512 i d (suc k) k refl busy ∙ ap (λ acts. played m95512 acts x) (polls-on-free m95512 i x k free))) o;
+                  (sym (played-busy m95512 i d (suc k) k refl busy ∙ ap (λ acts. actedAll m95512 acts x) (polls-on-free m95512 i x k free))) o;
             }
       ]
 
   -- too few: it still runs
-  pub record Late (k : ℕ) (d : Device) : Type 0 where
+  pub record Late (k : ℕ) (d : FrameBench) : Type 0 where
     pub polls : sent (pollsOn m95512 i k d) ≡ k
-    pub runs : Runs d (played m95512 (pollsOn m95512 i k d) d) (d .core .left - k * i)
+    pub runs : Runs d (actedAll m95512 (pollsOn m95512 i k d) d) (d .core .left - k * i)
 
-  pub late : (k : ℕ) (d : Device) → d .core .last < 2 ^ 32 → k * i < d .core .left → Late k d
+  pub late : (k : ℕ) (d : FrameBench) → d .core .last < 2 ^ 32 → k * i < d .core .left → Late k d
   late zero d low l =
       let none = polls-on-none m95512 i d 0 refl in
       let all : d .core .left ≡ d .core .left - 0 * i = omega (arith, zero-mul i) in
       record {
         polls = ap sent none;
         runs =
-            subst (λ y. Runs d y (d .core .left - 0 * i)) (sym (ap (λ acts. played m95512 acts d) none))
+            subst (λ y. Runs d y (d .core .left - 0 * i)) (sym (ap (λ acts. actedAll m95512 acts d) none))
             (record { read = d .core .last; low = low; core = ap (λ (n : ℕ). withTime (d .core .last) n (d .core)) all; memory = refl });
       }
   late (suc k) d low l =
@@ -176,5 +176,5 @@ module _ (i : ℕ) (some : 0 < i) (small : i ≤ 5000) where
         polls = sent-busy m95512 i d (suc k) k refl busy ∙ omega (arith, w .polls);
         runs =
             subst (λ y. Runs d y (d .core .left - suc k * i)) (sym (played-busy m95512 i d (suc k) k refl busy))
-            (subst (Runs d (played m95512 (pollsOn m95512 i k x) x)) to (runs-after d x (played m95512 (pollsOn m95512 i k x) x) (d .core .left - i) (x .core .left - k * i) r (w .runs)));
+            (subst (Runs d (actedAll m95512 (pollsOn m95512 i k x) x)) to (runs-after d x (actedAll m95512 (pollsOn m95512 i k x) x) (d .core .left - i) (x .core .left - k * i) r (w .runs)));
       }

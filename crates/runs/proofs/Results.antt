@@ -19,7 +19,7 @@ use Rattle.chip.proofs.Within.{within}
 use Rattle.split.specs.Split.{count, splitAddress}
 use Rattle.split.specs.Pieces.{pieces}
 use Rattle.split.proofs.Whole.{pieces-none, whole}
-use Rattle.frames.specs.Play.{Device, played}
+use Rattle.frames.specs.Play.{FrameBench, actedAll}
 use Rattle.driver.specs.Sequence.{sent, pollsOn, firstWait, Ending, allDone, timedOut, notTaken, Run, stopped, begun, allParts, run}
 use Rattle.runs.specs.Counts.{roundedUp, overwritten, onceEnded}
 use Rattle.driver.proofs.Playing.{played-append, sent-append}
@@ -49,7 +49,7 @@ untaken-late e = true≢false (ap isUntaken e)
     isUntaken notTaken = true
 
 -- an input that is not refused, with data; the reading is one of 32 bits
-pub record Given (i limit a : ℕ) (bytes : List ℕ) (d : Device) : Type 0 where
+pub record Given (i limit a : ℕ) (bytes : List ℕ) (d : FrameBench) : Type 0 where
   pub ready : Ready d
   pub low : d .core .last < 2 ^ 32
   pub interval-some : 0 < i
@@ -58,24 +58,24 @@ pub record Given (i limit a : ℕ) (bytes : List ℕ) (d : Device) : Type 0 wher
   pub inside : a + length bytes ≤ 65536
   pub carries : 0 < length bytes
 
-module _ (i limit a : ℕ) (bytes : List ℕ) (d : Device) (g : Given i limit a bytes d) where
+module _ (i limit a : ℕ) (bytes : List ℕ) (d : FrameBench) (g : Given i limit a bytes d) where
   abbrev first : ℕ
   first = sent (firstWait m95512 i limit d)
 
-  abbrev rested : Device
-  rested = played m95512 (firstWait m95512 i limit d) d
+  abbrev rested : FrameBench
+  rested = actedAll m95512 (firstWait m95512 i limit d) d
 
   abbrev pub whole-run : Run
   whole-run = run m95512 i limit a bytes d
 
   -- the device at exit
-  abbrev pub exit : Device
-  exit = played m95512 (whole-run .acts) d
+  abbrev pub exit : FrameBench
+  exit = actedAll m95512 (whole-run .acts) d
 
   some-bytes : length bytes ≡ 0 → ⊥
   some-bytes e = let c = g .carries in omega arith
 
-  follows : (played m95512 (pollsOn m95512 i (limit - 1) d) d ≡ rested) × (sent (pollsOn m95512 i (limit - 1) d) + 1 ≡ first)
+  follows : (actedAll m95512 (pollsOn m95512 i (limit - 1) d) d ≡ rested) × (sent (pollsOn m95512 i (limit - 1) d) + 1 ≡ first)
   follows = let f = first-wait i limit d d refl in (f .leaves, f .counts)
 
   cycle-some : 0 < d .core .cycle
@@ -95,13 +95,13 @@ module _ (i limit a : ℕ) (bytes : List ℕ) (d : Device) (g : Given i limit a 
   pub rests-idle : running (d .core) ≡ false → Rests 1
   rests-idle e =
       let none = polls-on-free m95512 i d (limit - 1) e in
-      let same : d ≡ rested = sym (ap (λ acts. played m95512 acts d) none) ∙ follows .0 in
+      let same : d ≡ rested = sym (ap (λ acts. actedAll m95512 acts d) none) ∙ follows .0 in
       record {
         frames-first = omega (arith, follows .1, ap sent none);
-        left = sym (ap (λ (x : Device). x .core .left) same) ∙ (let z = ltb-false 0 (d .core .left) e in omega arith);
-        low = subst (λ (x : Device). x .core .last < 2 ^ 32) same (g .low);
-        cycle = sym (ap (λ (x : Device). x .core .cycle) same);
-        memory = sym (ap (λ (x : Device). x .memory) same) ∙ sym (at-no _ _ e);
+        left = sym (ap (λ (x : FrameBench). x .core .left) same) ∙ (let z = ltb-false 0 (d .core .left) e in omega arith);
+        low = subst (λ (x : FrameBench). x .core .last < 2 ^ 32) same (g .low);
+        cycle = sym (ap (λ (x : FrameBench). x .core .cycle) same);
+        memory = sym (ap (λ (x : FrameBench). x .memory) same) ∙ sym (at-no _ _ e);
       }
 
   -- the cycle of a record keeps its length when it ends
@@ -116,10 +116,10 @@ module _ (i limit a : ℕ) (bytes : List ℕ) (d : Device) (g : Given i limit a 
       let o = w .over in
       record {
         frames-first = omega (arith, follows .1, w .polls);
-        left = sym (ap (λ (x : Device). x .core .left) (follows .0)) ∙ ap (λ (c : Core). c .left) (o .core);
-        low = subst (λ (x : Device). x .core .last < 2 ^ 32) (follows .0) (rw (ap (λ (c : Core). c .last) (o .core)) (o .low));
-        cycle = sym (ap (λ (x : Device). x .core .cycle) (follows .0)) ∙ ap (λ (c : Core). c .cycle) (o .core) ∙ ended-cycle (d .core);
-        memory = sym (ap (λ (x : Device). x .memory) (follows .0)) ∙ o .memory ∙ sym (at-yes _ _ e);
+        left = sym (ap (λ (x : FrameBench). x .core .left) (follows .0)) ∙ ap (λ (c : Core). c .left) (o .core);
+        low = subst (λ (x : FrameBench). x .core .last < 2 ^ 32) (follows .0) (rw (ap (λ (c : Core). c .last) (o .core)) (o .low));
+        cycle = sym (ap (λ (x : FrameBench). x .core .cycle) (follows .0)) ∙ ap (λ (c : Core). c .cycle) (o .core) ∙ ended-cycle (d .core);
+        memory = sym (ap (λ (x : FrameBench). x .memory) (follows .0)) ∙ o .memory ∙ sym (at-yes _ _ e);
       }
 
   -- one runs, and they do not: 9 with no page done, the limit's frames sent, and only time moved
@@ -135,17 +135,17 @@ module _ (i limit a : ℕ) (bytes : List ℕ) (d : Device) (g : Given i limit a 
   first-late few =
       let w = late i (g .interval-some) (g .interval-most) (limit - 1) d (g .low) few in
       let some = g .limit-some in
-      let left : rested .core .left ≡ d .core .left - (limit - 1) * i = sym (ap (λ (x : Device). x .core .left) (follows .0)) ∙ ap (λ (c : Core). c .left) (w .runs .core) in
+      let left : rested .core .left ≡ d .core .left - (limit - 1) * i = sym (ap (λ (x : FrameBench). x .core .left) (follows .0)) ∙ ap (λ (c : Core). c .left) (w .runs .core) in
       let runs : 0 < rested .core .left = omega arith in
       let r : whole-run ≡ stopped (firstWait m95512 i limit d) timedOut = run-late m95512 i limit a bytes d some-bytes (lt-ltb _ _ runs) in
-      let y = ap (λ (x : Run). played m95512 (x .acts) d) r in
+      let y = ap (λ (x : Run). actedAll m95512 (x .acts) d) r in
       record {
         ending = ap (λ (x : Run). x .ending) r;
         pages = ap (λ (x : Run). x .pages) r;
         frames = ap (λ (x : Run). sent (x .acts)) r ∙ omega (arith, follows .1, w .polls);
-        left = ap (λ (x : Device). x .core .left) y ∙ left;
-        runs = rw (ap (λ (x : Device). x .core .left) y) runs;
-        memory = ap (λ (x : Device). x .memory) y ∙ sym (ap (λ (x : Device). x .memory) (follows .0)) ∙ w .runs .memory;
+        left = ap (λ (x : FrameBench). x .core .left) y ∙ left;
+        runs = rw (ap (λ (x : FrameBench). x .core .left) y) runs;
+        memory = ap (λ (x : FrameBench). x .memory) y ∙ sym (ap (λ (x : FrameBench). x .memory) (follows .0)) ∙ w .runs .memory;
       }
 
   -- ---- after a first wait that ends: the cells of the pages done, every other cell as it is, and what the ending says
@@ -156,8 +156,8 @@ module _ (i limit a : ℕ) (bytes : List ℕ) (d : Device) (g : Given i limit a 
   pub record Leaving (n : ℕ) (r : Run) : Type 0 where
     pub frames : ℕ
     pub counts : sent (r .acts) ≡ n + frames
-    pub memory : played m95512 (r .acts) d .memory ≡ overwritten a (pieces 65536 128 a bytes (r .pages)) (onceEnded m95512 (d .core) (d .memory))
-    pub meaning : Meaning m95512 i limit a (length bytes) (rested .core) (r .ending) parts 0 (r .pages) frames (played m95512 (r .acts) d .core)
+    pub memory : actedAll m95512 (r .acts) d .memory ≡ overwritten a (pieces 65536 128 a bytes (r .pages)) (onceEnded m95512 (d .core) (d .memory))
+    pub meaning : Meaning m95512 i limit a (length bytes) (rested .core) (r .ending) parts 0 (r .pages) frames (actedAll m95512 (r .acts) d .core)
 
   pub run-leaves : (n : ℕ) → Rests n → Leaving n whole-run
   run-leaves n r =
@@ -177,13 +177,13 @@ module _ (i limit a : ℕ) (bytes : List ℕ) (d : Device) (g : Given i limit a 
       let all = allParts m95512 i limit a bytes rested in
       let there : begun (firstWait m95512 i limit d) all ≡ whole-run = sym (run-parts m95512 i limit a bytes d some-bytes still) in
       let count-from : 0 + all .pages ≡ all .pages = omega arith in
-      let y : played m95512 (all .acts) rested ≡ played m95512 (begun (firstWait m95512 i limit d) all .acts) d = sym (played-append m95512 (firstWait m95512 i limit d) (all .acts) d) in
+      let y : actedAll m95512 (all .acts) rested ≡ actedAll m95512 (begun (firstWait m95512 i limit d) all .acts) d = sym (played-append m95512 (firstWait m95512 i limit d) (all .acts) d) in
       subst (λ (x : Run). Leaving n x) there
       (record {
         frames = sent (all .acts);
         counts = sent-append (firstWait m95512 i limit d) (all .acts) ∙ ap (λ (k : ℕ). k + sent (all .acts)) (r .frames-first);
-        memory = sym (ap (λ (x : Device). x .memory) y) ∙ l .0 ∙ ap (λ (k : ℕ). overwritten a (pieces 65536 128 a bytes k) (rested .memory)) count-from ∙ ap (overwritten a (pieces 65536 128 a bytes (all .pages))) (r .memory);
-        meaning = subst (λ (x : Device). Meaning m95512 i limit a (length bytes) (rested .core) (all .ending) parts 0 (all .pages) (sent (all .acts)) (x .core)) y (l .1);
+        memory = sym (ap (λ (x : FrameBench). x .memory) y) ∙ l .0 ∙ ap (λ (k : ℕ). overwritten a (pieces 65536 128 a bytes k) (rested .memory)) count-from ∙ ap (overwritten a (pieces 65536 128 a bytes (all .pages))) (r .memory);
+        meaning = subst (λ (x : FrameBench). Meaning m95512 i limit a (length bytes) (rested .core) (all .ending) parts 0 (all .pages) (sent (all .acts)) (x .core)) y (l .1);
       })
 
   -- ---- one of the two for every input

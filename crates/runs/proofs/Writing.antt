@@ -22,7 +22,7 @@ use Rattle.chip.specs.declared.Core.{Core}
 use Rattle.chip.proofs.Passing.{on-core, no-end}
 use Rattle.frames.specs.Bytes.{address, written}
 use Rattle.frames.specs.After.{judged, after}
-use Rattle.frames.specs.Play.{Act, Device, played}
+use Rattle.frames.specs.Play.{Act, FrameBench, actedAll}
 use Rattle.driver.specs.Sequence.{sent, writeBytes, latePoll, pollsOn, pageWait, wrenAndWrite, pageActs}
 use Rattle.runs.specs.Counts.{roundedUp}
 use Rattle.driver.proofs.Playing.{played-append, sent-append}
@@ -82,20 +82,20 @@ abbrev pub settled : ℕ → Core → Core
 settled t c = withTime t 0 (withoutCycle m95512 c)
 
 -- a wait of a device in which a cycle runs is polls while it does
-wait-running : (i limit : ℕ) (d : Device) → 1 ≤ limit → running (d .core) ≡ true → pageWait m95512 i limit d ≡ pollsOn m95512 i limit d
+wait-running : (i limit : ℕ) (d : FrameBench) → 1 ≤ limit → running (d .core) ≡ true → pageWait m95512 i limit d ≡ pollsOn m95512 i limit d
 unfolding pageWait pollsOn
 wait-running i limit d h r =
     let one : limit ≡ suc (limit - 1) = omega arith in
     sym (ap (λ (n : ℕ). pollsOn m95512 i n d) one ∙ at-yes _ _ r)
 
-module _ (i limit : ℕ) (some : 0 < i) (small : i ≤ 5000) (polls : 1 ≤ limit) (d : Device) (low : d .core .last < 2 ^ 32) (none : d .core .left ≡ 0)
+module _ (i limit : ℕ) (some : 0 < i) (small : i ≤ 5000) (polls : 1 ≤ limit) (d : FrameBench) (low : d .core .last < 2 ^ 32) (none : d .core .left ≡ 0)
     (cycle : 0 < d .core .cycle) (a : ℕ) (bytes : List ℕ) (inside : a < 65536) (carries : 0 < length bytes) where
   idle : running (d .core) ≡ false
   idle = le-ltb 0 (d .core .left) (omega arith)
 
   -- after WREN and WRITE
-  abbrev begun : Device
-  begun = played m95512 (wrenAndWrite m95512 a bytes) d
+  abbrev begun : FrameBench
+  begun = actedAll m95512 (wrenAndWrite m95512 a bytes) d
 
   abbrev enabled : Core
   enabled = withWel 1 (d .core)
@@ -110,14 +110,14 @@ module _ (i limit : ℕ) (some : 0 < i) (small : i ≤ 5000) (polls : 1 ≤ limi
   abbrev pub acts : List Act
   acts = pageActs m95512 i limit a bytes d
 
-  abbrev pub left : Device
-  left = played m95512 acts d
+  abbrev pub left : FrameBench
+  left = actedAll m95512 acts d
 
   counted : (n : ℕ) → sent (pageWait m95512 i limit begun) ≡ n → sent acts ≡ 2 + n
   unfolding pageActs
   counted n e = omega (arith, sent-append (wrenAndWrite m95512 a bytes) (pageWait m95512 i limit begun), e)
 
-  leaves : left ≡ played m95512 (pageWait m95512 i limit begun) begun
+  leaves : left ≡ actedAll m95512 (pageWait m95512 i limit begun) begun
   unfolding pageActs
   leaves = played-append m95512 (wrenAndWrite m95512 a bytes) (pageWait m95512 i limit begun) d
 
@@ -145,13 +145,13 @@ module _ (i limit : ℕ) (some : 0 < i) (small : i ≤ 5000) (polls : 1 ≤ limi
       let last : begun .core .last ≡ d .core .last = ap (λ (x : Core). x .last) c in
       let wait = wait-running i limit begun polls busy in
       let w = waited i some small limit begun (rw last low) (rw total cycle) (rw total enough) in
-      let y = leaves ∙ ap (λ (l : List Act). played m95512 l begun) wait in
+      let y = leaves ∙ ap (λ (l : List Act). actedAll m95512 l begun) wait in
       record {
         frames = counted _ (ap sent wait ∙ w .polls ∙ ap (λ (n : ℕ). roundedUp n i) total);
         read = w .over .read;
         read-low = w .over .low;
-        core = ap (λ (x : Device). x .core) y ∙ w .over .core ∙ ap (λ (x : Core). withTime (w .over .read) 0 (ended m95512 x)) c;
-        memory = ap (λ (x : Device). x .memory) y ∙ w .over .memory ∙ ap (λ (x : Core). endedMemory m95512 x (d .memory)) c;
+        core = ap (λ (x : FrameBench). x .core) y ∙ w .over .core ∙ ap (λ (x : Core). withTime (w .over .read) 0 (ended m95512 x)) c;
+        memory = ap (λ (x : FrameBench). x .memory) y ∙ w .over .memory ∙ ap (λ (x : Core). endedMemory m95512 x (d .memory)) c;
       }
 
   -- ---- it is taken, and they do not: its cycle still runs
@@ -170,12 +170,12 @@ module _ (i limit : ℕ) (some : 0 < i) (small : i ≤ 5000) (polls : 1 ≤ limi
       let last : begun .core .last ≡ d .core .last = ap (λ (x : Core). x .last) c in
       let wait = wait-running i limit begun polls busy in
       let w = late i some small limit begun (rw last low) (rw total few) in
-      let y = leaves ∙ ap (λ (l : List Act). played m95512 l begun) wait in
+      let y = leaves ∙ ap (λ (l : List Act). actedAll m95512 l begun) wait in
       record {
         frames = counted _ (ap sent wait ∙ w .polls);
         read = w .runs .read;
-        core = ap (λ (x : Device). x .core) y ∙ w .runs .core ∙ ap (λ (n : ℕ). withTime (w .runs .read) (n - limit * i) (begun .core)) total ∙ ap (withTime (w .runs .read) (d .core .cycle - limit * i)) c;
-        memory = ap (λ (x : Device). x .memory) y ∙ w .runs .memory;
+        core = ap (λ (x : FrameBench). x .core) y ∙ w .runs .core ∙ ap (λ (n : ℕ). withTime (w .runs .read) (n - limit * i) (begun .core)) total ∙ ap (withTime (w .runs .read) (d .core .cycle - limit * i)) c;
+        memory = ap (λ (x : FrameBench). x .memory) y ∙ w .runs .memory;
       }
 
   -- ---- it is protected: not taken, and one poll sees it
@@ -194,14 +194,14 @@ module _ (i limit : ℕ) (some : 0 < i) (small : i ≤ 5000) (polls : 1 ≤ limi
       let free : running (begun .core) ≡ false = ap running c ∙ idle in
       let still : ends t (begun .core) ≡ false = and-no-left (running (begun .core)) _ free in
       let spent : begun .core .left - elapsed (begun .core .last) t ≡ 0 = omega (arith, ap (λ (x : Core). x .left) c) in
-      let x = played m95512 (latePoll i begun) begun in
+      let x = actedAll m95512 (latePoll i begun) begun in
       let core : x .core ≡ withTime t 0 enabled =
       poll-leaves (timed m95512 t (begun .core)) ∙ on-core m95512 t (begun .core) still ∙ ap (λ (n : ℕ). withTime t n (begun .core)) spent ∙ ap (withTime t 0) c in
       let over = polls-on-free m95512 i x (limit - 1) (ap running core) in
-      let y : left ≡ x = leaves ∙ played-append m95512 (latePoll i begun) (pollsOn m95512 i (limit - 1) x) begun ∙ ap (λ (l : List Act). played m95512 l x) over in
+      let y : left ≡ x = leaves ∙ played-append m95512 (latePoll i begun) (pollsOn m95512 i (limit - 1) x) begun ∙ ap (λ (l : List Act). actedAll m95512 l x) over in
       record {
         frames = counted 1 (sent-append (latePoll i begun) (pollsOn m95512 i (limit - 1) x) ∙ omega (arith, ap sent over));
         read = t;
-        core = ap (λ (z : Device). z .core) y ∙ core;
-        memory = ap (λ (z : Device). z .memory) y ∙ no-end m95512 t (begun .core) (d .memory) still;
+        core = ap (λ (z : FrameBench). z .core) y ∙ core;
+        memory = ap (λ (z : FrameBench). z .memory) y ∙ no-end m95512 t (begun .core) (d .memory) still;
       }

@@ -7,7 +7,7 @@ use native.Mathlib.Omega.{arith}
 use lib.ListN.{length, take, drop, length-drop}
 use lib.Seq.{take-add, length-take-le}
 use Rattle.chip.specs.Part.{m95512}
-use Rattle.pins.specs.Answers.{Bench, played}
+use Rattle.pins.specs.Answers.{PinBench, played}
 use Rattle.lists.specs.Answers.{playedQ}
 use Rattle.lines.specs.declared.Line.{Line}
 use Rattle.lines.specs.Reading.{read, found, lineFits}
@@ -17,7 +17,7 @@ use Rattle.trace.proofs.Puts.{printed-append}
 use Rattle.trace.specs.Chunks.{playedLines, shownLines}
 use Rattle.trace.proofs.Plays.{played-append, playedQ-append, playedQ-length}
 
-module _ (l : Line) (b : Bench) where
+module _ (l : Line) (b : PinBench) where
   pub played-nothing : playedLines l b [] ≡ b
   unfolding playedLines found played
   played-nothing = refl
@@ -49,7 +49,7 @@ take-on x i e h = let n : e ≡ i + (e - i) = omega arith in ap (λ (k : ℕ). t
 pub part-length : {A : Type 0} (x : List A) (i e : ℕ) → i ≤ e → e ≤ length x → length (take (e - i) (drop i x)) ≡ e - i
 part-length x i e h k = length-take-le (e - i) (drop i x) (rw length-drop (omega arith))
 
-module _ (l : Line) (b : Bench) (x : List ℕ) (i e : ℕ) (h : i ≤ e) (hand : Line) (c : Bench) (p : hand ≡ read l (take i x)) (q : c ≡ playedLines l b (take i x)) where
+module _ (l : Line) (b : PinBench) (x : List ℕ) (i e : ℕ) (h : i ≤ e) (hand : Line) (c : PinBench) (p : hand ≡ read l (take i x)) (q : c ≡ playedLines l b (take i x)) where
   pub turn-line : read hand (take (e - i) (drop i x)) ≡ read l (take e x)
   turn-line = rw (p, take-on x i e h) (sym (read-append l (take i x) (take (e - i) (drop i x))))
 

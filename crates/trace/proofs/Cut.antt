@@ -10,7 +10,7 @@ use borrow.Author.Tests.{eqb-true, eqb-false, ne-eqb}
 use Rattle.laws.specs.Pick.{pick}
 use Rattle.laws.specs.And.{and-3-in}
 use Rattle.chip.specs.Part.{m95512}
-use Rattle.pins.specs.Answers.{Bench, played}
+use Rattle.pins.specs.Answers.{PinBench, played}
 use Rattle.lists.specs.Answers.{playedQ}
 use Rattle.pins.specs.Ranges.{deviceFits}
 use Rattle.rules.proofs.Sound.{m95512-sound}
@@ -36,11 +36,11 @@ unfolding pick badLineBetween
 bad-same a b c n k = rw (ne-eqb (a .place) 5 n, ne-eqb (b .place) 5 k) refl
 
 -- after a bad line nothing is shown, and there is no second one
-shown-still : (l : Line) (b : Bench) (x : List ℕ) → l .place ≡ 5 → shownLines l b x ≡ []
+shown-still : (l : Line) (b : PinBench) (x : List ℕ) → l .place ≡ 5 → shownLines l b x ≡ []
 unfolding shownLines playedQ printed
 shown-still l b x e = rw (found-still l x e) refl
 
-module _ (l : Line) (b : Bench) (f : lineFits l ≡ true) (x y : List ℕ) where
+module _ (l : Line) (b : PinBench) (f : lineFits l ≡ true) (x y : List ℕ) where
   -- the lines of two chunks, each with its bad line, are those of both
   both : (shownLines l b x ++ badLineBetween l (read l x)) ++ (shownLines (read l x) (playedLines l b x) y ++ badLineBetween (read l x) (read (read l x) y))
       ≡ shownLines l b (x ++ y) ++ badLineBetween l (read l (x ++ y))
@@ -67,7 +67,7 @@ module _ (l : Line) (b : Bench) (f : lineFits l ≡ true) (x y : List ℕ) where
 
 -- ---- two chunks are one
 
-abbrev soFar : Line → Bench → List ℕ → SoFar
+abbrev soFar : Line → PinBench → List ℕ → SoFar
 soFar l b o = record { player = playerOf 1 l b; memory = b .memory; output = o }
 
 two-chunks : (t : SoFar) → lineFits (t .player .line) ≡ true → (x y : List ℕ) → afterChunk (afterChunk t x) y ≡ afterChunk t (x ++ y)
@@ -83,7 +83,7 @@ two-chunks t f x y =
     append-assoc (t .output) (chunkOutput p (t .memory) x) _
     ∙ ap (λ (k : List ℕ). t .output ++ k) (append-assoc (headed p) (shownLines l b x ++ badLineBetween l (read l x)) _ ∙ ap (λ (k : List ℕ). headed p ++ k) (both l b f x y)) in
     ap (λ (k : Line). soFar k (playedLines (read l x) (playedLines l b x) y) two) lines
-    ∙ ap (λ (k : Bench). soFar (read l (x ++ y)) k two) bench
+    ∙ ap (λ (k : PinBench). soFar (read l (x ++ y)) k two) bench
     ∙ ap (soFar (read l (x ++ y)) (playedLines l b (x ++ y))) out
 
 -- .. and so are any number of them

@@ -11,7 +11,7 @@ use Rattle.pins.specs.declared.Device.{Device}
 use Rattle.pins.specs.declared.Stepped.{Stepped}
 use Rattle.pins.specs.Devices.{q}
 use Rattle.edges.specs.Falling.{levelNumber}
-use Rattle.pins.specs.Answers.{Bench, answer, answerMemory, afterEvent, played}
+use Rattle.pins.specs.Answers.{PinBench, answer, answerMemory, afterEvent, played}
 use Rattle.lists.specs.Answers.{playedQ}
 
 pub done-device : {o : Outcome} {r : Stepped} (y x : Device) → o ≡ Done → r ≡ answer o y x → r .device ≡ y
@@ -25,17 +25,17 @@ done-memory n m k e q = rw (q, e) refl
 -- ---- one list after another
 
 module _ (P : Part) where
-  pub played-append : (es fs : List ℕ) (b : Bench) → played P (es ++ fs) b ≡ played P fs (played P es b)
+  pub played-append : (es fs : List ℕ) (b : PinBench) → played P (es ++ fs) b ≡ played P fs (played P es b)
   unfolding played
   played-append [] fs b = refl
   played-append (e ∷ es) fs b = played-append es fs (afterEvent P e b)
 
-  pub playedQ-append : (es fs : List ℕ) (b : Bench) → playedQ P (es ++ fs) b ≡ playedQ P es b ++ playedQ P fs (played P es b)
+  pub playedQ-append : (es fs : List ℕ) (b : PinBench) → playedQ P (es ++ fs) b ≡ playedQ P es b ++ playedQ P fs (played P es b)
   unfolding played playedQ
   playedQ-append [] fs b = refl
   playedQ-append (e ∷ es) fs b = ap (λ (l : List ℕ). levelNumber (q (afterEvent P e b .device)) ∷ l) (playedQ-append es fs (afterEvent P e b))
 
-  pub playedQ-length : (es : List ℕ) (b : Bench) → length (playedQ P es b) ≡ length es
+  pub playedQ-length : (es : List ℕ) (b : PinBench) → length (playedQ P es b) ≡ length es
   unfolding playedQ
   playedQ-length [] b = refl
   playedQ-length (e ∷ es) b = ap suc (playedQ-length es (afterEvent P e b))

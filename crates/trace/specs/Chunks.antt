@@ -11,7 +11,7 @@ use Rattle.chip.specs.declared.Refusal.{Refusal}
 use Rattle.chip.specs.declared.Refusal.the-variants.{MemoryLength, RecordRange, OutputLength}
 use Rattle.pins.specs.declared.Device.{Device}
 use Rattle.pins.specs.Ranges.{deviceFits}
-use Rattle.pins.specs.Answers.{Bench, played}
+use Rattle.pins.specs.Answers.{PinBench, played, pinBench}
 use Rattle.lists.specs.Answers.{playedQ}
 use Rattle.lines.specs.declared.Line.{Line}
 use Rattle.lines.specs.Reading.{fresh, isStopped, read, found, ended, lineFits}
@@ -23,7 +23,7 @@ use Rattle.trace.specs.declared.Answer.the-variants.{Played, BadLine, Re
 use Rattle.trace.specs.declared.Fed.{Fed}
 use Rattle.trace.specs.Texts.{startBench, header}
 
-abbrev pub playerOf : ℕ → Line → Bench → Player
+abbrev pub playerOf : ℕ → Line → PinBench → Player
 playerOf headed l b = record { headed = headed; line = l; device = b .device }
 
 -- before the first byte
@@ -43,21 +43,18 @@ headed p = headedBy (p .headed)
 unfoldable pub badLineBetween : Line → Line → List ℕ
 badLineBetween a b = pick (isStopped a) [] (pick (isStopped b) (badLine (b .whole + 1)) [])
 
-abbrev pub benchWith : Device → List ℕ → Bench
-benchWith x m = record { device = x; memory = m }
-
-abbrev pub benchOf : Player → List ℕ → Bench
-benchOf p m = benchWith (p .device) m
+abbrev pub benchOf : Player → List ℕ → PinBench
+benchOf p m = pinBench (p .device) m
 
 -- the device and the memory after the lines that end in the bytes x, from the line l in hand on
-unfoldable pub playedLines : Line → Bench → List ℕ → Bench
+unfoldable pub playedLines : Line → PinBench → List ℕ → PinBench
 playedLines l b x = played m95512 (found l x) b
 
 -- those lines, with Q after each
-unfoldable pub shownLines : Line → Bench → List ℕ → List ℕ
+unfoldable pub shownLines : Line → PinBench → List ℕ → List ℕ
 shownLines l b x = printed (l .whole + 1) (playedQ m95512 (found l x) b)
 
-abbrev pub chunkBench : Player → List ℕ → List ℕ → Bench
+abbrev pub chunkBench : Player → List ℕ → List ℕ → PinBench
 chunkBench p m x = playedLines (p .line) (benchOf p m) x
 
 abbrev pub chunkPlayer : Player → List ℕ → List ℕ → Player

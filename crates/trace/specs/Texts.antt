@@ -8,7 +8,7 @@ use Rattle.laws.specs.Pick.{pick}
 use Rattle.chip.specs.Part.{m95512}
 use Rattle.chip.specs.Power.{delivered, deliveredMemory}
 use Rattle.pins.specs.Devices.{resting}
-use Rattle.pins.specs.Answers.{Bench, played}
+use Rattle.pins.specs.Answers.{PinBench, played, pinBench}
 use Rattle.lists.specs.Answers.{playedQ}
 use Rattle.lines.specs.Lines.{Said, event, bad, isEmpty, lineSays}
 use Rattle.trace.specs.Printing.{badLine, printed}
@@ -50,11 +50,11 @@ textIsBad text = hasBad 1000000 text
 
 -- ---- the bench that they are played on: the device as delivered, cycle length 5,000 and reading 0, and every byte FFh
 
-abbrev pub startBench : Bench
-startBench = record { device = resting m95512 (delivered m95512); memory = deliveredMemory m95512 }
+abbrev pub startBench : PinBench
+startBench = pinBench (resting m95512 (delivered m95512)) (deliveredMemory m95512)
 
 -- the device and the memory after the last good line
-abbrev pub textBench : List ℕ → Bench
+abbrev pub textBench : List ℕ → PinBench
 textBench text = played m95512 (textEvents text) startBench
 
 -- ---- the output

@@ -5,13 +5,13 @@ ghost use Prim.Native.Nat.{_+_, _*_, _<_, _≤_};
 ghost use lib.ListN.{length};
 ghost use lib.Dec.{leb};
 ghost use Rattle.chip.specs.Part.{m95512};
-ghost use Rattle.pins.specs.Answers.{played};
+ghost use Rattle.pins.specs.Answers.{played, pinBench};
 ghost use Rattle.lists.specs.Answers.{playedQ};
 ghost use Rattle.pins.specs.Ranges.{deviceFits};
 ghost use Rattle.trace.specs.Printing.{printed};
 ghost use Rattle.lines.specs.Reading.{read, lineFits};
 ghost use Rattle.trace.specs.Put.{put};
-ghost use Rattle.trace.specs.Chunks.{headFits, headedBy, takenBy, endedBy, refusedTo, badLineBetween, benchWith, playedLines, shownLines, chunkBench, chunkOutput, playerFits, answerOf, room, endOutput};
+ghost use Rattle.trace.specs.Chunks.{headFits, headedBy, takenBy, endedBy, refusedTo, badLineBetween, playedLines, shownLines, chunkBench, chunkOutput, playerFits, answerOf, room, endOutput};
 use crate::Answer;
 use crate::Fed;
 use crate::Player;
@@ -34,9 +34,9 @@ fn marked(device: Device) -> bool
 // What playing some events leaves: the pin model's promise for a list, where nothing is refused.
 fn play_some(device: Device, memory: &mut [u8], events: &[u64], qs: &mut [u8]) -> Device
     requires { ⌜ (length (now memory) ≡ 65536) × (deviceFits m95512 device ≡ true) × (length (now qs) ≡ length (now events)) ⌝ }
-    ensures { λ r. ⌜ r ≡ played m95512 (now (events .entry)) (benchWith device (now (memory .entry))) .device ⌝ }
-    ensures { λ _. ⌜ now (memory .exit) ≡ played m95512 (now (events .entry)) (benchWith device (now (memory .entry))) .memory ⌝ }
-    ensures { λ _. ⌜ now (qs .exit) ≡ playedQ m95512 (now (events .entry)) (benchWith device (now (memory .entry))) ⌝ }
+    ensures { λ r. ⌜ r ≡ played m95512 (now (events .entry)) (pinBench device (now (memory .entry))) .device ⌝ }
+    ensures { λ _. ⌜ now (memory .exit) ≡ played m95512 (now (events .entry)) (pinBench device (now (memory .entry))) .memory ⌝ }
+    ensures { λ _. ⌜ now (qs .exit) ≡ playedQ m95512 (now (events .entry)) (pinBench device (now (memory .entry))) ⌝ }
     ensures { λ r. ⌜ deviceFits m95512 r ≡ true ⌝ }
 {
     marked(device);
@@ -61,10 +61,10 @@ fn show(
     n: u32,
 ) -> Shown
     requires { ⌜ (length (now memory) ≡ 65536) × (deviceFits m95512 device ≡ true) × (length (now qs) ≡ length (now events)) × (at + 10 * length (now events) ≤ length (now out)) × (n + length (now events) ≤ 1000001) ⌝ }
-    ensures { λ r. ⌜ (r .device ≡ played m95512 (now (events .entry)) (benchWith device (now (memory .entry))) .device) × (deviceFits m95512 (r .device) ≡ true) ⌝ }
-    ensures { λ _. ⌜ now (memory .exit) ≡ played m95512 (now (events .entry)) (benchWith device (now (memory .entry))) .memory ⌝ }
-    ensures { λ _. ⌜ now (out .exit) ≡ put (now (out .entry)) at (printed n (playedQ m95512 (now (events .entry)) (benchWith device (now (memory .entry))))) ⌝ }
-    ensures { λ r. ⌜ (r .at ≡ at + length (printed n (playedQ m95512 (now (events .entry)) (benchWith device (now (memory .entry)))))) × (r .at ≤ at + 10 * length (now (events .entry))) ⌝ }
+    ensures { λ r. ⌜ (r .device ≡ played m95512 (now (events .entry)) (pinBench device (now (memory .entry))) .device) × (deviceFits m95512 (r .device) ≡ true) ⌝ }
+    ensures { λ _. ⌜ now (memory .exit) ≡ played m95512 (now (events .entry)) (pinBench device (now (memory .entry))) .memory ⌝ }
+    ensures { λ _. ⌜ now (out .exit) ≡ put (now (out .entry)) at (printed n (playedQ m95512 (now (events .entry)) (pinBench device (now (memory .entry))))) ⌝ }
+    ensures { λ r. ⌜ (r .at ≡ at + length (printed n (playedQ m95512 (now (events .entry)) (pinBench device (now (memory .entry)))))) × (r .at ≤ at + 10 * length (now (events .entry))) ⌝ }
 {
     let next = play_some(device, memory, events, qs);
     let end = print(out, at, n, qs);
@@ -94,10 +94,10 @@ fn piece(
 ) -> Placed
     requires { ⌜ (length (now memory) ≡ 65536) × (deviceFits m95512 device ≡ true) × (lineFits line ≡ true) × (length (now text) ≤ length (now events)) × (length (now text) ≤ length (now qs)) × (at + 10 * length (now text) ≤ length (now out)) ⌝ }
     ensures { λ r. ⌜ (r .line ≡ read line (now (text .entry))) × (lineFits (r .line) ≡ true) ⌝ }
-    ensures { λ r. ⌜ (r .device ≡ playedLines line (benchWith device (now (memory .entry))) (now (text .entry)) .device) × (deviceFits m95512 (r .device) ≡ true) ⌝ }
-    ensures { λ _. ⌜ now (memory .exit) ≡ playedLines line (benchWith device (now (memory .entry))) (now (text .entry)) .memory ⌝ }
-    ensures { λ _. ⌜ now (out .exit) ≡ put (now (out .entry)) at (shownLines line (benchWith device (now (memory .entry))) (now (text .entry))) ⌝ }
-    ensures { λ r. ⌜ (r .at ≡ at + length (shownLines line (benchWith device (now (memory .entry))) (now (text .entry)))) × (r .at ≤ at + 10 * length (now (text .entry))) ⌝ }
+    ensures { λ r. ⌜ (r .device ≡ playedLines line (pinBench device (now (memory .entry))) (now (text .entry)) .device) × (deviceFits m95512 (r .device) ≡ true) ⌝ }
+    ensures { λ _. ⌜ now (memory .exit) ≡ playedLines line (pinBench device (now (memory .entry))) (now (text .entry)) .memory ⌝ }
+    ensures { λ _. ⌜ now (out .exit) ≡ put (now (out .entry)) at (shownLines line (pinBench device (now (memory .entry))) (now (text .entry))) ⌝ }
+    ensures { λ r. ⌜ (r .at ≡ at + length (shownLines line (pinBench device (now (memory .entry))) (now (text .entry)))) × (r .at ≤ at + 10 * length (now (text .entry))) ⌝ }
 {
     let parsed = parse(line, text, events);
     let count = parsed.count;
@@ -154,10 +154,10 @@ fn pieces(
 ) -> Placed
     requires { ⌜ (length (now memory) ≡ 65536) × (deviceFits m95512 device ≡ true) × (lineFits line ≡ true) × (at + 10 * length (now text) ≤ length (now out)) ⌝ }
     ensures { λ r. ⌜ (r .line ≡ read line (now (text .entry))) × (lineFits (r .line) ≡ true) ⌝ }
-    ensures { λ r. ⌜ r .device ≡ playedLines line (benchWith device (now (memory .entry))) (now (text .entry)) .device ⌝ }
-    ensures { λ _. ⌜ now (memory .exit) ≡ playedLines line (benchWith device (now (memory .entry))) (now (text .entry)) .memory ⌝ }
-    ensures { λ _. ⌜ now (out .exit) ≡ put (now (out .entry)) at (shownLines line (benchWith device (now (memory .entry))) (now (text .entry))) ⌝ }
-    ensures { λ r. ⌜ (r .at ≡ at + length (shownLines line (benchWith device (now (memory .entry))) (now (text .entry)))) × (r .at ≤ at + 10 * length (now (text .entry))) ⌝ }
+    ensures { λ r. ⌜ r .device ≡ playedLines line (pinBench device (now (memory .entry))) (now (text .entry)) .device ⌝ }
+    ensures { λ _. ⌜ now (memory .exit) ≡ playedLines line (pinBench device (now (memory .entry))) (now (text .entry)) .memory ⌝ }
+    ensures { λ _. ⌜ now (out .exit) ≡ put (now (out .entry)) at (shownLines line (pinBench device (now (memory .entry))) (now (text .entry))) ⌝ }
+    ensures { λ r. ⌜ (r .at ≡ at + length (shownLines line (pinBench device (now (memory .entry))) (now (text .entry)))) × (r .at ≤ at + 10 * length (now (text .entry))) ⌝ }
 {
     let mut events = event_room();
     let mut qs = level_room();

@@ -3,9 +3,9 @@ use native.Mathlib.Omega.{arith}
 use lib.ListN.{length}
 use Rattle.chip.specs.Part.{m95512}
 use Rattle.chip.specs.Ranges.{inRanges}
-use Rattle.frames.specs.Play.{Device}
+use Rattle.frames.specs.Play.{FrameBench, frameBench}
 use Rattle.driver.specs.Sequence.{firstWait}
-use Rattle.driver.proofs.Ready.{device-of, ready-played}
+use Rattle.driver.proofs.Ready.{bench-of, ready-played}
 use Rattle.driver.proofs.Joined.{first-most}
 use Rattle.driver.proofs.Seen.{seen-wip}
 use Rattle.driver.proofs.Drives.{rested, drove-none, drove-late, drove-parts}
@@ -23,7 +23,7 @@ returns : tie.Need-returns
 returns c =
     let start = c .before .before .before in
     let a = start .args in
-    let d : Device = record { core = a .core; memory = a .memory .now } in
+    let d : FrameBench = frameBench (a .core) (a .memory .now) in
     drove-none m95512 (a .interval) (a .limit) (a .address) (a .bytes .now) d (c .if1 .taken)
 
 -- src/lib.rt:56:9
@@ -43,10 +43,10 @@ returns-2 : tie.Need-returns-2
 returns-2 c =
     let start = c .before .before .before .before .before .before .before .before .before .before in
     let a = start .args in
-    let d : Device = record { core = a .core; memory = a .memory .now } in
+    let d : FrameBench = frameBench (a .core) (a .memory .now) in
     let wait = c .before .before .before .before .before .first-wait in
-    let y : Device = record { core = wait .result .core; memory = wait .last .1 .0 } in
-    let e = device-of (rested m95512 (a .interval) (a .limit) (a .address) (a .bytes .now) d) (wait .ensures .0) (wait .ensures .1 .1 .1) in
+    let y : FrameBench = frameBench (wait .result .core) (wait .last .1 .0) in
+    let e = bench-of (rested m95512 (a .interval) (a .limit) (a .address) (a .bytes .now) d) (wait .ensures .0) (wait .ensures .1 .1 .1) in
     drove-late m95512 (a .interval) (a .limit) (a .address) (a .bytes .now) d (wait .result .frames) y (c .before .before .before .before .before .before .before .if1 .left) e (wait .ensures .1 .1 .0)
     (sym (seen-wip (wait .result .status) (y .core) (wait .ensures .1 .0)) ∙ sym (c .before .wip .ensures) ∙ c .if2 .taken)
 
@@ -55,7 +55,7 @@ write-parts-requires : tie.Need-write-parts-requires
 write-parts-requires c κs =
     let start = c .before .before .before .before .before .before .before .before .before .before .before in
     let a = start .args in
-    let d : Device = record { core = a .core; memory = a .memory .now } in
+    let d : FrameBench = frameBench (a .core) (a .memory .now) in
     let wait = c .before .before .before .before .before .before .first-wait in
     let ready = ready-played (firstWait m95512 (a .interval) (a .limit) d) d (record { whole = start .pre .0; ranges = start .pre .1 .0 }) in
     let most = first-most m95512 (a .interval) (a .limit) d (start .pre .1 .1 .0) in
@@ -70,11 +70,11 @@ returns-3 : tie.Need-returns-3
 returns-3 c =
     let start = c .before .before .before .before .before .before .before .before .before .before .before .before .before .before in
     let a = start .args in
-    let d : Device = record { core = a .core; memory = a .memory .now } in
+    let d : FrameBench = frameBench (a .core) (a .memory .now) in
     let wait = c .before .before .before .before .before .before .before .before .before .first-wait in
     let parts = c .before .before .write-parts in
-    let y : Device = record { core = wait .result .core; memory = wait .last .1 .0 } in
-    let e = device-of (rested m95512 (a .interval) (a .limit) (a .address) (a .bytes .now) d) (wait .ensures .0) (wait .ensures .1 .1 .1) in
+    let y : FrameBench = frameBench (wait .result .core) (wait .last .1 .0) in
+    let e = bench-of (rested m95512 (a .interval) (a .limit) (a .address) (a .bytes .now) d) (wait .ensures .0) (wait .ensures .1 .1 .1) in
     drove-parts m95512 (a .interval) (a .limit) (a .address) (a .bytes .now) d (parts .result) (parts .last .1 .0) (wait .result .frames) y (c .before .before .before .before .before .before .before .before .before .before .before .if1 .left) e (wait .ensures .1 .1 .0)
     (sym (seen-wip (wait .result .status) (y .core) (wait .ensures .1 .0)) ∙ sym (c .before .before .before .before .before .wip .ensures) ∙ c .before .before .before .before .if2 .left) (parts .ensures .0) (parts .ensures .1)
 

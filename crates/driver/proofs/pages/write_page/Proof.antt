@@ -9,9 +9,9 @@ use Rattle.chip.specs.Ranges.{inRanges}
 use Rattle.chip.specs.Records.{running}
 use Rattle.chip.specs.declared.Core.{Core}
 use Rattle.frames.specs.After.{after}
-use Rattle.frames.specs.Play.{Device, played}
+use Rattle.frames.specs.Play.{FrameBench, actedAll, frameBench}
 use Rattle.driver.specs.Sequence.{wren, writeBytes, wrenAndWrite}
-use Rattle.driver.proofs.Ready.{device-of, ready-played}
+use Rattle.driver.proofs.Ready.{bench-of, ready-played}
 use Rattle.driver.proofs.Joined.{told, page-acts, page-most}
 use borrow.Author.Needs.{needs}
 use Rattle.driver.proofs.pages.write_page.Statement.{statement}
@@ -35,7 +35,7 @@ send-requires c κs = search needs
 send-write-requires : tie.Need-send-write-requires
 send-write-requires c κs =
     let start = c .before .before .before .before .before .before in
-    let d : Device = record { core = start .args .core; memory = start .args .memory .now } in
+    let d : FrameBench = frameBench (start .args .core) (start .args .memory .now) in
     let ready = ready-played (wren ∷ []) d (record { whole = start .pre .0; ranges = start .pre .1 .0 }) in
     (start .pre .0, (ap (inRanges m95512) (c .before .send .ensures) ∙ ready .ranges, (start .pre .1 .1 .0, start .pre .1 .1 .1 .0)))
 
@@ -44,7 +44,7 @@ page-wait-requires : tie.Need-page-wait-requires
 page-wait-requires c κs =
     let start = c .before .before .before .before .before .before .before .before in
     let a = start .args in
-    let d : Device = record { core = a .core; memory = a .memory .now } in
+    let d : FrameBench = frameBench (a .core) (a .memory .now) in
     let ready = ready-played (wrenAndWrite m95512 (a .address) (a .bytes .now)) d (record { whole = start .pre .0; ranges = start .pre .1 .0 }) in
     let begun = c .before .send-write .ensures ∙ ap (λ (x : Core). after m95512 (running x) true x (writeBytes m95512 (a .address) (a .bytes .now)) (8 * length (writeBytes m95512 (a .address) (a .bytes .now)))) (c .before .before .before .send .ensures) in
     (start .pre .0, (ap (inRanges m95512) begun ∙ ready .ranges, start .pre .1 .1 .1 .1))
@@ -54,7 +54,7 @@ and-sent-requires : tie.Need-and-sent-requires
 and-sent-requires c κs =
     let start = c .before .before .before .before .before .before .before .before .before .before .before in
     let wait = c .before .before .page-wait in
-    let x : Device = record { core = c .before .before .before .before .send-write .result; memory = start .args .memory .now } in
+    let x : FrameBench = frameBench (c .before .before .before .before .send-write .result) (start .args .memory .now) in
     let most = page-most m95512 (start .args .interval) (start .args .limit) x (start .pre .1 .1 .1 .1 .0) in
     omega (arith, wait .ensures .1 .1 .0)
 
@@ -69,9 +69,9 @@ returns c =
     let a = start .args in
     let wait = c .before .before .before .page-wait in
     let begun = c .before .before .before .before .before .send-write .ensures ∙ ap (λ (x : Core). after m95512 (running x) true x (writeBytes m95512 (a .address) (a .bytes .now)) (8 * length (writeBytes m95512 (a .address) (a .bytes .now)))) (c .before .before .before .before .before .before .before .send .ensures) in
-    let d : Device = record { core = a .core; memory = a .memory .now } in
-    let x : Device = record { core = c .before .before .before .before .before .send-write .result; memory = a .memory .now } in
-    let e = device-of (played m95512 (wrenAndWrite m95512 (a .address) (a .bytes .now)) d) begun refl in
+    let d : FrameBench = frameBench (a .core) (a .memory .now) in
+    let x : FrameBench = frameBench (c .before .before .before .before .before .send-write .result) (a .memory .now) in
+    let e = bench-of (actedAll m95512 (wrenAndWrite m95512 (a .address) (a .bytes .now)) d) begun refl in
     told m95512 _ d _ x 2 (page-acts (a .interval) (a .limit) d x (a .address) (a .bytes .now) e) (wait .result) (c .and-sent .result) (wait .last .1 .0) (wait .ensures) (c .and-sent .ensures)
 
 pub write-page-spec : {M : Type 1} → statement M

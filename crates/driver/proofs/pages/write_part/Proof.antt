@@ -5,7 +5,7 @@ use native.Mathlib.Omega.{arith}
 use lib.ListN.{length-take, length-drop}
 use Rattle.chip.specs.Part.{m95512}
 use Rattle.split.specs.Pieces.{piece}
-use Rattle.frames.specs.Play.{Device}
+use Rattle.frames.specs.Play.{FrameBench, frameBench}
 use Rattle.driver.specs.Sequence.{pageActs}
 use Rattle.driver.proofs.Joined.{Told}
 use Rattle.driver.proofs.Parts.{lies, part-bytes}
@@ -92,7 +92,7 @@ returns c =
     let at = c .before .before .before .before .before .before .cartvesper-split-address in
     let long = c .before .before .before .before .before .cartvesper-split-length in
     let page = c .before .before .write-page in
-    let d : Device = record { core = a .core; memory = a .memory .now } in
+    let d : FrameBench = frameBench (a .core) (a .memory .now) in
     let bytes = part-bytes (a .address) (a .bytes .now) (a .k) (at .result) (long .result) (start .pre .1 .1 .1) (at .ensures) (long .ensures) (at .result - a .address + long .result - (at .result - a .address)) (omega arith) in
     subst (λ (s : ℕ). Told m95512 (pageActs m95512 (a .interval) (a .limit) s (piece 65536 128 (a .address) (a .bytes .now) (a .k)) d) d (page .result) (page .last .1 .0)) (at .ensures)
     (subst (λ (l : List ℕ). Told m95512 (pageActs m95512 (a .interval) (a .limit) (at .result) l d) d (page .result) (page .last .1 .0)) bytes (page .ensures))

@@ -6,9 +6,9 @@ use Rattle.chip.specs.Part.{m95512}
 use Rattle.split.specs.Split.{count, splitAddress}
 use Rattle.split.specs.Pieces.{piece}
 use Rattle.split.proofs.Numbers.{parts-asked}
-use Rattle.frames.specs.Play.{Device, acted}
+use Rattle.frames.specs.Play.{FrameBench, acted, frameBench}
 use Rattle.driver.specs.Sequence.{wrdi}
-use Rattle.driver.proofs.Ready.{Ready, device-of, ready-played}
+use Rattle.driver.proofs.Ready.{Ready, bench-of, ready-played}
 use Rattle.driver.proofs.Joined.{acts-most}
 use Rattle.driver.proofs.Seen.{seen-wip, seen-wel}
 use Rattle.driver.proofs.Runs.{partActs, afterPart, Rest, ended-of, rest-first, rest-next, rest-late, rest-untaken, rest-done, parts-few}
@@ -27,8 +27,8 @@ Inv-loop memory₀ address bytes interval limit sent parts next₀ frames₀ k�
     (k ≤ parts)
     × ((frames ≤ 5001 + 5003 * k)
     × ((parts ≡ count 65536 128 address (length bytes))
-    × (Ready (record { core = next; memory = memory })
-    × Rest m95512 interval limit address bytes parts sent (record { core = next₀; memory = memory₀ }) k frames (record { core = next; memory = memory }))))
+    × (Ready (frameBench next memory)
+    × Rest m95512 interval limit address bytes parts sent (frameBench next₀ memory₀) k frames (frameBench next memory))))
 
 abbrev μ-loop : tie.MeasureT-loop
 μ-loop memory₀ address bytes interval limit sent parts next₀ frames₀ k₀ memory next frames k = parts - k
@@ -60,9 +60,9 @@ add-frames c =
     let a = start .args in
     let l = c .before .before .before .before .before .before .before .loop in
     let part = c .before .before .before .before .write-part in
-    let d : Device = record { core = l .next; memory = l .memory } in
-    let x : Device = record { core = part .result .core; memory = part .last .1 .0 } in
-    let e = device-of (afterPart m95512 (a .interval) (a .limit) (a .address) (a .bytes .now) (l .k) d) (part .ensures .0) (part .ensures .1 .1 .1) in
+    let d : FrameBench = frameBench (l .next) (l .memory) in
+    let x : FrameBench = frameBench (part .result .core) (part .last .1 .0) in
+    let e = bench-of (afterPart m95512 (a .interval) (a .limit) (a .address) (a .bytes .now) (l .k) d) (part .ensures .0) (part .ensures .1 .1 .1) in
     let most = acts-most m95512 (a .interval) (a .limit) (splitAddress 65536 128 (a .address) (length (a .bytes .now)) (l .k)) (piece 65536 128 (a .address) (a .bytes .now) (l .k)) d (start .pre .1 .1 .0 .0) in
     let few = parts-few (a .address) (length (a .bytes .now)) in
     let all = l .inv .1 .1 .0 in
@@ -91,9 +91,9 @@ same-length c =
     let a = start .args in
     let l = c .before .before .before .before .before .before .before .before .before .loop in
     let part = c .before .before .before .before .before .before .write-part in
-    let d : Device = record { core = l .next; memory = l .memory } in
-    let x : Device = record { core = part .result .core; memory = part .last .1 .0 } in
-    let e = device-of (afterPart m95512 (a .interval) (a .limit) (a .address) (a .bytes .now) (l .k) d) (part .ensures .0) (part .ensures .1 .1 .1) in
+    let d : FrameBench = frameBench (l .next) (l .memory) in
+    let x : FrameBench = frameBench (part .result .core) (part .last .1 .0) in
+    let e = bench-of (afterPart m95512 (a .interval) (a .limit) (a .address) (a .bytes .now) (l .k) d) (part .ensures .0) (part .ensures .1 .1 .1) in
     let ready : Ready x = subst Ready (sym e) (ready-played (partActs m95512 (a .interval) (a .limit) (a .address) (a .bytes .now) (l .k) d) d (l .inv .1 .1 .1 .0)) in
     ready .whole ∙ sym (start .pre .0)
 
@@ -104,10 +104,10 @@ returns c =
     let a = start .args in
     let l = c .before .before .before .before .before .before .before .before .before .loop in
     let part = c .before .before .before .before .before .before .write-part in
-    let d : Device = record { core = l .next; memory = l .memory } in
-    let x : Device = record { core = part .result .core; memory = part .last .1 .0 } in
-    let e = device-of (afterPart m95512 (a .interval) (a .limit) (a .address) (a .bytes .now) (l .k) d) (part .ensures .0) (part .ensures .1 .1 .1) in
-    ended-of m95512 (a .interval) (a .limit) (a .address) (a .bytes .now) (c .before .before .before .before .before .before .before .before .before .before .cartvesper-split-parts .result) _ (a .sent) (record { core = a .core; memory = a .memory .now }) (l .inv .1 .1 .0)
+    let d : FrameBench = frameBench (l .next) (l .memory) in
+    let x : FrameBench = frameBench (part .result .core) (part .last .1 .0) in
+    let e = bench-of (afterPart m95512 (a .interval) (a .limit) (a .address) (a .bytes .now) (l .k) d) (part .ensures .0) (part .ensures .1 .1 .1) in
+    ended-of m95512 (a .interval) (a .limit) (a .address) (a .bytes .now) (c .before .before .before .before .before .before .before .before .before .before .cartvesper-split-parts .result) _ (a .sent) (frameBench (a .core) (a .memory .now)) (l .inv .1 .1 .0)
     (rest-late m95512 (a .interval) (a .limit) (a .address) (a .bytes .now) (c .before .before .before .before .before .before .before .before .before .before .cartvesper-split-parts .result) (a .sent) _ (l .k) (l .frames) (part .result .frames) d x (c .before .before .before .before .before .before .before .before .loop-test .taken) e (part .ensures .1 .1 .0) (sym (seen-wip (part .result .status) (x .core) (part .ensures .1 .0)) ∙ sym (c .before .wip .ensures) ∙ c .if1 .taken) (l .inv .1 .1 .1 .1))
 
 -- src/pages.rt:100:12
@@ -131,9 +131,9 @@ add-t25 c =
     let a = start .args in
     let l = c .before .before .before .before .before .before .before .before .before .before .before .loop in
     let part = c .before .before .before .before .before .before .before .before .write-part in
-    let d : Device = record { core = l .next; memory = l .memory } in
-    let x : Device = record { core = part .result .core; memory = part .last .1 .0 } in
-    let e = device-of (afterPart m95512 (a .interval) (a .limit) (a .address) (a .bytes .now) (l .k) d) (part .ensures .0) (part .ensures .1 .1 .1) in
+    let d : FrameBench = frameBench (l .next) (l .memory) in
+    let x : FrameBench = frameBench (part .result .core) (part .last .1 .0) in
+    let e = bench-of (afterPart m95512 (a .interval) (a .limit) (a .address) (a .bytes .now) (l .k) d) (part .ensures .0) (part .ensures .1 .1 .1) in
     let most = acts-most m95512 (a .interval) (a .limit) (splitAddress 65536 128 (a .address) (length (a .bytes .now)) (l .k)) (piece 65536 128 (a .address) (a .bytes .now) (l .k)) d (start .pre .1 .1 .0 .0) in
     let few = parts-few (a .address) (length (a .bytes .now)) in
     let all = l .inv .1 .1 .0 in
@@ -152,9 +152,9 @@ send-requires c κs =
     let a = start .args in
     let l = c .before .before .before .before .before .before .before .before .before .before .before .before .before .loop in
     let part = c .before .before .before .before .before .before .before .before .before .before .write-part in
-    let d : Device = record { core = l .next; memory = l .memory } in
-    let x : Device = record { core = part .result .core; memory = part .last .1 .0 } in
-    let e = device-of (afterPart m95512 (a .interval) (a .limit) (a .address) (a .bytes .now) (l .k) d) (part .ensures .0) (part .ensures .1 .1 .1) in
+    let d : FrameBench = frameBench (l .next) (l .memory) in
+    let x : FrameBench = frameBench (part .result .core) (part .last .1 .0) in
+    let e = bench-of (afterPart m95512 (a .interval) (a .limit) (a .address) (a .bytes .now) (l .k) d) (part .ensures .0) (part .ensures .1 .1 .1) in
     let ready : Ready x = subst Ready (sym e) (ready-played (partActs m95512 (a .interval) (a .limit) (a .address) (a .bytes .now) (l .k) d) d (l .inv .1 .1 .1 .0)) in
     (ready .whole, (ready .ranges, omega arith))
 
@@ -165,9 +165,9 @@ same-length-2 c =
     let a = start .args in
     let l = c .before .before .before .before .before .before .before .before .before .before .before .before .before .before .loop in
     let part = c .before .before .before .before .before .before .before .before .before .before .before .write-part in
-    let d : Device = record { core = l .next; memory = l .memory } in
-    let x : Device = record { core = part .result .core; memory = part .last .1 .0 } in
-    let e = device-of (afterPart m95512 (a .interval) (a .limit) (a .address) (a .bytes .now) (l .k) d) (part .ensures .0) (part .ensures .1 .1 .1) in
+    let d : FrameBench = frameBench (l .next) (l .memory) in
+    let x : FrameBench = frameBench (part .result .core) (part .last .1 .0) in
+    let e = bench-of (afterPart m95512 (a .interval) (a .limit) (a .address) (a .bytes .now) (l .k) d) (part .ensures .0) (part .ensures .1 .1 .1) in
     let ready : Ready x = subst Ready (sym e) (ready-played (partActs m95512 (a .interval) (a .limit) (a .address) (a .bytes .now) (l .k) d) d (l .inv .1 .1 .1 .0)) in
     ready .whole ∙ sym (start .pre .0)
 
@@ -178,12 +178,12 @@ returns-2 c =
     let a = start .args in
     let l = c .before .before .before .before .before .before .before .before .before .before .before .before .before .before .loop in
     let part = c .before .before .before .before .before .before .before .before .before .before .before .write-part in
-    let d : Device = record { core = l .next; memory = l .memory } in
-    let x : Device = record { core = part .result .core; memory = part .last .1 .0 } in
-    let e = device-of (afterPart m95512 (a .interval) (a .limit) (a .address) (a .bytes .now) (l .k) d) (part .ensures .0) (part .ensures .1 .1 .1) in
-    let y : Device = record { core = c .send .result; memory = part .last .1 .0 } in
-    ended-of m95512 (a .interval) (a .limit) (a .address) (a .bytes .now) (c .before .before .before .before .before .before .before .before .before .before .before .before .before .before .before .cartvesper-split-parts .result) _ (a .sent) (record { core = a .core; memory = a .memory .now }) (l .inv .1 .1 .0)
-    (rest-untaken m95512 (a .interval) (a .limit) (a .address) (a .bytes .now) (c .before .before .before .before .before .before .before .before .before .before .before .before .before .before .before .cartvesper-split-parts .result) (a .sent) _ (l .k) (l .frames) (part .result .frames) d x y (c .before .before .before .before .before .before .before .before .before .before .before .before .before .loop-test .taken) e (part .ensures .1 .1 .0) (sym (seen-wip (part .result .status) (x .core) (part .ensures .1 .0)) ∙ sym (c .before .before .before .before .before .before .wip .ensures) ∙ c .before .before .before .before .before .if1 .left) (sym (seen-wel (part .result .status) (x .core) (part .ensures .1 .0)) ∙ sym (c .before .before .before .before .wel .ensures) ∙ c .before .before .before .if2 .taken) (device-of (acted m95512 wrdi x) (c .send .ensures) refl) (l .inv .1 .1 .1 .1))
+    let d : FrameBench = frameBench (l .next) (l .memory) in
+    let x : FrameBench = frameBench (part .result .core) (part .last .1 .0) in
+    let e = bench-of (afterPart m95512 (a .interval) (a .limit) (a .address) (a .bytes .now) (l .k) d) (part .ensures .0) (part .ensures .1 .1 .1) in
+    let y : FrameBench = frameBench (c .send .result) (part .last .1 .0) in
+    ended-of m95512 (a .interval) (a .limit) (a .address) (a .bytes .now) (c .before .before .before .before .before .before .before .before .before .before .before .before .before .before .before .cartvesper-split-parts .result) _ (a .sent) (frameBench (a .core) (a .memory .now)) (l .inv .1 .1 .0)
+    (rest-untaken m95512 (a .interval) (a .limit) (a .address) (a .bytes .now) (c .before .before .before .before .before .before .before .before .before .before .before .before .before .before .before .cartvesper-split-parts .result) (a .sent) _ (l .k) (l .frames) (part .result .frames) d x y (c .before .before .before .before .before .before .before .before .before .before .before .before .before .loop-test .taken) e (part .ensures .1 .1 .0) (sym (seen-wip (part .result .status) (x .core) (part .ensures .1 .0)) ∙ sym (c .before .before .before .before .before .before .wip .ensures) ∙ c .before .before .before .before .before .if1 .left) (sym (seen-wel (part .result .status) (x .core) (part .ensures .1 .0)) ∙ sym (c .before .before .before .before .wel .ensures) ∙ c .before .before .before .if2 .taken) (bench-of (acted m95512 wrdi x) (c .send .ensures) refl) (l .inv .1 .1 .1 .1))
 
 -- src/pages.rt:107:9
 add-k : tie.Need-add-k Inv-loop μ-loop
@@ -212,9 +212,9 @@ loop-again c =
     let a = start .args in
     let l = c .before .before .before .before .before .before .before .before .before .before .before .loop in
     let part = c .before .before .before .before .before .before .before .before .write-part in
-    let d : Device = record { core = l .next; memory = l .memory } in
-    let x : Device = record { core = part .result .core; memory = part .last .1 .0 } in
-    let e = device-of (afterPart m95512 (a .interval) (a .limit) (a .address) (a .bytes .now) (l .k) d) (part .ensures .0) (part .ensures .1 .1 .1) in
+    let d : FrameBench = frameBench (l .next) (l .memory) in
+    let x : FrameBench = frameBench (part .result .core) (part .last .1 .0) in
+    let e = bench-of (afterPart m95512 (a .interval) (a .limit) (a .address) (a .bytes .now) (l .k) d) (part .ensures .0) (part .ensures .1 .1 .1) in
     let most = acts-most m95512 (a .interval) (a .limit) (splitAddress 65536 128 (a .address) (length (a .bytes .now)) (l .k)) (piece 65536 128 (a .address) (a .bytes .now) (l .k)) d (start .pre .1 .1 .0 .0) in
     let ready : Ready x = subst Ready (sym e) (ready-played (partActs m95512 (a .interval) (a .limit) (a .address) (a .bytes .now) (l .k) d) d (l .inv .1 .1 .1 .0)) in
     let below = c .before .before .before .before .before .before .before .before .before .before .loop-test .taken in
@@ -245,8 +245,8 @@ returns-3 c =
     let start = c .before .before .before .before .before in
     let a = start .args in
     let l = c .before .loop in
-    let d : Device = record { core = l .next; memory = l .memory } in
-    ended-of m95512 (a .interval) (a .limit) (a .address) (a .bytes .now) (c .before .before .cartvesper-split-parts .result) _ (a .sent) (record { core = a .core; memory = a .memory .now }) (l .inv .1 .1 .0)
+    let d : FrameBench = frameBench (l .next) (l .memory) in
+    ended-of m95512 (a .interval) (a .limit) (a .address) (a .bytes .now) (c .before .before .cartvesper-split-parts .result) _ (a .sent) (frameBench (a .core) (a .memory .now)) (l .inv .1 .1 .0)
     (rest-done m95512 (a .interval) (a .limit) (a .address) (a .bytes .now) (c .before .before .cartvesper-split-parts .result) (a .sent) _ (l .k) (l .frames) d (c .loop-test .left) (l .inv .1 .1 .1 .1))
 
 pub write-parts-spec : {M : Type 1} → statement M

@@ -4,8 +4,8 @@ use native.Mathlib.Omega.{arith}
 use Rattle.chip.specs.Part.{m95512}
 use Rattle.chip.specs.Ranges.{inRanges}
 use Rattle.chip.specs.Records.{status}
-use Rattle.frames.specs.Play.{Device}
-use Rattle.driver.proofs.Ready.{device-of}
+use Rattle.frames.specs.Play.{FrameBench, frameBench}
+use Rattle.driver.proofs.Ready.{bench-of}
 use Rattle.driver.proofs.Waits.{sent-most}
 use Rattle.driver.proofs.Joined.{told, first-wait}
 use borrow.Author.Needs.{needs}
@@ -37,7 +37,7 @@ and-sent-requires : tie.Need-and-sent-requires
 and-sent-requires c κs =
     let start = c .before .before .before .before .before .before .before in
     let wait = c .before .before .poll-on in
-    let x : Device = record { core = c .before .before .before .before .poll .result .core; memory = start .args .memory .now } in
+    let x : FrameBench = frameBench (c .before .before .before .before .poll .result .core) (start .args .memory .now) in
     omega (arith, wait .ensures .1 .1 .0, sent-most m95512 (start .args .interval) (start .args .limit - 1) x)
 
 -- src/waiting.rt:72:1
@@ -50,9 +50,9 @@ returns c =
     let start = c .before .before .before .before .before .before .before .before in
     let poll = c .before .before .before .before .before .poll in
     let wait = c .before .before .before .poll-on in
-    let d : Device = record { core = start .args .core; memory = start .args .memory .now } in
-    let x : Device = record { core = poll .result .core; memory = start .args .memory .now } in
-    told m95512 _ d _ x 1 (first-wait (start .args .interval) (start .args .limit) d x (device-of d (poll .ensures .1) refl)) (wait .result) (c .and-sent .result) (wait .last .1 .0) (wait .ensures) (c .and-sent .ensures)
+    let d : FrameBench = frameBench (start .args .core) (start .args .memory .now) in
+    let x : FrameBench = frameBench (poll .result .core) (start .args .memory .now) in
+    told m95512 _ d _ x 1 (first-wait (start .args .interval) (start .args .limit) d x (bench-of d (poll .ensures .1) refl)) (wait .result) (c .and-sent .result) (wait .last .1 .0) (wait .ensures) (c .and-sent .ensures)
 
 pub first-wait-spec : {M : Type 1} → statement M
 first-wait-spec =

@@ -6,7 +6,7 @@ use Rattle.chip.specs.Records.{status}
 use Rattle.chip.specs.Time.{timed, timedMemory}
 use Rattle.chip.specs.Part.{m95512}
 use Rattle.chip.specs.declared.Timed.{Timed}
-use Rattle.frames.specs.Play.{Device}
+use Rattle.frames.specs.Play.{FrameBench, frameBench}
 use Rattle.driver.proofs.Frames.{reading-core, reading-memory, poll-leaves}
 use Rattle.driver.proofs.Ready.{ready-read}
 use borrow.Author.Needs.{needs}
@@ -32,7 +32,7 @@ poll-requires c κs =
     let start = c .before .before .before .before .before .before .before .before in
     let t = c .before .before .before .before .before .before .wrapping-add-u32 .result in
     let clock = c .before .before .before .before .clock-reading in
-    let d : Device = record { core = start .args .core; memory = start .args .memory .now } in
+    let d : FrameBench = frameBench (start .args .core) (start .args .memory .now) in
     let ready = ready-read t d (record { whole = start .pre .0; ranges = start .pre .1 }) in
     let core = ap (λ (x : Timed). x .core) (clock .ensures .0) ∙ reading-core (d .core) (d .memory) t (start .pre .0) (start .pre .1) in
     let memory = clock .ensures .1 .1 ∙ reading-memory (d .core) (d .memory) t (start .pre .0) (start .pre .1) in
@@ -49,7 +49,7 @@ returns c =
     let added = c .before .before .before .before .before .before .before .wrapping-add-u32 in
     let t = added .result in
     let clock = c .before .before .before .before .before .clock-reading in
-    let d : Device = record { core = start .args .core; memory = start .args .memory .now } in
+    let d : FrameBench = frameBench (start .args .core) (start .args .memory .now) in
     let core = ap (λ (x : Timed). x .core) (clock .ensures .0) ∙ reading-core (d .core) (d .memory) t (start .pre .0) (start .pre .1) in
     let memory = clock .ensures .1 .1 ∙ reading-memory (d .core) (d .memory) t (start .pre .0) (start .pre .1) in
     let poll = c .poll in (

@@ -4,9 +4,9 @@ use native.Mathlib.Omega.{arith}
 use lib.ListN.{length}
 use Rattle.chip.specs.Part.{m95512}
 use Rattle.chip.specs.Ranges.{inRanges}
-use Rattle.frames.specs.Play.{Device, played}
+use Rattle.frames.specs.Play.{FrameBench, actedAll, frameBench}
 use Rattle.driver.specs.Sequence.{latePoll}
-use Rattle.driver.proofs.Ready.{device-of, ready-played}
+use Rattle.driver.proofs.Ready.{bench-of, ready-played}
 use Rattle.driver.proofs.Waits.{sent-most}
 use Rattle.driver.proofs.Joined.{told, page-wait}
 use borrow.Author.Needs.{needs}
@@ -31,7 +31,7 @@ poll-on-requires : tie.Need-poll-on-requires
 poll-on-requires c κs =
     let start = c .before .before .before .before .before .before in
     let poll = c .before .before .before .late-poll in
-    let d : Device = record { core = start .args .core; memory = start .args .memory .now } in
+    let d : FrameBench = frameBench (start .args .core) (start .args .memory .now) in
     let ready = ready-played (latePoll (start .args .interval) d) d (record { whole = start .pre .0; ranges = start .pre .1 .0 }) in
     (ap length (poll .ensures .1 .1) ∙ ready .whole, (ap (inRanges m95512) (poll .ensures .0) ∙ ready .ranges, poll .ensures .1 .0))
 
@@ -41,7 +41,7 @@ and-sent-requires c κs =
     let start = c .before .before .before .before .before .before .before .before .before in
     let poll = c .before .before .before .before .before .before .late-poll in
     let wait = c .before .before .poll-on in
-    let x : Device = record { core = poll .result .core; memory = poll .last .1 .0 } in
+    let x : FrameBench = frameBench (poll .result .core) (poll .last .1 .0) in
     omega (arith, wait .ensures .1 .1 .0, sent-most m95512 (start .args .interval) (start .args .limit - 1) x)
 
 -- src/waiting.rt:86:1
@@ -54,9 +54,9 @@ returns c =
     let start = c .before .before .before .before .before .before .before .before .before .before in
     let poll = c .before .before .before .before .before .before .before .late-poll in
     let wait = c .before .before .before .poll-on in
-    let d : Device = record { core = start .args .core; memory = start .args .memory .now } in
-    let x : Device = record { core = poll .result .core; memory = poll .last .1 .0 } in
-    let e = device-of (played m95512 (latePoll (start .args .interval) d) d) (poll .ensures .0) (poll .ensures .1 .1) in
+    let d : FrameBench = frameBench (start .args .core) (start .args .memory .now) in
+    let x : FrameBench = frameBench (poll .result .core) (poll .last .1 .0) in
+    let e = bench-of (actedAll m95512 (latePoll (start .args .interval) d) d) (poll .ensures .0) (poll .ensures .1 .1) in
     told m95512 _ d _ x 1 (page-wait (start .args .interval) (start .args .limit) d x e) (wait .result) (c .and-sent .result) (wait .last .1 .0) (wait .ensures) (c .and-sent .ensures)
 
 pub page-wait-spec : {M : Type 1} → statement M

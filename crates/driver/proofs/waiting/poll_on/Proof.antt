@@ -3,9 +3,9 @@ use Prim.Native.Nat.{_-_, _≤_}
 use native.Mathlib.Omega.{arith}
 use Rattle.chip.specs.Part.{m95512}
 use Rattle.chip.specs.Records.{status}
-use Rattle.frames.specs.Play.{Device, played}
+use Rattle.frames.specs.Play.{FrameBench, actedAll, frameBench}
 use Rattle.driver.specs.Sequence.{latePoll}
-use Rattle.driver.proofs.Ready.{Ready, device-of, ready-played}
+use Rattle.driver.proofs.Ready.{Ready, bench-of, ready-played}
 use Rattle.driver.proofs.Waits.{goes-on, is-over, Onward, onward-first, onward-next, onward-last}
 use Rattle.driver.proofs.waiting.poll_on.Statement.{statement}
 use Rattle.driver.proofs.waiting.poll_on.Tie as tie
@@ -17,8 +17,8 @@ abbrev Inv-loop : tie.InvT-loop
 Inv-loop memory₀ interval left polled₀ polls₀ memory polled polls =
     (polls ≤ left)
     × ((polled .status ≡ status (polled .core))
-    × (Ready (record { core = polled .core; memory = memory })
-    × Onward m95512 interval left (record { core = polled₀ .core; memory = memory₀ }) polls (record { core = polled .core; memory = memory })))
+    × (Ready (frameBench (polled .core) memory)
+    × Onward m95512 interval left (frameBench (polled₀ .core) memory₀) polls (frameBench (polled .core) memory)))
 
 abbrev μ-loop : tie.MeasureT-loop
 μ-loop memory₀ interval left polled₀ polls₀ memory polled polls = left - polls
@@ -60,8 +60,8 @@ loop-again c =
     let a = start .args in
     let poll = c .before .before .late-poll in
     let on = goes-on (l .polls) (a .left) (l .polled .status) (l .polled .core) (l .inv .1 .0) (c .before .before .before .before .if1 .taken) in
-    let d : Device = record { core = l .polled .core; memory = l .memory } in
-    let e = device-of (played m95512 (latePoll (a .interval) d) d) (poll .ensures .0) (poll .ensures .1 .1) in
+    let d : FrameBench = frameBench (l .polled .core) (l .memory) in
+    let e = bench-of (actedAll m95512 (latePoll (a .interval) d) d) (poll .ensures .0) (poll .ensures .1 .1) in
     (omega (arith, on .0), (poll .ensures .1 .0, (subst Ready (sym e) (ready-played (latePoll (a .interval) d) d (l .inv .1 .1 .0)), onward-next m95512 (a .interval) (a .left) _ (l .polls) d _ e (on .0) (on .1) (l .inv .1 .1 .1))))
 
 -- src/waiting.rt:36:1
@@ -75,10 +75,10 @@ returns : tie.Need-returns Inv-loop μ-loop
 returns c =
     let l = c .before .before .before .loop in
     let a = c .before .before .before .before .before .args in
-    let d : Device = record { core = l .polled .core; memory = l .memory } in
+    let d : FrameBench = frameBench (l .polled .core) (l .memory) in
     let none = is-over m95512 (a .interval) (l .polls) (a .left) (l .polled .status) d (l .inv .1 .0) (c .before .if1 .left) in
     let last = onward-last m95512 (a .interval) (a .left) _ (l .polls) d none (l .inv .1 .1 .1) in
-    (ap (λ (x : Device). x .core) (last .0), (l .inv .1 .0, (last .1, ap (λ (x : Device). x .memory) (last .0))))
+    (ap (λ (x : FrameBench). x .core) (last .0), (l .inv .1 .0, (last .1, ap (λ (x : FrameBench). x .memory) (last .0))))
 
 pub poll-on-spec : {M : Type 1} → statement M
 poll-on-spec =

@@ -8,7 +8,7 @@ use lib.ListN.{length, take, getD, length-set}
 use lib.Seq.{take-all}
 use Rattle.laws.specs.Filled.{filled, filled-none, filled-more, filled-all}
 use Rattle.chip.specs.Part.{m95512}
-use Rattle.pins.specs.Answers.{Bench, afterEvent, played}
+use Rattle.pins.specs.Answers.{PinBench, afterEvent, played, pinBench}
 use Rattle.lists.specs.Answers.{playedQ}
 use Rattle.lists.specs.Ways.{whole, after, afterMemory}
 use Rattle.pins.specs.Events.{stepped, steppedMemory}
@@ -26,12 +26,9 @@ use borrow.Author.Needs.{needs}
 use Rattle.lists.proofs.listed.play_all.Statement.{statement}
 use Rattle.lists.proofs.listed.play_all.Tie as tie
 
-abbrev bench : Device → List ℕ → Bench
-bench x m = record { device = x; memory = m }
-
 -- the device in its three parts, and the memory
-abbrev apart : Front → Latch → Core → List ℕ → Bench
-apart f l k m = bench (whole f l k) m
+abbrev apart : Front → Latch → Core → List ℕ → PinBench
+apart f l k m = pinBench (whole f l k) m
 
 abbrev Inv-loop : tie.InvT-loop
 Inv-loop memory₀ events out₀ front₀ latch₀ core₀ i₀ memory out front latch core i = (i ≤ length events) × (length out ≡ length out₀) × (length memory ≡ length memory₀) × (apart front latch core memory ≡ played m95512 (take i events) (apart front₀ latch₀ core₀ memory₀)) × (out ≡ filled out₀ (playedQ m95512 events (apart front₀ latch₀ core₀ memory₀)) i)
@@ -91,8 +88,8 @@ loop-less : tie.Need-loop-less Inv-loop μ-loop
 loop-less c = search needs
 
 -- where a way leads from a bench
-abbrev led : Event → Way → Bench → Bench
-led e w b = bench (after m95512 (b .memory) e w (b .device)) (afterMemory m95512 e w (b .device) (b .memory))
+abbrev led : Event → Way → PinBench → PinBench
+led e w b = pinBench (after m95512 (b .memory) e w (b .device)) (afterMemory m95512 e w (b .device) (b .memory))
 
 -- by either arm: the device and the memory after the way
 gone : (c : tie.Joined1 Inv-loop μ-loop) → let l = c .before .before .before .before .before .before .before .loop in
@@ -106,8 +103,8 @@ gone c =
     ⊎-elim
     (λ w. rw (w .10, w .11, w .12, w .13, w .7 .ensures, w .3 .ensures .0, w .3 .ensures .1, w .1 .ensures, whole-way way (test ∙ w .0 .taken)))
     (λ w. rw (w .2, w .3, w .4, w .5)
-    (ap (λ (y : Device). bench y (l .memory)) (w .1 .ensures (l .memory) e (l .latch) (l .core) (test ∙ w .0 .left))
-    ∙ ap (bench (after m95512 (l .memory) e way x)) (way-memory m95512 e x (l .memory) way (test ∙ w .0 .left))))
+    (ap (λ (y : Device). pinBench y (l .memory)) (w .1 .ensures (l .memory) e (l .latch) (l .core) (test ∙ w .0 .left))
+    ∙ ap (pinBench (after m95512 (l .memory) e way x)) (way-memory m95512 e x (l .memory) way (test ∙ w .0 .left))))
     (c .if1 .came)
 
 -- and that is what the event does
@@ -117,7 +114,7 @@ after-event c =
     let l = c .before .before .before .before .before .before .before .loop in
     let x : Device = whole (l .front) (l .latch) (l .core) in
     let does = c .before .before .quick .ensures in
-    let way : Event → Bench = λ k. bench (stepped m95512 (l .memory) k x) (steppedMemory m95512 k x (l .memory)) in
+    let way : Event → PinBench = λ k. pinBench (stepped m95512 (l .memory) k x) (steppedMemory m95512 k x (l .memory)) in
     let told : led (c .before .before .before .before .event-of .result) (c .before .before .quick .result) (apart (l .front) (l .latch) (l .core) (l .memory)) ≡ way (c .before .before .before .before .event-of .result) =
     rw (does .0 (l .latch) (l .core), does .1 (l .latch) (l .core) (l .memory)) in
     gone c ∙ told ∙ ap way (c .before .before .before .before .event-of .ensures)
@@ -129,12 +126,12 @@ loop-again c =
     let below = c .before .before .before .before .before .before .before .before .loop-test .taken in
     let a = c .before .before .before .before .before .before .before .before .before .before .before .before .before .before .before .before .before .args in
     let es = a .events .now in
-    let b : Bench = apart (c .before .before .before .before .before .before .before .before .before .before .before .before .front-of .result) (a .device .frame .latch) (a .device .core) (a .memory .now) in
+    let b : PinBench = apart (c .before .before .before .before .before .before .before .before .before .before .before .before .front-of .result) (a .device .frame .latch) (a .device .core) (a .memory .now) in
     let at = c .before .before .if1 in
     let more : apart (at .front) (at .latch) (at .core) (at .memory) ≡ played m95512 (take (suc (l .i)) es) b =
     after-event (c .before .before) ∙ ap (afterEvent m95512 (getD es (l .i) 0)) (l .inv .3) ∙ sym (played-more m95512 es (l .i) b (omega arith)) in
     let level : c .number .result ≡ getD (playedQ m95512 es b) (l .i) 0 =
-    c .number .ensures ∙ ap levelNumber (c .before .level-of .ensures) ∙ ap (λ (x : Bench). levelNumber (q (x .device))) more ∙ sym (q-at m95512 es (l .i) b (omega arith)) in (
+    c .number .ensures ∙ ap levelNumber (c .before .level-of .ensures) ∙ ap (λ (x : PinBench). levelNumber (q (x .device))) more ∙ sym (q-at m95512 es (l .i) b (omega arith)) in (
       omega arith,
       simp length-set (omega arith),
       ⊎-elim (λ w. rw (w .10) (omega (arith, w .4 .given))) (λ w. rw (w .2) (omega arith)) (at .came),
@@ -156,16 +153,16 @@ returns c =
     let l = c .before .before .loop in
     let a = c .before .before .before .before .before .before .before .before .before .before .args in
     let es = a .events .now in
-    let b : Bench = record { device = a .device; memory = a .memory .now } in
+    let b : PinBench = pinBench (a .device) (a .memory .now) in
     let start : apart (c .before .before .before .before .before .front-of .result) (a .device .frame .latch) (a .device .core) (a .memory .now) ≡ b =
     ap (λ (f : Front). apart f (a .device .frame .latch) (a .device .core) (a .memory .now)) (c .before .before .before .before .before .front-of .ensures) in
     let all : take (l .i) es ≡ es = take-all (l .i) es (omega arith) in
     let end : apart (l .front) (l .latch) (l .core) (l .memory) ≡ played m95512 es b =
     l .inv .3 ∙ ap (λ (k : List ℕ). played m95512 k (apart (c .before .before .before .before .before .front-of .result) (a .device .frame .latch) (a .device .core) (a .memory .now))) all ∙ ap (played m95512 es) start in (
-      c .whole2 .ensures ∙ ap (λ (x : Bench). x .device) end,
+      c .whole2 .ensures ∙ ap (λ (x : PinBench). x .device) end,
       (
-        ap (λ (x : Bench). x .memory) end,
-        l .inv .4 ∙ ap (λ (x : Bench). filled (a .out .now) (playedQ m95512 es x) (l .i)) start ∙ filled-all (a .out .now) (playedQ m95512 es b) 0 (l .i) (sym (q-length m95512 es b ∙ sym (c .before .before .before .before .before .before .before .before .before .before .pre))) (omega arith),
+        ap (λ (x : PinBench). x .memory) end,
+        l .inv .4 ∙ ap (λ (x : PinBench). filled (a .out .now) (playedQ m95512 es x) (l .i)) start ∙ filled-all (a .out .now) (playedQ m95512 es b) 0 (l .i) (sym (q-length m95512 es b ∙ sym (c .before .before .before .before .before .before .before .before .before .before .pre))) (omega arith),
       ),
     )
 

@@ -5,7 +5,7 @@ use native.Mathlib.Omega.{arith}
 use lib.ListN.{length, take}
 use lib.Seq.{length-take-le}
 use Rattle.chip.specs.Part.{m95512}
-use Rattle.pins.specs.Answers.{Bench, played}
+use Rattle.pins.specs.Answers.{PinBench, played, pinBench}
 use Rattle.lists.specs.Answers.{playedQ}
 use Rattle.trace.specs.Printing.{printed}
 use Rattle.trace.specs.Put.{put}
@@ -64,7 +64,7 @@ returns c =
     let pre = c .before .before .before .before .before .before .before .before .before .before .before .before .before .before .before .before .before .before .before .before .before .before .before .pre in
     let p = c .before .before .before .before .before .before .before .before .before .before .before .before .before .before .before .before .parse in
     let x = c .before .before .before .before .before .before .before .before .show in
-    let b : Bench = record { device = a .device; memory = a .memory .now } in
+    let b : PinBench = pinBench (a .device) (a .memory .now) in
     let es = p .ensures .1 .0 in (
       (p .ensures .0, rw (p .ensures .0) (read-fits (a .line) (a .text .now) (pre .2))),
       (

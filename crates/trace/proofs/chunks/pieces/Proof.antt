@@ -8,11 +8,11 @@ use lib.ListN.{length, take, drop, length-append}
 use lib.Seq.{take-all}
 use Rattle.chip.specs.Part.{m95512}
 use Rattle.pins.specs.Ranges.{deviceFits}
-use Rattle.pins.specs.Answers.{Bench}
+use Rattle.pins.specs.Answers.{PinBench, pinBench}
 use Rattle.lines.specs.Reading.{read, lineFits}
 use Rattle.trace.specs.Put.{put}
 use Rattle.trace.proofs.Puts.{put-nil, put-put}
-use Rattle.trace.specs.Chunks.{benchWith, playedLines, shownLines}
+use Rattle.trace.specs.Chunks.{playedLines, shownLines}
 use Rattle.trace.proofs.Chunking.{part-length, played-nothing, shown-nothing, turn-line, turn-bench, turn-shown}
 use Rattle.trace.proofs.chunks.pieces.Statement.{statement}
 use Rattle.trace.proofs.chunks.pieces.Tie as tie
@@ -21,9 +21,9 @@ abbrev Inv-loop : tie.InvT-loop
 Inv-loop memory₀ text out₀ at events₀ qs₀ hand₀ next₀ end₀ i₀ memory out events qs hand next end i =
     (i ≤ length text) × (length memory ≡ 65536) × (length out ≡ length out₀) × (length events ≡ 1024) × (length qs ≡ 1024) × (lineFits hand ≡ true)
     × (deviceFits m95512 next ≡ true) × (end ≤ at + 10 * i) × (hand ≡ read hand₀ (take i text))
-    × (benchWith next memory ≡ playedLines hand₀ (benchWith next₀ memory₀) (take i text))
-    × (out ≡ put out₀ at (shownLines hand₀ (benchWith next₀ memory₀) (take i text)))
-    × (end ≡ at + length (shownLines hand₀ (benchWith next₀ memory₀) (take i text)))
+    × (pinBench next memory ≡ playedLines hand₀ (pinBench next₀ memory₀) (take i text))
+    × (out ≡ put out₀ at (shownLines hand₀ (pinBench next₀ memory₀) (take i text)))
+    × (end ≡ at + length (shownLines hand₀ (pinBench next₀ memory₀) (take i text)))
 
 abbrev μ-loop : tie.MeasureT-loop
 μ-loop memory₀ text out₀ at events₀ qs₀ hand₀ next₀ end₀ i₀ memory out events qs hand next end i = length text - i
@@ -39,7 +39,7 @@ unfolding read
 loop-holds c =
     let a = c .before .before .before .before .before .args in
     let pre = c .before .before .before .before .before .pre in
-    let b = benchWith (a .device) (a .memory .now) in (
+    let b = pinBench (a .device) (a .memory .now) in (
       omega arith,
       pre .0,
       refl,
@@ -97,8 +97,8 @@ loop-again c =
     let e = c .before .before .before .before .before .before .before .before .before .before .before .before .before .before .piece-end in
     let x = c .before .before .before .before .before .before .before .before .piece in
     let t = a .text .now in
-    let b = benchWith (a .device) (a .memory .now) in
-    let here = benchWith (l .next) (l .memory) in
+    let b = pinBench (a .device) (a .memory .now) in
+    let here = pinBench (l .next) (l .memory) in
     let on : l .i ≤ e .result = omega (arith, e .ensures .0) in
     let y = take (e .result - l .i) (drop (l .i) t) in
     let n : length y ≡ e .result - l .i = part-length t (l .i) (e .result) on (e .ensures .1) in
@@ -134,8 +134,8 @@ returns c =
     let l = c .before .loop in
     let a = c .before .before .before .before .before .before .before .args in
     let all : take (l .i) (a .text .now) ≡ a .text .now = take-all (l .i) (a .text .now) (omega arith) in
-    let played = l .inv .9 ∙ ap (playedLines (a .line) (benchWith (a .device) (a .memory .now))) all in
-    ((rw all at (l .inv .8), l .inv .5), (ap (λ (w : Bench). w .device) played, (ap (λ (w : Bench). w .memory) played, (rw all at (l .inv .10), (rw all at (l .inv .11), omega arith)))))
+    let played = l .inv .9 ∙ ap (playedLines (a .line) (pinBench (a .device) (a .memory .now))) all in
+    ((rw all at (l .inv .8), l .inv .5), (ap (λ (w : PinBench). w .device) played, (ap (λ (w : PinBench). w .memory) played, (rw all at (l .inv .10), (rw all at (l .inv .11), omega arith)))))
 
 pub pieces-spec : {M : Type 1} → statement M
 pieces-spec =

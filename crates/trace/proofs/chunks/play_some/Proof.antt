@@ -1,7 +1,7 @@
 use mathlib.Core.Path.{_≡_, ap, _∙_}
 use lib.ListN.{length}
 use Rattle.chip.specs.Part.{m95512}
-use Rattle.pins.specs.Answers.{Bench, played}
+use Rattle.pins.specs.Answers.{PinBench, played, pinBench}
 use Rattle.lists.specs.Answers.{playedQ}
 use Rattle.pins.specs.Ranges.{deviceFits}
 use Rattle.lists.proofs.Answering.{play-done}
@@ -31,7 +31,7 @@ returns c =
     let pre = c .before .before .before .before .before .before .before .before .before .before .before .before .pre in
     let x = c .before .before .before .before .before .play in
     let es = a .events .now in
-    let b : Bench = record { device = a .device; memory = a .memory .now } in
+    let b : PinBench = pinBench (a .device) (a .memory .now) in
     let o = play-done m95512 (a .device) (a .memory .now) (length es) (length (a .qs .now)) (pre .0) (pre .1) (pre .2) in
     let d : x .result .device ≡ played m95512 es b .device = done-device (played m95512 es b .device) (a .device) o (x .ensures .0) in (
       d,

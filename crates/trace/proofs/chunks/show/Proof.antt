@@ -4,6 +4,7 @@ use Prim.Native.Nat.{ℕ, _+_}
 use native.Mathlib.Omega.{arith}
 use lib.ListN.{length}
 use Rattle.chip.specs.Part.{m95512}
+use Rattle.pins.specs.Answers.{pinBench}
 use Rattle.trace.specs.Printing.{printed}
 use Rattle.trace.specs.Put.{put}
 use Rattle.trace.proofs.Plays.{playedQ-length}
@@ -37,7 +38,7 @@ returns c =
         p .ensures .1 .0,
         (
           x .ensures .0 ∙ ap (λ (l : List ℕ). put (a .out .now) (a .at) (printed (a .n) l)) qs,
-          (x .ensures .1 .0 ∙ ap (λ (l : List ℕ). a .at + length (printed (a .n) l)) qs, omega (arith, x .ensures .1 .1, ap length qs, playedQ-length m95512 (a .events .now) (record { device = a .device; memory = a .memory .now }))),
+          (x .ensures .1 .0 ∙ ap (λ (l : List ℕ). a .at + length (printed (a .n) l)) qs, omega (arith, x .ensures .1 .1, ap length qs, playedQ-length m95512 (a .events .now) (pinBench (a .device) (a .memory .now)))),
         ),
       ),
     )
