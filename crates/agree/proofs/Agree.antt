@@ -9,13 +9,13 @@ use borrow.Author.Tests.{eq-eqb, le-leb, eqb-true, leb-true}
 use native.Mathlib.Omega.{arith}
 use Rattle.laws.specs.Pick.{at-yes, and-left, and-right}
 use Rattle.laws.specs.Table.{table}
-use Rattle.chip.specs.Part.{Part, m95512}
-use Rattle.chip.specs.Status.{on}
+use Rattle.codes.specs.Part.{Part, m95512}
+use Rattle.codes.specs.Status.{on}
 use Rattle.chip.specs.Records.{running, status}
-use Rattle.chip.specs.Refusals.{isDone}
+use Rattle.codes.specs.Refusals.{isDone}
 use Rattle.chip.specs.Ranges.{inRanges}
 use Rattle.chip.specs.declared.Core.{Core}
-use Rattle.chip.specs.declared.Outcome.the-variants.{Done}
+use Rattle.codes.specs.declared.Outcome.the-variants.{Done}
 use Rattle.chip.proofs.Within.{Within, within, in-ranges}
 use Rattle.frames.specs.Bytes.{instruction, address}
 use Rattle.frames.specs.After.{after}

@@ -10,20 +10,20 @@ use borrow.Author.Tests.{le-leb, lt-leb, lt-ltb, le-ltb}
 use native.Mathlib.Nat.{mod-eq-of-lt, pow-suc}
 use native.Mathlib.Omega.{arith}
 use Rattle.laws.specs.Pick.{pick, at-yes, at-no, and-both}
-use Rattle.chip.specs.Part.{Part}
-use Rattle.chip.specs.Status.{bit, on, bitOf}
-use Rattle.chip.specs.Latches.{noLatch}
+use Rattle.codes.specs.Part.{Part}
+use Rattle.codes.specs.Status.{bit, on, bitOf}
+use Rattle.latch.specs.Latches.{noLatch}
 use Rattle.chip.specs.Records.{running}
-use Rattle.chip.specs.Instructions.{decode}
+use Rattle.codes.specs.Instructions.{decode}
 use Rattle.chip.specs.declared.Core.{Core}
-use Rattle.chip.specs.declared.Latch.{Latch}
-use Rattle.chip.specs.declared.Instruction.{Instruction}
+use Rattle.latch.specs.declared.Latch.{Latch}
+use Rattle.codes.specs.declared.Instruction.{Instruction}
 use Rattle.edges.specs.declared.Frame.{Frame}
 use Rattle.edges.specs.declared.Level.the-variants.{Zero, One}
 use Rattle.edges.specs.Frames.{noFrame}
 use Rattle.edges.specs.Rising.{risen, wholeByte, shiftedIn}
 use Rattle.edges.specs.Falling.{fallen, levelOf}
-use Rattle.chip.specs.Output.{outputs}
+use Rattle.codes.specs.Output.{outputs}
 use Rattle.agree.specs.Drawings.{flat}
 use Rattle.agree.specs.Reports.{asOne}
 use Rattle.agree.proofs.Facts.{Good, on-bit}

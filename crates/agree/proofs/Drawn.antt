@@ -9,7 +9,7 @@ use lib.ListN.{length, getD}
 use borrow.Author.Tests.{ltb-true, leb-true}
 use native.Mathlib.Omega.{arith}
 use Rattle.laws.specs.Pick.{pick, and-left, and-right}
-use Rattle.chip.specs.Part.{Part, m95512}
+use Rattle.codes.specs.Part.{Part, m95512}
 use Rattle.frames.specs.Answers.{bitsFit, longestFrame}
 use Rattle.pins.specs.declared.Event.{Event}
 use Rattle.pins.specs.declared.Event.the-variants.{S, C, D, W, Hold, Time}

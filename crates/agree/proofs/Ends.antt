@@ -10,20 +10,20 @@ use borrow.Author.Tests.{le-leb, lt-leb, leb-true, eqb-true, lt-ltb}
 use native.Mathlib.Nat.{mod-mod, div-add-mod'}
 use native.Mathlib.Omega.{arith}
 use Rattle.laws.specs.Pick.{pick, at-yes, at-no, and-left, and-right}
-use Rattle.chip.specs.Part.{Part}
-use Rattle.chip.specs.Status.{bit, on}
-use Rattle.chip.specs.Latches.{noLatch, latched}
+use Rattle.codes.specs.Part.{Part}
+use Rattle.codes.specs.Status.{bit, on}
+use Rattle.latch.specs.Latches.{noLatch, latched}
 use Rattle.chip.specs.Records.{running}
-use Rattle.chip.specs.Instructions.{decode}
-use Rattle.chip.specs.Protect.{protects}
-use Rattle.chip.specs.Verdicts.{verdict, isExecuted, countFits, needsNoCycle, needsWel, guarded, isUnknown}
+use Rattle.codes.specs.Instructions.{decode}
+use Rattle.chip.specs.Questions.{protects}
+use Rattle.codes.specs.Verdicts.{verdict, isExecuted, countFits, needsNoCycle, needsWel, guarded, isUnknown}
 use Rattle.chip.specs.Effects.{effect}
 use Rattle.chip.specs.declared.Core.{Core}
-use Rattle.chip.specs.declared.Latch.{Latch}
-use Rattle.chip.specs.declared.Verdict.the-variants.{Executed, CycleRan, WelOff, WrongCount, Guarded, OnHold, UnknownCode}
-use Rattle.chip.specs.declared.Instruction.{Instruction}
-use Rattle.chip.specs.declared.Instruction.the-variants.{Wren, Wrdi, Rdsr, Wrsr, Read, Write, Silence}
-use Rattle.chip.proofs.Judged.{passed}
+use Rattle.latch.specs.declared.Latch.{Latch}
+use Rattle.codes.specs.declared.Verdict.the-variants.{Executed, CycleRan, WelOff, WrongCount, Guarded, OnHold, UnknownCode}
+use Rattle.codes.specs.declared.Instruction.{Instruction}
+use Rattle.codes.specs.declared.Instruction.the-variants.{Wren, Wrdi, Rdsr, Wrsr, Read, Write, Silence}
+use Rattle.codes.proofs.Judged.{passed}
 use Rattle.edges.specs.declared.Frame.{Frame}
 use Rattle.edges.specs.Frames.{noFrame}
 use Rattle.frames.specs.Bytes.{instruction, addressTo, address, payload, latchedFrom, written}

@@ -5,8 +5,8 @@ use mathlib.Core.Path.{_≡_, refl, sym, _∙_}
 use lib.Dec.{eqb, ltb, leb}
 use borrow.Author.Tests.{leb-true, leb-false, ltb-true, ltb-false, eqb-true, eqb-false}
 use native.Mathlib.Omega.{arith}
-use Rattle.chip.specs.Part.{Part, m95512}
-use Rattle.chip.specs.Status.{bit, on}
+use Rattle.codes.specs.Part.{Part, m95512}
+use Rattle.codes.specs.Status.{bit, on}
 use Rattle.chip.proofs.Executed.{Paged, m95512-paged}
 
 -- an address; the count of whole bytes tells a code, an address and one data byte apart; the memory is four quarters of whole pages

@@ -6,10 +6,11 @@ use lib.Dec.{leb}
 use native.Mathlib.Omega.{arith}
 use native.Mathlib.Nat.{mod-add-mod, mod-mod, mul-add-mod-self-right, mul-add-div-right, div-eq-of-lt, mod-lt, le-div-iff-mul-le, mul-assoc}
 use Rattle.laws.specs.Pick.{pick}
-use Rattle.chip.specs.Part.{Part}
-use Rattle.chip.specs.Status.{on}
-use Rattle.chip.specs.Latches.{nextCell}
-use Rattle.chip.specs.Protect.{lowestProtected, protects}
+use Rattle.codes.specs.Part.{Part}
+use Rattle.codes.specs.Status.{on}
+use Rattle.latch.specs.Latches.{nextCell}
+use Rattle.codes.specs.Protect.{lowestProtected}
+use Rattle.chip.specs.Questions.{protects}
 use Rattle.chip.specs.declared.Core.{Core}
 use Rattle.agree.proofs.Facts.{Good, leb-cong}
 

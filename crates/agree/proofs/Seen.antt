@@ -10,17 +10,17 @@ use native.Mathlib.Nat.{mod-add-mod, mod-mod, zero-mod}
 use native.Mathlib.Omega.{arith}
 use Rattle.laws.specs.Pick.{pick, at-yes, at-no, and-both, and-no-left, and-no-right}
 use Rattle.laws.specs.Table.{from, table}
-use Rattle.chip.specs.Part.{Part}
-use Rattle.chip.specs.Latches.{noLatch}
+use Rattle.codes.specs.Part.{Part}
+use Rattle.latch.specs.Latches.{noLatch}
 use Rattle.chip.specs.Records.{running, status}
-use Rattle.chip.specs.Instructions.{decode}
+use Rattle.codes.specs.Instructions.{decode}
 use Rattle.chip.specs.declared.Core.{Core}
-use Rattle.chip.specs.declared.Latch.{Latch}
-use Rattle.chip.specs.declared.Instruction.{Instruction}
-use Rattle.chip.specs.declared.Instruction.the-variants.{Wren, Wrdi, Rdsr, Wrsr, Read, Write, Silence}
+use Rattle.latch.specs.declared.Latch.{Latch}
+use Rattle.codes.specs.declared.Instruction.{Instruction}
+use Rattle.codes.specs.declared.Instruction.the-variants.{Wren, Wrdi, Rdsr, Wrsr, Read, Write, Silence}
 use Rattle.edges.specs.declared.Frame.{Frame}
 use Rattle.edges.specs.Frames.{noFrame}
-use Rattle.chip.specs.Output.{outputs}
+use Rattle.codes.specs.Output.{outputs}
 use Rattle.frames.specs.Bytes.{instruction, addressTo, address}
 use Rattle.frames.specs.Shown.{byteOut}
 use Rattle.agree.proofs.Facts.{Good, on-bit, leb-min, min-leb}

@@ -7,11 +7,11 @@ use lib.ListN.{getD, length-replicate}
 use Rattle.laws.specs.Pick.{pick}
 use Rattle.laws.specs.Each.{each}
 use Rattle.laws.specs.Table.{from, table}
-use Rattle.chip.specs.Part.{m95512}
-use Rattle.chip.specs.Latches.{zeros, stored}
+use Rattle.codes.specs.Part.{m95512}
+use Rattle.latch.specs.Latches.{zeros, stored}
 use Rattle.chip.specs.Records.{status}
-use Rattle.chip.specs.Instructions.{decode}
-use Rattle.chip.specs.Verdicts.{verdict}
+use Rattle.codes.specs.Instructions.{decode}
+use Rattle.codes.specs.Verdicts.{verdict}
 use Rattle.chip.specs.Ranges.{inRanges}
 use Rattle.chip.specs.Time.{timed, timedMemory}
 use Rattle.chip.specs.Power.{delivered, deliveredMemory}

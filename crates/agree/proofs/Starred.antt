@@ -8,15 +8,15 @@ use lib.Dec.{lit≤}
 use Rattle.laws.specs.Pick.{pick, at-yes}
 use Rattle.laws.specs.Each.{each}
 use Rattle.laws.specs.Table.{from, table}
-use Rattle.chip.specs.Part.{m95512}
-use Rattle.chip.specs.Latches.{zeros, stored}
-use Rattle.chip.specs.Instructions.{decode}
-use Rattle.chip.specs.Verdicts.{verdict}
+use Rattle.codes.specs.Part.{m95512}
+use Rattle.latch.specs.Latches.{zeros, stored}
+use Rattle.codes.specs.Instructions.{decode}
+use Rattle.codes.specs.Verdicts.{verdict}
 use Rattle.chip.specs.Ranges.{inRanges}
-use Rattle.chip.specs.Refusals.{isDone}
+use Rattle.codes.specs.Refusals.{isDone}
 use Rattle.chip.specs.Time.{timed, timedMemory}
 use Rattle.chip.specs.Power.{delivered, deliveredMemory}
-use Rattle.chip.specs.declared.Outcome.the-variants.{Done}
+use Rattle.codes.specs.declared.Outcome.the-variants.{Done}
 use Rattle.frames.specs.Play.{frame}
 use Rattle.frames.specs.Bytes.{latchedFrom}
 use Rattle.frames.specs.Answers.{frameOutcome, framedOutput}

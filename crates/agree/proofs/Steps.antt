@@ -8,20 +8,20 @@ use lib.ListN.{getD}
 use borrow.Author.Tests.{ne-eqb, le-leb, leb-true}
 use native.Mathlib.Omega.{arith}
 use Rattle.laws.specs.Pick.{pick, at-no, and-left, and-right, and-both}
-use Rattle.chip.specs.Part.{Part}
-use Rattle.chip.specs.Status.{bit, on}
-use Rattle.chip.specs.Latches.{noLatch, latched, nextCell}
+use Rattle.codes.specs.Part.{Part}
+use Rattle.codes.specs.Status.{bit, on}
+use Rattle.latch.specs.Latches.{noLatch, latched, nextCell}
 use Rattle.chip.specs.Records.{running, status}
-use Rattle.chip.specs.Instructions.{decode}
+use Rattle.codes.specs.Instructions.{decode}
 use Rattle.chip.specs.declared.Core.{Core}
-use Rattle.chip.specs.declared.Latch.{Latch}
-use Rattle.chip.specs.declared.Instruction.{Instruction}
-use Rattle.chip.specs.declared.Instruction.the-variants.{Wren, Wrdi, Rdsr, Wrsr, Read, Write, Silence}
+use Rattle.latch.specs.declared.Latch.{Latch}
+use Rattle.codes.specs.declared.Instruction.{Instruction}
+use Rattle.codes.specs.declared.Instruction.the-variants.{Wren, Wrdi, Rdsr, Wrsr, Read, Write, Silence}
 use Rattle.edges.specs.declared.Frame.{Frame}
 use Rattle.edges.specs.Frames.{noFrame}
 use Rattle.edges.specs.Rising.{wholeByte, taking}
 use Rattle.edges.specs.Falling.{fallen, loading}
-use Rattle.chip.specs.Output.{outputs}
+use Rattle.codes.specs.Output.{outputs}
 use Rattle.agree.proofs.Facts.{Good, on-bit, min-eqb, min-next}
 
 -- bits shown once k bits of a byte are taken, in data output and outside it

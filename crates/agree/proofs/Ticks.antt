@@ -4,12 +4,12 @@ use mathlib.Core.Bool.{Bool, not, _&&_}
 use mathlib.Core.List.{List, [], _∷_}
 use lib.Dec.{leb}
 use Rattle.laws.specs.Pick.{pick}
-use Rattle.chip.specs.Part.{Part}
-use Rattle.chip.specs.Status.{bit, on, bitOf}
+use Rattle.codes.specs.Part.{Part}
+use Rattle.codes.specs.Status.{bit, on, bitOf}
 use Rattle.chip.specs.Records.{running}
-use Rattle.chip.specs.Instructions.{decode}
-use Rattle.chip.specs.Protect.{protects}
-use Rattle.chip.specs.Verdicts.{verdict, isExecuted}
+use Rattle.codes.specs.Instructions.{decode}
+use Rattle.chip.specs.Questions.{protects}
+use Rattle.codes.specs.Verdicts.{verdict, isExecuted}
 use Rattle.chip.specs.Effects.{effect}
 use Rattle.chip.specs.declared.Core.{Core}
 use Rattle.edges.specs.declared.Frame.{Frame}

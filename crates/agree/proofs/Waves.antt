@@ -6,17 +6,17 @@ use mathlib.Core.Path.{_≡_, refl, sym, ap, ap₂, _∙_, subst}
 use lib.Dec.{T, leb, ltb}
 use lib.ListN.{length, replicate}
 use Rattle.laws.specs.Pick.{pick, pick-case, pick-same}
-use Rattle.chip.specs.Part.{Part}
-use Rattle.chip.specs.Status.{bit, on}
-use Rattle.chip.specs.Protect.{protects}
-use Rattle.chip.specs.Verdicts.{verdict, isExecuted}
+use Rattle.codes.specs.Part.{Part}
+use Rattle.codes.specs.Status.{bit, on}
+use Rattle.chip.specs.Questions.{protects}
+use Rattle.codes.specs.Verdicts.{verdict, isExecuted}
 use Rattle.chip.specs.Effects.{effect}
-use Rattle.chip.specs.Instructions.{decode}
+use Rattle.codes.specs.Instructions.{decode}
 use Rattle.chip.specs.Records.{running}
 use Rattle.chip.specs.Time.{timed, timedMemory}
 use Rattle.chip.specs.declared.Core.{Core}
-use Rattle.chip.specs.declared.Instruction.{Instruction}
-use Rattle.chip.specs.declared.Instruction.the-variants.{Wren, Wrdi, Rdsr, Wrsr, Read, Write, Silence}
+use Rattle.codes.specs.declared.Instruction.{Instruction}
+use Rattle.codes.specs.declared.Instruction.the-variants.{Wren, Wrdi, Rdsr, Wrsr, Read, Write, Silence}
 use Rattle.chip.proofs.Within.{Within}
 use Rattle.chip.proofs.Passing.{timed-within, timed-length}
 use Rattle.frames.specs.Answers.{framed, framedOutput}
@@ -26,7 +26,7 @@ use Rattle.pins.specs.declared.Event.the-variants.{S, C, D, W, Hold, Time}
 use Rattle.edges.specs.Frames.{noFrame}
 use Rattle.edges.specs.Rising.{risen}
 use Rattle.edges.specs.Falling.{fallen, loading}
-use Rattle.chip.specs.Output.{outputs}
+use Rattle.codes.specs.Output.{outputs}
 use Rattle.pins.specs.Devices.{q}
 use Rattle.pins.specs.Events.{onS, onC, onD, onW, onHold, onTime}
 use Rattle.pins.specs.Answers.{PinBench}

@@ -5,8 +5,8 @@ use mathlib.Core.List.{List, [], _∷_, _++_}
 use mathlib.Core.Path.{_≡_}
 use lib.Dec.{T}
 use lib.ListN.{length, take, getD}
-use Rattle.chip.specs.Part.{Part}
-use Rattle.chip.specs.Status.{on, bitOf}
+use Rattle.codes.specs.Part.{Part}
+use Rattle.codes.specs.Status.{on, bitOf}
 use Rattle.frames.specs.Answers.{bitsFit, longestFrame}
 use Rattle.pins.specs.declared.Event.{Event}
 use Rattle.pins.specs.declared.Event.the-variants.{S, C, D, W, Hold, Time}

@@ -4,8 +4,8 @@ use mathlib.Core.Bool.{Bool, true, false, not, _&&_, cond}
 use mathlib.Core.List.{List, [], _∷_, _++_}
 use mathlib.Core.Path.{_≡_}
 use lib.ListN.{length, replicate}
-use Rattle.chip.specs.Part.{Part}
-use Rattle.chip.specs.Status.{on}
+use Rattle.codes.specs.Part.{Part}
+use Rattle.codes.specs.Status.{on}
 use Rattle.chip.specs.Time.{timed, timedMemory}
 use Rattle.chip.specs.declared.Core.{Core}
 use Rattle.frames.specs.Answers.{framed, framedOutput}

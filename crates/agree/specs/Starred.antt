@@ -6,7 +6,7 @@ use mathlib.Core.List.{List, [], _∷_, _++_}
 use mathlib.Core.Path.{_≡_}
 use lib.ListN.{length, getD, replicate}
 use Rattle.laws.specs.Table.{table}
-use Rattle.chip.specs.Part.{m95512}
+use Rattle.codes.specs.Part.{m95512}
 use Rattle.chip.specs.Records.{status, idle}
 use Rattle.chip.specs.Time.{elapsed}
 use Rattle.chip.specs.Power.{delivered, deliveredMemory}
@@ -18,9 +18,9 @@ use Rattle.driver.specs.Sequence.{wren, sent, run}
 
 -- a record with a memory as delivered
 abbrev pub fresh : Core → FrameBench
-fresh c = device c (deliveredMemory m95512)
+fresh c = frameBench c (deliveredMemory m95512)
 
--- frames and readings actedAll on such a device
+-- frames and readings played on such a bench
 abbrev pub after : List Act → Core → FrameBench
 after acts c = actedAll m95512 acts (fresh c)
 

@@ -6,12 +6,12 @@ use native.Mathlib.Omega.{arith}
 use lib.Dec.{eqb}
 use borrow.Author.Tests.{ne-eqb}
 use Rattle.laws.specs.Pick.{pick, at-yes, at-no}
-use Rattle.chip.specs.Refusals.{refusalNumber, number}
-use Rattle.chip.specs.Protect.{protectionNumber, protectionValue}
-use Rattle.chip.specs.declared.Refusal.{Refusal}
-use Rattle.chip.specs.declared.Refusal.the-variants.{MemoryLength, RecordRange, FrameLength, BitCount, OutputLength, CycleLength, AddressRange, PollRange}
-use Rattle.chip.specs.declared.Outcome.{Outcome}
-use Rattle.chip.specs.declared.Outcome.the-variants as outcome
+use Rattle.codes.specs.Refusals.{refusalNumber, number}
+use Rattle.chip.specs.Questions.{protectionNumber, protectionValue}
+use Rattle.codes.specs.declared.Refusal.{Refusal}
+use Rattle.codes.specs.declared.Refusal.the-variants.{MemoryLength, RecordRange, FrameLength, BitCount, OutputLength, CycleLength, AddressRange, PollRange}
+use Rattle.codes.specs.declared.Outcome.{Outcome}
+use Rattle.codes.specs.declared.Outcome.the-variants as outcome
 use Rattle.chip.specs.declared.Protection.{Protection}
 use Rattle.chip.specs.declared.Protection.the-variants as protection
 use Rattle.frames.specs.Answers as frames

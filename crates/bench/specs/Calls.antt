@@ -5,11 +5,11 @@ use mathlib.Core.List.{List}
 use lib.ListN.{length}
 use lib.Dec.{eqb, leb}
 use Rattle.laws.specs.Pick.{pick}
-use Rattle.chip.specs.Part.{Part}
-use Rattle.chip.specs.Status.{on}
+use Rattle.codes.specs.Part.{Part}
+use Rattle.codes.specs.Status.{on}
 use Rattle.chip.specs.Records.{status}
 use Rattle.chip.specs.Ranges.{inRanges}
-use Rattle.chip.specs.Protect.{questionNumber, questionValue}
+use Rattle.chip.specs.Questions.{questionNumber, questionValue}
 use Rattle.chip.specs.Power.{delivered, poweredUp, powerUpNumber}
 use Rattle.chip.specs.Time.{readingNumber, clockReading}
 use Rattle.chip.specs.declared.Core.{Core}

@@ -1,12 +1,12 @@
 // The frame model's device for C: power-up, a clock reading, and what a record says.
 ghost use mathlib.Core.Path.{_≡_};
-ghost use Rattle.chip.specs.Part.{m95512};
+ghost use Rattle.codes.specs.Part.{m95512};
 ghost use Rattle.chip.specs.Time.{clockMemory};
 ghost use Rattle.bench.specs.Calls.{powerUpCall, readingCall, inRangesCall, statusCall, protectedCall};
 use crate::CoreAnswer;
 use crate::Value;
 use chip::Core;
-use chip::wide;
+use codes::wide;
 
 // Power-up. Refusal 2 for a flag that is not 0 or 1, then 6 for the cycle length; both leave the delivered record.
 #[no_mangle]

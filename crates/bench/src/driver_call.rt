@@ -1,6 +1,6 @@
 // The driver for C: a run of bytes written as page writes, and what it says of that.
 ghost use mathlib.Core.Path.{_≡_};
-ghost use Rattle.chip.specs.Part.{m95512};
+ghost use Rattle.codes.specs.Part.{m95512};
 ghost use Rattle.driver.specs.Answers.{drivenMemory};
 ghost use Rattle.bench.specs.Calls.{writeCall};
 use crate::DriverAnswer;

@@ -1,7 +1,7 @@
 // The frame model's frame for C.
 ghost use mathlib.Core.Path.{_≡_};
 ghost use lib.ListN.{length};
-ghost use Rattle.chip.specs.Part.{m95512};
+ghost use Rattle.codes.specs.Part.{m95512};
 ghost use Rattle.bench.specs.Calls.{frameCall, frameCallOutput};
 use crate::FrameAnswer;
 use crate::device_calls::bad_level;

@@ -1,6 +1,6 @@
 // The four numbers of the split, for C. The split's own archive exports them as cartvesper_split_*: other names here, so that both can be linked.
 ghost use mathlib.Core.Path.{_≡_};
-ghost use Rattle.chip.specs.Part.{m95512};
+ghost use Rattle.codes.specs.Part.{m95512};
 ghost use Rattle.split.specs.Split.{splitRefusal, splitParts, splitAddress, splitLength};
 use split::cartvesper_split_address;
 use split::cartvesper_split_length;

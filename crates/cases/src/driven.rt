@@ -2,7 +2,7 @@
 use crate::say;
 use chip::Core;
 use chip::power_up;
-use chip::wide;
+use codes::wide;
 
 // 300 bytes that differ at their ends.
 fn bytes_300() -> [u8; 300] {

@@ -3,7 +3,7 @@
 use chip::Core;
 use chip::clock_reading;
 use chip::power_up;
-use chip::wide;
+use codes::wide;
 use frames::frame;
 use libc::STDOUT_FILENO;
 

@@ -6,8 +6,8 @@ use native.Mathlib.Omega.{arith}
 use lib.Dec.{lit≤}
 use borrow.Author.Tests.{lt-ltb, le-ltb, le-leb}
 use Rattle.laws.specs.Pick.{pick-case, and-both}
-use Rattle.chip.specs.Part.{Part}
-use Rattle.chip.specs.Status.{bit}
+use Rattle.codes.specs.Part.{Part}
+use Rattle.codes.specs.Status.{bit}
 use Rattle.chip.specs.Records.{running, status, idle}
 use Rattle.chip.specs.Ranges.{flagsFit, cycleFits}
 use Rattle.chip.specs.Time.{elapsed}

@@ -11,20 +11,20 @@ use lib.Dec.{leb, eqb}
 use borrow.Author.Tests.{le-leb, leb-true, lt-ltb, eq-eqb, not-false}
 use Rattle.laws.specs.Pick.{pick, at-yes, at-no, and-left, and-right, and-both}
 use Rattle.laws.specs.Each.{each-at, each-of}
-use Rattle.chip.specs.Part.{Part, m95512, pages}
-use Rattle.chip.specs.Status.{on, bitOf, writable}
-use Rattle.chip.specs.Latches.{zeros, noLatch, latched, cellFits, latchFits}
+use Rattle.codes.specs.Part.{Part, m95512, pages}
+use Rattle.codes.specs.Status.{on, bitOf, writable}
+use Rattle.latch.specs.Latches.{zeros, noLatch, latched, cellFits, latchFits}
 use Rattle.chip.specs.Records.{running, nothing, statusWaits, pageWaits, waitsStatus, waitsPage, withWel, withCycle}
 use Rattle.chip.specs.Ranges.{valueFits, pageFits, waitFits}
-use Rattle.chip.specs.Verdicts.{verdict, isExecuted, needsNoCycle, needsWel}
+use Rattle.codes.specs.Verdicts.{verdict, isExecuted, needsNoCycle, needsWel}
 use Rattle.chip.specs.Effects.{effect}
-use Rattle.chip.specs.declared.Latch.{Latch}
+use Rattle.latch.specs.declared.Latch.{Latch}
 use Rattle.chip.specs.declared.Waiting.{Waiting}
 use Rattle.chip.specs.declared.Core.{Core}
-use Rattle.chip.specs.declared.Instruction.{Instruction}
-use Rattle.chip.specs.declared.Instruction.the-variants.{Wren, Wrdi, Rdsr, Wrsr, Read, Write, Silence}
+use Rattle.codes.specs.declared.Instruction.{Instruction}
+use Rattle.codes.specs.declared.Instruction.the-variants.{Wren, Wrdi, Rdsr, Wrsr, Read, Write, Silence}
 use Rattle.chip.proofs.Within.{Within, nothing-fits}
-use Rattle.chip.proofs.Judged.{passed}
+use Rattle.codes.proofs.Judged.{passed}
 
 -- what is asked of a part: its memory is a whole number of pages, and there is one
 pub record Paged (P : Part) : Type 0 where
@@ -34,32 +34,6 @@ pub record Paged (P : Part) : Type 0 where
 
 pub m95512-paged : Paged m95512
 m95512-paged = record { page = omega arith; size = omega arith; whole = refl }
-
--- ---- a latch
-
-pub none-latched : (P : Part) → latchFits P true (noLatch P) ≡ true
-unfolding zeros
-none-latched P = each-of (cellFits true (noLatch P)) (P .page) (λ i h. rw (getD-replicate {A = ℕ} (P .page) i 0 0 h) refl)
-
-or-more : (x y may : Bool) → (x || y && may) ≡ true → (x || y && true) ≡ true
-or-more true y may e = refl
-or-more false true may e = refl
-or-more false false may e = e
-
--- where nothing may be marked nothing is, so it fits where something may be
-pub more-fits : (P : Part) (may : Bool) (l : Latch) → latchFits P may l ≡ true → latchFits P true l ≡ true
-more-fits P may l e =
-    each-of (cellFits true l) (P .page)
-    (λ i h. or-more (eqb (getD (l .marks) i 0) 0 && eqb (getD (l .bytes) i 0) 0) (eqb (getD (l .marks) i 0) 1) may (each-at (cellFits may l) (P .page) i e h))
-
-pub one-latched : (P : Part) (k v : ℕ) (l : Latch) → k < length (l .marks) → latchFits P true l ≡ true → latchFits P true (latched k v l) ≡ true
-one-latched P k v l h fits = each-of (cellFits true (latched k v l)) (P .page) at
-  where
-    at : (j : ℕ) → j < P .page → cellFits true (latched k v l) j ≡ true
-    at j b = elim (ℕ-discrete j k) [
-      | yes e ↦ rw (e, getD-set-same (l .marks) k 1 0 h) refl
-      | no e ↦ rw (getD-set-other (l .marks) k j 1 0 e, getD-set-other (l .bytes) k j v 0 e) (each-at (cellFits true l) (P .page) j fits b)
-    ]
 
 -- ---- what waits
 

@@ -6,19 +6,19 @@ use Prim.Native.Nat.{ℕ}
 use lib.ListN.{length}
 use lib.Dec.{eqb, ltb}
 use Rattle.laws.specs.Pick.{pick, pick-ap, pick-cong, pick-same}
-use Rattle.chip.specs.Part.{Part}
-use Rattle.chip.specs.Refusals.{number}
+use Rattle.codes.specs.Part.{Part}
+use Rattle.codes.specs.Refusals.{number}
 use Rattle.chip.specs.Ranges.{cycleFits, inRanges}
-use Rattle.chip.specs.Protect.{protects, protection, protectionNumber, protectionValue, questionNumber, questionValue}
+use Rattle.chip.specs.Questions.{protects, protection, protectionNumber, protectionValue, questionNumber, questionValue}
 use Rattle.chip.specs.Power.{poweredUp, powerUpNumber}
 use Rattle.chip.specs.Time.{readingOutcome, readingNumber}
 use Rattle.chip.specs.declared.Core.{Core}
-use Rattle.chip.specs.declared.Outcome.{Outcome}
+use Rattle.codes.specs.declared.Outcome.{Outcome}
 use Rattle.chip.specs.declared.PoweredUp.{PoweredUp}
 use Rattle.chip.specs.declared.Protection.{Protection}
 use Rattle.chip.specs.declared.Protection.the-variants.{Open, Protected, Unanswered}
-use Rattle.chip.specs.declared.Refusal.the-variants.{RecordRange, AddressRange}
-use Rattle.chip.proofs.Bits.{pick-bit}
+use Rattle.codes.specs.declared.Refusal.the-variants.{RecordRange, AddressRange}
+use Rattle.codes.proofs.Bits.{pick-bit}
 
 module _ (P : Part) (n : ℕ) (s b a : Bool) (t : ℕ) where
   -- an answer that is the right one has the right number

@@ -9,15 +9,15 @@ use lib.ListN.{length, getD}
 use lib.Dec.{leb}
 use borrow.Author.Tests.{le-leb, lt-ltb, leb-false, ltb-true}
 use Rattle.laws.specs.Pick.{pick, at-yes, at-no, pick-case, pick-ap, pick-cong, pick-and, and-left, and-right, and-both}
-use Rattle.chip.specs.Part.{Part, pages}
-use Rattle.chip.specs.Status.{bitOf}
-use Rattle.chip.specs.Latches.{latchFits, inPage, marked, byteAt, stored}
+use Rattle.codes.specs.Part.{Part, pages}
+use Rattle.codes.specs.Status.{bitOf}
+use Rattle.latch.specs.Latches.{latchFits, inPage, marked, byteAt, stored}
 use Rattle.chip.specs.Records.{running, nothing, withStatus, withTime, withoutCycle, waitsStatus, waitsPage}
 use Rattle.chip.specs.Ranges.{flagsFit, pageFits, valueFits}
 use Rattle.chip.specs.Time.{elapsed, ends, endedMemory, timed, timedMemory}
 use Rattle.chip.specs.Cells.{offset, awaited}
 use Rattle.chip.specs.declared.Core.{Core}
-use Rattle.chip.proofs.Stores.{stored-at, stored-length}
+use Rattle.latch.proofs.Stores.{stored-at, stored-length}
 use Rattle.chip.proofs.Within.{Within, quiet-within, runs-within}
 
 -- ---- the ranges are kept

@@ -6,12 +6,12 @@ use Prim.Native.Nat.{ℕ}
 use lib.ListN.{length}
 use borrow.Author.Tests.{eq-eqb, ne-eqb}
 use Rattle.laws.specs.Pick.{at-no, yes-so, no-so}
-use Rattle.chip.specs.Part.{Part}
+use Rattle.codes.specs.Part.{Part}
 use Rattle.chip.specs.Ranges.{inRanges}
 use Rattle.chip.specs.Time.{readingOutcome}
 use Rattle.chip.specs.declared.Core.{Core}
-use Rattle.chip.specs.declared.Refusal.the-variants.{MemoryLength, RecordRange}
-use Rattle.chip.specs.declared.Outcome.the-variants.{Done, Refused}
+use Rattle.codes.specs.declared.Refusal.the-variants.{MemoryLength, RecordRange}
+use Rattle.codes.specs.declared.Outcome.the-variants.{Done, Refused}
 
 module _ (P : Part) (c : Core) (m : List ℕ) where
   pub memory-refused : (length m ≡ P .size → ⊥) → readingOutcome P c m ≡ Refused MemoryLength

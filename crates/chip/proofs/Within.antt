@@ -8,8 +8,8 @@ use lib.Dec.{leb, ltb}
 use borrow.Author.Tests.{le-leb, leb-true, le-ltb, lt-ltb, eq-eqb, ltb-false, ltb-true}
 use Rattle.laws.specs.Pick.{pick, at-no, and-left, and-right, and-both}
 use Rattle.laws.specs.Each.{each-of}
-use Rattle.chip.specs.Part.{Part}
-use Rattle.chip.specs.Latches.{zeros, noLatch, cellFits}
+use Rattle.codes.specs.Part.{Part}
+use Rattle.latch.specs.Latches.{zeros, noLatch, cellFits}
 use Rattle.chip.specs.Records.{nothing, withTime}
 use Rattle.chip.specs.Ranges.{flagsFit, cycleFits, timeFits, tied, waitFits, inRanges}
 use Rattle.chip.specs.declared.Core.{Core}

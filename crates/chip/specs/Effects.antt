@@ -1,11 +1,11 @@
 -- What an executed instruction does to the record. A WRSR or a WRITE sets time left to the cycle length.
 use Prim.Native.Nat.{ℕ}
-use Rattle.chip.specs.Part.{Part}
+use Rattle.codes.specs.Part.{Part}
 use Rattle.chip.specs.Records.{statusWaits, pageWaits, withWel, withCycle}
-use Rattle.chip.specs.declared.Latch.{Latch}
+use Rattle.latch.specs.declared.Latch.{Latch}
 use Rattle.chip.specs.declared.Core.{Core}
-use Rattle.chip.specs.declared.Instruction.{Instruction}
-use Rattle.chip.specs.declared.Instruction.the-variants.{Wren, Wrdi, Rdsr, Wrsr, Read, Write, Silence}
+use Rattle.codes.specs.declared.Instruction.{Instruction}
+use Rattle.codes.specs.declared.Instruction.the-variants.{Wren, Wrdi, Rdsr, Wrsr, Read, Write, Silence}
 
 -- value: the WRSR data byte; page and latch: where a WRITE goes and what it latched
 abbrev pub effect : Part → Instruction → ℕ → ℕ → Latch → Core → Core

@@ -4,13 +4,13 @@ use mathlib.Core.Bool.{Bool, false}
 use mathlib.Core.List.{List}
 use lib.ListN.{replicate}
 use Rattle.laws.specs.Pick.{pick}
-use Rattle.chip.specs.Part.{Part}
+use Rattle.codes.specs.Part.{Part}
 use Rattle.chip.specs.Records.{idle}
 use Rattle.chip.specs.Ranges.{cycleFits}
 use Rattle.chip.specs.declared.Core.{Core}
 use Rattle.chip.specs.declared.PoweredUp.{PoweredUp}
-use Rattle.chip.specs.declared.Refusal.the-variants.{CycleLength}
-use Rattle.chip.specs.declared.Outcome.the-variants.{Done, Refused}
+use Rattle.codes.specs.declared.Refusal.the-variants.{CycleLength}
+use Rattle.codes.specs.declared.Outcome.the-variants.{Done, Refused}
 
 -- the record that the trace text starts from: status bits 0, the longest cycle, reading 0
 abbrev pub delivered : Part → Core

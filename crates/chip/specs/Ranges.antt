@@ -3,9 +3,9 @@ use Prim.Native.Nat.{ℕ}
 use mathlib.Core.Bool.{Bool, _&&_, _||_}
 use lib.Dec.{leb, ltb, eqb}
 use Rattle.laws.specs.Pick.{pick}
-use Rattle.chip.specs.Part.{Part, pages}
-use Rattle.chip.specs.Status.{on, writable}
-use Rattle.chip.specs.Latches.{latchFits}
+use Rattle.codes.specs.Part.{Part, pages}
+use Rattle.codes.specs.Status.{on, writable}
+use Rattle.latch.specs.Latches.{latchFits}
 use Rattle.chip.specs.Records.{running, waitsNothing, waitsStatus, waitsPage}
 use Rattle.chip.specs.declared.Waiting.{Waiting}
 use Rattle.chip.specs.declared.Core.{Core}

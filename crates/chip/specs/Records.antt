@@ -2,10 +2,10 @@
 use Prim.Native.Nat.{ℕ, _-_}
 use mathlib.Core.Bool.{Bool}
 use lib.Dec.{ltb, eqb}
-use Rattle.chip.specs.Part.{Part}
-use Rattle.chip.specs.Status.{bit, on, statusByte, bitOf, writable}
-use Rattle.chip.specs.Latches.{noLatch}
-use Rattle.chip.specs.declared.Latch.{Latch}
+use Rattle.codes.specs.Part.{Part}
+use Rattle.codes.specs.Status.{bit, on, statusByte, bitOf, writable}
+use Rattle.latch.specs.Latches.{noLatch}
+use Rattle.latch.specs.declared.Latch.{Latch}
 use Rattle.chip.specs.declared.Waiting.{Waiting}
 use Rattle.chip.specs.declared.Core.{Core}
 

@@ -5,16 +5,16 @@ use mathlib.Core.List.{List}
 use lib.ListN.{length}
 use lib.Dec.{leb, eqb}
 use Rattle.laws.specs.Pick.{pick}
-use Rattle.chip.specs.Part.{Part}
-use Rattle.chip.specs.Latches.{stored}
+use Rattle.codes.specs.Part.{Part}
+use Rattle.latch.specs.Latches.{stored}
 use Rattle.chip.specs.Records.{running, waitsStatus, waitsPage, withStatus, withTime, withoutCycle}
 use Rattle.chip.specs.Ranges.{inRanges}
-use Rattle.chip.specs.Refusals.{isDone}
+use Rattle.codes.specs.Refusals.{isDone}
 use Rattle.chip.specs.declared.Core.{Core}
 use Rattle.chip.specs.declared.Timed.{Timed}
-use Rattle.chip.specs.declared.Refusal.the-variants.{MemoryLength, RecordRange}
-use Rattle.chip.specs.declared.Outcome.{Outcome}
-use Rattle.chip.specs.declared.Outcome.the-variants.{Done, Refused}
+use Rattle.codes.specs.declared.Refusal.the-variants.{MemoryLength, RecordRange}
+use Rattle.codes.specs.declared.Outcome.{Outcome}
+use Rattle.codes.specs.declared.Outcome.the-variants.{Done, Refused}
 
 -- new minus old on a free-running counter of 32 bits; old is a reading, below 2^32: the record's field is a u32
 abbrev pub elapsed : ℕ → ℕ → ℕ

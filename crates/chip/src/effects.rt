@@ -1,11 +1,11 @@
 // What an executed instruction does to the record.
 ghost use mathlib.Core.Path.{_≡_};
-ghost use Rattle.chip.specs.Part.{m95512};
+ghost use Rattle.codes.specs.Part.{m95512};
 ghost use Rattle.chip.specs.Records.{statusWaits, pageWaits, withWel, withCycle};
 use crate::Core;
-use crate::Latch;
 use crate::Waiting;
-use crate::status::writable;
+use codes::writable;
+use latch::Latch;
 
 impl Waiting {
     // Only the writable bits of a status value wait.

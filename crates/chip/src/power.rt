@@ -1,15 +1,15 @@
 // Power-up, and the device as delivered.
 ghost use mathlib.Core.Path.{_≡_};
-ghost use Rattle.chip.specs.Part.{m95512};
+ghost use Rattle.codes.specs.Part.{m95512};
 ghost use Rattle.chip.specs.Records.{idle};
 ghost use Rattle.chip.specs.Power.{delivered, poweredUp, powerUpNumber};
-ghost use Rattle.chip.specs.Refusals.{number};
+ghost use Rattle.codes.specs.Refusals.{number};
 use crate::Core;
-use crate::Outcome;
 use crate::PoweredUp;
-use crate::Refusal;
 use crate::Waiting;
 use crate::ranges::cycle_fits;
+use codes::Outcome;
+use codes::Refusal;
 
 impl Core {
     // WEL 0, no cycle, and the given status bits, cycle length and clock reading.

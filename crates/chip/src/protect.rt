@@ -1,26 +1,11 @@
-// Which addresses are protected (004, table 2).
+// Is an address protected: the question to a record.
 ghost use mathlib.Core.Path.{_≡_};
-ghost use Rattle.chip.specs.Part.{m95512};
-ghost use Rattle.chip.specs.Protect.{lowestProtected, protects, protection, protectionNumber, protectionValue, questionNumber, questionValue};
+ghost use Rattle.codes.specs.Part.{m95512};
+ghost use Rattle.chip.specs.Questions.{protects, protection, protectionNumber, protectionValue, questionNumber, questionValue};
 use crate::Core;
 use crate::Protection;
-use crate::Refusal;
-
-// The lowest protected address, the memory's size for none.
-pub fn lowest_protected(bp1: bool, bp0: bool) -> u32
-    ensures { λ r. ⌜ r ≡ lowestProtected m95512 bp1 bp0 ⌝ }
-{
-    if bp1 {
-        if bp0 {
-            return 0;
-        }
-        return 0x8000;
-    }
-    if bp0 {
-        return 0xc000;
-    }
-    0x10000
-}
+use codes::Refusal;
+use codes::lowest_protected;
 
 impl Core {
     // The lowest protected address is at most this one.

@@ -1,6 +1,6 @@
 // Is a record inside its ranges: the test that refusal 2 rests on. Each part of it has a definition of its own.
 ghost use mathlib.Core.Path.{_≡_};
-ghost use Rattle.chip.specs.Part.{m95512};
+ghost use Rattle.codes.specs.Part.{m95512};
 ghost use Rattle.chip.specs.Ranges.{flagsFit, cycleFits, timeFits, tied, valueFits, pageFits, waitFits, inRanges};
 use crate::Core;
 use crate::Waiting;
@@ -18,7 +18,7 @@ impl Waiting {
     {
         let status = self.status;
         if self.kind == 1 {
-            return crate::status::writable(status) == status;
+            return codes::writable(status) == status;
         }
         status == 0
     }

@@ -3,19 +3,19 @@ ghost use mathlib.Core.Path.{_≡_};
 ghost use mathlib.Core.Bool.{_&&_};
 ghost use Prim.Native.Nat.{_-_};
 ghost use lib.Dec.{leb};
-ghost use Rattle.chip.specs.Part.{m95512};
+ghost use Rattle.codes.specs.Part.{m95512};
 ghost use Rattle.chip.specs.Records.{running, nothing, withStatus, withTime, withoutCycle};
-ghost use Rattle.chip.specs.Refusals.{number};
+ghost use Rattle.codes.specs.Refusals.{number};
 ghost use Rattle.chip.specs.Time.{elapsed, ends, ended, endedMemory, timed, timedMemory, readingNumber, clockReading, clockMemory};
 use crate::Core;
-use crate::Latch;
-use crate::Outcome;
-use crate::Refusal;
 use crate::Timed;
 use crate::Waiting;
-use crate::status::bp0_of;
-use crate::status::bp1_of;
-use crate::status::srwd_of;
+use codes::Outcome;
+use codes::Refusal;
+use codes::bp0_of;
+use codes::bp1_of;
+use codes::srwd_of;
+use latch::Latch;
 
 // Readings come from a free-running 32-bit microsecond counter that wraps.
 pub fn elapsed(old: u32, new: u32) -> u32

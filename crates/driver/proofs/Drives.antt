@@ -6,7 +6,7 @@ use Prim.Native.Nat.{ℕ}
 use lib.ListN.{length}
 use borrow.Author.Tests.{eq-eqb, ne-eqb}
 use Rattle.laws.specs.Pick.{at-yes, at-no}
-use Rattle.chip.specs.Part.{Part}
+use Rattle.codes.specs.Part.{Part}
 use Rattle.chip.specs.Records.{running}
 use Rattle.frames.specs.Play.{Act, FrameBench, actedAll}
 use Rattle.driver.specs.declared.Driven.{Driven}

@@ -11,16 +11,16 @@ use borrow.Author.Tests.{le-leb, eq-eqb}
 use Rattle.laws.specs.Pick.{pick, pick-same, at-yes, yes-so, eq-so, ne-so, le-so, and-both}
 use Rattle.laws.specs.Spliced.{spliced, spliced-length}
 use Rattle.laws.specs.Table.{from, table}
-use Rattle.chip.specs.Part.{m95512}
+use Rattle.codes.specs.Part.{m95512}
 use Rattle.chip.specs.Records.{running, status}
 use Rattle.chip.specs.Ranges.{inRanges}
-use Rattle.chip.specs.Refusals.{isDone}
+use Rattle.codes.specs.Refusals.{isDone}
 use Rattle.chip.specs.Time.{timed, timedMemory, clockReading, clockMemory}
 use Rattle.chip.proofs.Readings.{reading-taken}
-use Rattle.chip.specs.Instructions.{decode}
-use Rattle.chip.specs.Verdicts.{isExecuted}
+use Rattle.codes.specs.Instructions.{decode}
+use Rattle.codes.specs.Verdicts.{isExecuted}
 use Rattle.chip.specs.declared.Core.{Core}
-use Rattle.chip.specs.declared.Outcome.the-variants.{Done}
+use Rattle.codes.specs.declared.Outcome.the-variants.{Done}
 use Rattle.frames.proofs.Showing.{copied}
 use Rattle.frames.specs.After.{judged, after}
 use Rattle.frames.specs.Shown.{padded, output}

@@ -4,7 +4,7 @@ use mathlib.Core.Path.{_≡_, ap, sym, _∙_}
 use mathlib.Core.List.{List, [], _∷_, _++_}
 use Prim.Native.Nat.{ℕ, _+_, _-_, _≤_}
 use native.Mathlib.Omega.{arith}
-use Rattle.chip.specs.Part.{Part, m95512}
+use Rattle.codes.specs.Part.{Part, m95512}
 use Rattle.chip.specs.Records.{status}
 use Rattle.chip.specs.declared.Core.{Core}
 use Rattle.frames.specs.Play.{Act, FrameBench, acted, actedAll, frameBench}

@@ -10,13 +10,13 @@ use lib.ListN.{length}
 use borrow.Author.Tests.{eqb-true, leb-true, le-leb, lt-leb}
 use Rattle.laws.specs.Pick.{pick, pick-ap, pick-cong}
 use Rattle.laws.specs.And.{and-4-out}
-use Rattle.chip.specs.Part.{Part, m95512}
+use Rattle.codes.specs.Part.{Part, m95512}
 use Rattle.chip.specs.Ranges.{inRanges}
 use Rattle.chip.specs.declared.Core.{Core}
-use Rattle.chip.specs.declared.Refusal.{Refusal}
-use Rattle.chip.specs.declared.Refusal.the-variants.{MemoryLength, RecordRange, AddressRange, PollRange}
-use Rattle.chip.specs.declared.Outcome.{Outcome}
-use Rattle.chip.specs.declared.Outcome.the-variants as outcome
+use Rattle.codes.specs.declared.Refusal.{Refusal}
+use Rattle.codes.specs.declared.Refusal.the-variants.{MemoryLength, RecordRange, AddressRange, PollRange}
+use Rattle.codes.specs.declared.Outcome.{Outcome}
+use Rattle.codes.specs.declared.Outcome.the-variants as outcome
 use Rattle.frames.proofs.Outcomes.{not-refused}
 use Rattle.frames.specs.Play.{FrameBench, actedAll, frameBench}
 use Rattle.driver.specs.declared.Sent.{Sent}

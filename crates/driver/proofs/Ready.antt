@@ -1,10 +1,10 @@
--- A device that no call refuses, and that whatever is actedAll on it leaves one.
+-- A device that no call refuses, and that whatever is played on it leaves one.
 use mathlib.Core.Path.{_≡_, refl, _∙_}
 use mathlib.Core.Bool.{true}
 use mathlib.Core.List.{List, [], _∷_}
 use Prim.Native.Nat.{ℕ}
 use lib.ListN.{length}
-use Rattle.chip.specs.Part.{m95512}
+use Rattle.codes.specs.Part.{m95512}
 use Rattle.chip.specs.Ranges.{inRanges}
 use Rattle.chip.specs.declared.Core.{Core}
 use Rattle.chip.proofs.Within.{within, in-ranges}

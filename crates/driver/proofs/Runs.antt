@@ -7,8 +7,8 @@ use native.Mathlib.Decide.{decLe}
 use native.Mathlib.Omega.{arith}
 use lib.ListN.{length}
 use Rattle.laws.specs.Pick.{at-yes, at-no}
-use Rattle.chip.specs.Part.{Part}
-use Rattle.chip.specs.Status.{on}
+use Rattle.codes.specs.Part.{Part}
+use Rattle.codes.specs.Status.{on}
 use Rattle.chip.specs.Records.{running}
 use Rattle.split.specs.Split.{count, splitAddress}
 use Rattle.split.specs.Pieces.{piece}

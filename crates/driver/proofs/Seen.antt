@@ -4,7 +4,7 @@ use mathlib.Core.Bool.{Bool, true, false}
 use Prim.Native.Nat.{ℕ, _%_, _≤_}
 use native.Mathlib.Omega.{arith}
 use lib.Bits.{bitAnd, and-mask}
-use Rattle.chip.specs.Status.{bit, on, bitOf}
+use Rattle.codes.specs.Status.{bit, on, bitOf}
 use Rattle.chip.specs.Records.{running, status}
 use Rattle.chip.specs.declared.Core.{Core}
 

@@ -10,8 +10,8 @@ use lib.Dec.{eqb, ltb}
 use borrow.Author.Tests.{lt-ltb, eqb-true, ltb-true}
 use Rattle.laws.specs.Pick.{at-yes, at-no, pick-case, and-left, and-right}
 use Rattle.laws.specs.And.{and-other}
-use Rattle.chip.specs.Part.{Part}
-use Rattle.chip.specs.Status.{bit}
+use Rattle.codes.specs.Part.{Part}
+use Rattle.codes.specs.Status.{bit}
 use Rattle.chip.specs.Records.{running, status}
 use Rattle.chip.specs.declared.Core.{Core}
 use Rattle.chip.proofs.Cases.{wip}
@@ -38,7 +38,7 @@ module _ (P : Part) (i : ℕ) (d : FrameBench) where
   unfolding pollsOn
   polls-on-none k e = rw e refl
 
-  -- what a poll leaves to be actedAll, and to be counted
+  -- what a poll leaves to be played, and to be counted
   pub played-busy : (j k : ℕ) → j ≡ suc k → running (d .core) ≡ true → actedAll P (pollsOn P i j d) d ≡ actedAll P (pollsOn P i k polled) polled
   played-busy j k e r =
       ap (λ (n : ℕ). actedAll P (pollsOn P i n d) d) e

@@ -1,14 +1,14 @@
 -- What the driver sends: a list of frames and clock readings. Each wait takes its limit as the most polls that it may make; the state along the
--- way is that of the frame definitions actedAll over the list, and nothing here counts but `sent`, over the list itself.
+-- way is that of the frame definitions played over the list, and nothing here counts but `sent`, over the list itself.
 use Prim.Native.Nat.{ℕ, zero, suc, _+_, _-_, _*_, _/_, _%_, _^_}
 use mathlib.Core.Bool.{true}
 use mathlib.Core.List.{List, [], _∷_, _++_}
 use lib.ListN.{length}
 use lib.Dec.{eqb}
 use Rattle.laws.specs.Pick.{pick}
-use Rattle.chip.specs.Part.{Part}
-use Rattle.chip.specs.Instructions.{wrenCode, wrdiCode, rdsrCode, writeCode}
-use Rattle.chip.specs.Status.{on}
+use Rattle.codes.specs.Part.{Part}
+use Rattle.codes.specs.Instructions.{wrenCode, wrdiCode, rdsrCode, writeCode}
+use Rattle.codes.specs.Status.{on}
 use Rattle.chip.specs.Records.{running}
 use Rattle.chip.specs.declared.Core.{Core}
 use Rattle.frames.specs.Play.{Act, frame, reading, FrameBench, acted, actedAll, frameBench}

@@ -6,13 +6,14 @@ ghost use mathlib.Core.Path.{_≡_};
 ghost use mathlib.Core.Bool.{true};
 ghost use Prim.Native.Nat.{_≤_};
 ghost use lib.ListN.{length};
-ghost use Rattle.chip.specs.Part.{m95512};
+ghost use Rattle.codes.specs.Part.{m95512};
 ghost use Rattle.chip.specs.Ranges.{inRanges};
-ghost use Rattle.driver.specs.Sequence.{device, playedFrom, run};
+ghost use Rattle.frames.specs.Play.{frameBench};
+ghost use Rattle.driver.specs.Sequence.{playedFrom, run};
 ghost use Rattle.driver.specs.Answers.{answerNumber, answerPages, answerFrames, runAnswer, driveNumber, drivePages, driveFrames, driven, drivenMemory};
 use chip::Core;
-use chip::Outcome;
-use chip::Refusal;
+use codes::Outcome;
+use codes::Refusal;
 
 mod answers;
 mod pages;
@@ -52,7 +53,7 @@ fn drive(
     requires { ⌜ length (now memory) ≡ 65536 ⌝ }
     requires { ⌜ inRanges m95512 core ≡ true ⌝ }
     requires { ⌜ (1 ≤ limit) × (limit ≤ 5001) ⌝ }
-    ensures { λ r. ⌜ r ≡ record { answer = runAnswer (run m95512 interval limit address (now (bytes .entry)) (device core (now (memory .entry)))); core = playedFrom m95512 (λ d. run m95512 interval limit address (now (bytes .entry)) d .acts) core (now (memory .entry)) .core } ⌝ }
+    ensures { λ r. ⌜ r ≡ record { answer = runAnswer (run m95512 interval limit address (now (bytes .entry)) (frameBench core (now (memory .entry)))); core = playedFrom m95512 (λ d. run m95512 interval limit address (now (bytes .entry)) d .acts) core (now (memory .entry)) .core } ⌝ }
     ensures { λ _. ⌜ now (memory .exit) ≡ playedFrom m95512 (λ d. run m95512 interval limit address (now (bytes .entry)) d .acts) core (now (memory .entry)) .memory ⌝ }
 {
     if bytes.len() == 0 {
@@ -91,7 +92,7 @@ pub fn write(
     limit: u32,
 ) -> Driven
     ensures { λ r. ⌜ r ≡ driven m95512 core (now (memory .entry)) address (now (bytes .entry)) interval limit ⌝ }
-    ensures { λ r. ⌜ answerNumber (r .answer) ≡ driveNumber m95512 core (length (now (memory .entry))) address (length (now (bytes .entry))) interval limit (run m95512 interval limit address (now (bytes .entry)) (device core (now (memory .entry))) .ending) ⌝ }
+    ensures { λ r. ⌜ answerNumber (r .answer) ≡ driveNumber m95512 core (length (now (memory .entry))) address (length (now (bytes .entry))) interval limit (run m95512 interval limit address (now (bytes .entry)) (frameBench core (now (memory .entry))) .ending) ⌝ }
     ensures { λ r. ⌜ answerPages (r .answer) ≡ drivePages m95512 core (now (memory .entry)) address (now (bytes .entry)) interval limit ⌝ }
     ensures { λ r. ⌜ answerFrames (r .answer) ≡ driveFrames m95512 core (now (memory .entry)) address (now (bytes .entry)) interval limit ⌝ }
     ensures { λ _. ⌜ now (memory .exit) ≡ drivenMemory m95512 core (now (memory .entry)) address (now (bytes .entry)) interval limit ⌝ }

@@ -3,13 +3,14 @@ ghost use mathlib.Core.Path.{_≡_};
 ghost use mathlib.Core.Bool.{true};
 ghost use Prim.Native.Nat.{_+_, _≤_, _<_};
 ghost use lib.ListN.{length};
-ghost use Rattle.chip.specs.Part.{m95512};
+ghost use Rattle.codes.specs.Part.{m95512};
 ghost use Rattle.chip.specs.Ranges.{inRanges};
 ghost use Rattle.chip.specs.Records.{status};
-ghost use Rattle.chip.specs.Status.{on, bitOf};
+ghost use Rattle.codes.specs.Status.{on, bitOf};
 ghost use Rattle.split.specs.Split.{count, splitAddress};
 ghost use Rattle.split.specs.Pieces.{piece};
-ghost use Rattle.driver.specs.Sequence.{sent, device, playedFrom, pageActs, allParts};
+ghost use Rattle.frames.specs.Play.{frameBench};
+ghost use Rattle.driver.specs.Sequence.{sent, playedFrom, pageActs, allParts};
 ghost use Rattle.driver.specs.Answers.{partsAnswer};
 use crate::Answer;
 use crate::Driven;
@@ -19,8 +20,8 @@ use crate::sending::send_write;
 use crate::waiting::Waited;
 use crate::waiting::page_wait;
 use chip::Core;
-use chip::WRDI;
-use chip::WREN;
+use codes::WRDI;
+use codes::WREN;
 use split::cartvesper_split_address;
 use split::cartvesper_split_length;
 use split::cartvesper_split_parts;
@@ -41,7 +42,7 @@ fn write_page(
     requires { ⌜ (1 ≤ limit) × (limit ≤ 5001) ⌝ }
     ensures { λ r. ⌜ r .core ≡ playedFrom m95512 (pageActs m95512 interval limit address (now (bytes .entry))) core (now (memory .entry)) .core ⌝ }
     ensures { λ r. ⌜ r .status ≡ status (r .core) ⌝ }
-    ensures { λ r. ⌜ r .frames ≡ sent (pageActs m95512 interval limit address (now (bytes .entry)) (device core (now (memory .entry)))) ⌝ }
+    ensures { λ r. ⌜ r .frames ≡ sent (pageActs m95512 interval limit address (now (bytes .entry)) (frameBench core (now (memory .entry)))) ⌝ }
     ensures { λ _. ⌜ now (memory .exit) ≡ playedFrom m95512 (pageActs m95512 interval limit address (now (bytes .entry))) core (now (memory .entry)) .memory ⌝ }
 {
     let wren = [WREN];
@@ -66,7 +67,7 @@ fn write_part(
     requires { ⌜ k < count 65536 128 address (length (now bytes)) ⌝ }
     ensures { λ r. ⌜ r .core ≡ playedFrom m95512 (pageActs m95512 interval limit (splitAddress 65536 128 address (length (now (bytes .entry))) k) (piece 65536 128 address (now (bytes .entry)) k)) core (now (memory .entry)) .core ⌝ }
     ensures { λ r. ⌜ r .status ≡ status (r .core) ⌝ }
-    ensures { λ r. ⌜ r .frames ≡ sent (pageActs m95512 interval limit (splitAddress 65536 128 address (length (now (bytes .entry))) k) (piece 65536 128 address (now (bytes .entry)) k) (device core (now (memory .entry)))) ⌝ }
+    ensures { λ r. ⌜ r .frames ≡ sent (pageActs m95512 interval limit (splitAddress 65536 128 address (length (now (bytes .entry))) k) (piece 65536 128 address (now (bytes .entry)) k) (frameBench core (now (memory .entry)))) ⌝ }
     ensures { λ _. ⌜ now (memory .exit) ≡ playedFrom m95512 (pageActs m95512 interval limit (splitAddress 65536 128 address (length (now (bytes .entry))) k) (piece 65536 128 address (now (bytes .entry)) k)) core (now (memory .entry)) .memory ⌝ }
 {
     let n = bytes.len() as u64;
@@ -110,7 +111,7 @@ pub(crate) fn write_parts(
     requires { ⌜ inRanges m95512 core ≡ true ⌝ }
     requires { ⌜ (1 ≤ limit) × (limit ≤ 5001) ⌝ }
     requires { ⌜ sent ≤ 5001 ⌝ }
-    ensures { λ r. ⌜ r ≡ record { answer = partsAnswer sent (allParts m95512 interval limit address (now (bytes .entry)) (device core (now (memory .entry)))); core = playedFrom m95512 (λ d. allParts m95512 interval limit address (now (bytes .entry)) d .acts) core (now (memory .entry)) .core } ⌝ }
+    ensures { λ r. ⌜ r ≡ record { answer = partsAnswer sent (allParts m95512 interval limit address (now (bytes .entry)) (frameBench core (now (memory .entry)))); core = playedFrom m95512 (λ d. allParts m95512 interval limit address (now (bytes .entry)) d .acts) core (now (memory .entry)) .core } ⌝ }
     ensures { λ _. ⌜ now (memory .exit) ≡ playedFrom m95512 (λ d. allParts m95512 interval limit address (now (bytes .entry)) d .acts) core (now (memory .entry)) .memory ⌝ }
 {
     let parts = cartvesper_split_parts(address, bytes.len() as u64, 0);

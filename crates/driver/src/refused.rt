@@ -2,11 +2,11 @@
 ghost use mathlib.Core.Path.{_≡_};
 ghost use Prim.Native.Nat.{_+_};
 ghost use lib.Dec.{leb};
-ghost use Rattle.chip.specs.Part.{m95512};
+ghost use Rattle.codes.specs.Part.{m95512};
 ghost use Rattle.driver.specs.Answers.{pollsFit, driveOutcome};
 use chip::Core;
-use chip::Outcome;
-use chip::Refusal;
+use codes::Outcome;
+use codes::Refusal;
 
 // The run lies in the memory. The sum of address and length is never made before it is known to fit.
 fn run_fits(address: u64, len: usize) -> bool

@@ -3,14 +3,14 @@ ghost use mathlib.Core.Path.{_≡_};
 ghost use mathlib.Core.Bool.{true};
 ghost use Prim.Native.Nat.{_*_, _≤_, _<_};
 ghost use lib.ListN.{length};
-ghost use Rattle.chip.specs.Part.{m95512};
+ghost use Rattle.codes.specs.Part.{m95512};
 ghost use Rattle.chip.specs.Ranges.{inRanges};
 ghost use Rattle.chip.specs.Records.{running, status};
 ghost use Rattle.frames.specs.After.{after};
 ghost use Rattle.driver.specs.Sequence.{writeBytes};
 use chip::Core;
-use chip::RDSR;
-use chip::WRITE;
+use codes::RDSR;
+use codes::WRITE;
 
 // The longest frame sent: the code, two address bytes and a page.
 const LONGEST: usize = 131;

@@ -3,10 +3,11 @@ ghost use mathlib.Core.Path.{_≡_};
 ghost use mathlib.Core.Bool.{true};
 ghost use Prim.Native.Nat.{_+_, _≤_};
 ghost use lib.ListN.{length};
-ghost use Rattle.chip.specs.Part.{m95512};
+ghost use Rattle.codes.specs.Part.{m95512};
 ghost use Rattle.chip.specs.Ranges.{inRanges};
 ghost use Rattle.chip.specs.Records.{status};
-ghost use Rattle.driver.specs.Sequence.{sent, device, playedFrom, latePoll, pollsOn, firstWait, pageWait};
+ghost use Rattle.frames.specs.Play.{frameBench};
+ghost use Rattle.driver.specs.Sequence.{sent, playedFrom, latePoll, pollsOn, firstWait, pageWait};
 use crate::sending::Polled;
 use crate::sending::poll;
 use chip::Core;
@@ -50,7 +51,7 @@ fn poll_on(seen: Polled, memory: &mut [u8], interval: u32, left: u32) -> Waited
     requires { ⌜ seen .status ≡ status (seen .core) ⌝ }
     ensures { λ r. ⌜ r .core ≡ playedFrom m95512 (pollsOn m95512 interval left) (seen .core) (now (memory .entry)) .core ⌝ }
     ensures { λ r. ⌜ r .status ≡ status (r .core) ⌝ }
-    ensures { λ r. ⌜ r .frames ≡ sent (pollsOn m95512 interval left (device (seen .core) (now (memory .entry)))) ⌝ }
+    ensures { λ r. ⌜ r .frames ≡ sent (pollsOn m95512 interval left (frameBench (seen .core) (now (memory .entry)))) ⌝ }
     ensures { λ _. ⌜ now (memory .exit) ≡ playedFrom m95512 (pollsOn m95512 interval left) (seen .core) (now (memory .entry)) .memory ⌝ }
 {
     let mut polled = seen;
@@ -75,7 +76,7 @@ pub(crate) fn first_wait(core: Core, memory: &mut [u8], interval: u32, limit: u3
     requires { ⌜ (1 ≤ limit) × (limit ≤ 5001) ⌝ }
     ensures { λ r. ⌜ r .core ≡ playedFrom m95512 (firstWait m95512 interval limit) core (now (memory .entry)) .core ⌝ }
     ensures { λ r. ⌜ r .status ≡ status (r .core) ⌝ }
-    ensures { λ r. ⌜ r .frames ≡ sent (firstWait m95512 interval limit (device core (now (memory .entry)))) ⌝ }
+    ensures { λ r. ⌜ r .frames ≡ sent (firstWait m95512 interval limit (frameBench core (now (memory .entry)))) ⌝ }
     ensures { λ _. ⌜ now (memory .exit) ≡ playedFrom m95512 (firstWait m95512 interval limit) core (now (memory .entry)) .memory ⌝ }
 {
     let seen = poll(core, memory);
@@ -89,7 +90,7 @@ pub(crate) fn page_wait(core: Core, memory: &mut [u8], interval: u32, limit: u32
     requires { ⌜ (1 ≤ limit) × (limit ≤ 5001) ⌝ }
     ensures { λ r. ⌜ r .core ≡ playedFrom m95512 (pageWait m95512 interval limit) core (now (memory .entry)) .core ⌝ }
     ensures { λ r. ⌜ r .status ≡ status (r .core) ⌝ }
-    ensures { λ r. ⌜ r .frames ≡ sent (pageWait m95512 interval limit (device core (now (memory .entry)))) ⌝ }
+    ensures { λ r. ⌜ r .frames ≡ sent (pageWait m95512 interval limit (frameBench core (now (memory .entry)))) ⌝ }
     ensures { λ _. ⌜ now (memory .exit) ≡ playedFrom m95512 (pageWait m95512 interval limit) core (now (memory .entry)) .memory ⌝ }
 {
     let seen = late_poll(core, memory, interval);

@@ -7,9 +7,9 @@ use crate::run::count;
 use crate::run::same;
 use crate::run::same_at;
 use chip::Core;
-use chip::Latch;
 use chip::Waiting;
-use chip::wide;
+use codes::wide;
+use latch::Latch;
 use pins::Device;
 
 // Bit k of a run of bytes, the high bit of the first byte being bit 0; 1 past the end.

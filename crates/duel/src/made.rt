@@ -5,12 +5,12 @@ use crate::chance::below;
 use crate::chance::byte;
 use crate::chance::percent;
 use crate::run::Run;
-use chip::RDSR;
-use chip::READ;
-use chip::WRDI;
-use chip::WREN;
-use chip::WRITE;
-use chip::WRSR;
+use codes::RDSR;
+use codes::READ;
+use codes::WRDI;
+use codes::WREN;
+use codes::WRITE;
+use codes::WRSR;
 
 // One of the six, or sometimes any byte.
 fn any_code(run: &mut Run) -> u8 {

@@ -5,14 +5,14 @@ use mathlib.Core.List.{List}
 use lib.ListN.{getD}
 use lib.Dec.{eqb, leb, ltb}
 use Rattle.laws.specs.Pick.{pick}
-use Rattle.chip.specs.Part.{Part}
-use Rattle.chip.specs.Status.{on, bitOf}
+use Rattle.codes.specs.Part.{Part}
+use Rattle.codes.specs.Status.{on, bitOf}
 use Rattle.chip.specs.Records.{status}
-use Rattle.chip.specs.Instructions.{decode}
-use Rattle.chip.specs.Output.{outputs}
+use Rattle.codes.specs.Instructions.{decode}
+use Rattle.codes.specs.Output.{outputs}
 use Rattle.chip.specs.declared.Core.{Core}
-use Rattle.chip.specs.declared.Instruction.{Instruction}
-use Rattle.chip.specs.declared.Instruction.the-variants.{Wren, Wrdi, Rdsr, Wrsr, Read, Write, Silence}
+use Rattle.codes.specs.declared.Instruction.{Instruction}
+use Rattle.codes.specs.declared.Instruction.the-variants.{Wren, Wrdi, Rdsr, Wrsr, Read, Write, Silence}
 use Rattle.edges.specs.declared.Frame.{Frame}
 use Rattle.edges.specs.declared.Level.{Level}
 use Rattle.edges.specs.declared.Level.the-variants.{Zero, One, Z}

@@ -1,10 +1,10 @@
 -- The frame in hand: every way in which one is made of another. But for a list's own parts (lists/Ways), no such record is written out anywhere else.
 use Prim.Native.Nat.{ℕ, _+_, min}
 use mathlib.Core.Bool.{Bool}
-use Rattle.chip.specs.Part.{Part}
-use Rattle.chip.specs.Status.{bit}
-use Rattle.chip.specs.Latches.{noLatch}
-use Rattle.chip.specs.declared.Latch.{Latch}
+use Rattle.codes.specs.Part.{Part}
+use Rattle.codes.specs.Status.{bit}
+use Rattle.latch.specs.Latches.{noLatch}
+use Rattle.latch.specs.declared.Latch.{Latch}
 use Rattle.edges.specs.declared.Frame.{Frame}
 
 abbrev pub noFrame : Part → Frame

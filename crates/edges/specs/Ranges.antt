@@ -3,13 +3,13 @@ use Prim.Native.Nat.{ℕ, _+_, _-_, _%_, _^_}
 use mathlib.Core.Bool.{Bool, false, not, _&&_, _||_}
 use lib.Dec.{eqb, leb, ltb}
 use Rattle.laws.specs.Pick.{pick}
-use Rattle.chip.specs.Part.{Part}
-use Rattle.chip.specs.Status.{on}
-use Rattle.chip.specs.Instructions.{decode}
-use Rattle.chip.specs.Latches.{latchFits}
-use Rattle.chip.specs.Output.{outputs}
-use Rattle.chip.specs.declared.Instruction.{Instruction}
-use Rattle.chip.specs.declared.Instruction.the-variants.{Wren, Wrdi, Rdsr, Wrsr, Read, Write, Silence}
+use Rattle.codes.specs.Part.{Part}
+use Rattle.codes.specs.Status.{on}
+use Rattle.codes.specs.Instructions.{decode}
+use Rattle.latch.specs.Latches.{latchFits}
+use Rattle.codes.specs.Output.{outputs}
+use Rattle.codes.specs.declared.Instruction.{Instruction}
+use Rattle.codes.specs.declared.Instruction.the-variants.{Wren, Wrdi, Rdsr, Wrsr, Read, Write, Silence}
 use Rattle.edges.specs.declared.Frame.{Frame}
 
 -- bits taken of the current byte, and the values of those bits and no others

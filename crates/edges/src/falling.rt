@@ -2,15 +2,15 @@
 ghost use mathlib.Core.Path.{_≡_};
 ghost use Prim.Native.Nat.{_+_, _-_, _%_, _<_};
 ghost use lib.ListN.{getD};
-ghost use Rattle.chip.specs.Part.{m95512};
-ghost use Rattle.chip.specs.Status.{bitOf};
-ghost use Rattle.chip.specs.declared.Instruction.the-variants.{Read};
-ghost use Rattle.chip.specs.Output.{outputs};
+ghost use Rattle.codes.specs.Part.{m95512};
+ghost use Rattle.codes.specs.Status.{bitOf};
+ghost use Rattle.codes.specs.declared.Instruction.the-variants.{Read};
+ghost use Rattle.codes.specs.Output.{outputs};
 ghost use Rattle.edges.specs.Falling.{loading, levelShown, levelNumber};
 use crate::Frame;
 use crate::Level;
 use chip::Core;
-use chip::Instruction;
+use codes::Instruction;
 
 // Data output: RDSR after its code; READ after its address, if no cycle ran at the eighth edge.
 pub fn outputs(i: Instruction, taken: u8, ran: bool) -> bool

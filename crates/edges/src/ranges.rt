@@ -3,12 +3,12 @@ ghost use mathlib.Core.Path.{_≡_};
 ghost use mathlib.Core.Bool.{_&&_};
 ghost use Prim.Native.Nat.{_-_, _%_, _^_, _<_};
 ghost use lib.Dec.{eqb, ltb};
-ghost use Rattle.chip.specs.Part.{m95512};
-ghost use Rattle.chip.specs.Instructions.{decode};
+ghost use Rattle.codes.specs.Part.{m95512};
+ghost use Rattle.codes.specs.Instructions.{decode};
 ghost use Rattle.edges.specs.Ranges.{partFits, countsFit, codeFits, addressFits, valued, latches, outFits, fieldsFit, frameFits};
 use crate::Frame;
 use crate::falling::outputs;
-use chip::Instruction;
+use codes::Instruction;
 
 // 2 to the number of bits taken, for one byte.
 fn two_to(bits: u8) -> u32
@@ -138,6 +138,6 @@ impl Frame {
     pub fn fits(self) -> bool
         ensures { λ r. ⌜ r ≡ frameFits m95512 self ⌝ }
     {
-        self.counts_fit() & self.code_fits() & self.fields_fit(chip::decode(self.code))
+        self.counts_fit() & self.code_fits() & self.fields_fit(codes::decode(self.code))
     }
 }

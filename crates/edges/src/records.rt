@@ -1,11 +1,11 @@
 // The frame in hand, made of another.
 ghost use mathlib.Core.Path.{_≡_};
 ghost use Prim.Native.Nat.{_+_, min};
-ghost use Rattle.chip.specs.Part.{m95512};
-ghost use Rattle.chip.specs.Status.{bit};
+ghost use Rattle.codes.specs.Part.{m95512};
+ghost use Rattle.codes.specs.Status.{bit};
 ghost use Rattle.edges.specs.Frames.{noFrame, withByte, withCode, withValue, withOut, withAddress, withLatch};
 use crate::Frame;
-use chip::Latch;
+use latch::Latch;
 
 impl Frame {
     // No byte and no bit taken.

@@ -1,13 +1,13 @@
 // A counted rising edge takes the bit on D, high bit first.
 ghost use mathlib.Core.Path.{_≡_};
 ghost use Prim.Native.Nat.{_+_, _*_, _-_, _/_, _%_, _^_, _<_};
-ghost use Rattle.chip.specs.Part.{m95512};
-ghost use Rattle.chip.specs.Latches.{latched, nextCell};
-ghost use Rattle.chip.specs.declared.Instruction.the-variants.{Wrsr, Read, Write};
+ghost use Rattle.codes.specs.Part.{m95512};
+ghost use Rattle.latch.specs.Latches.{latched, nextCell};
+ghost use Rattle.codes.specs.declared.Instruction.the-variants.{Wrsr, Read, Write};
 ghost use Rattle.edges.specs.Rising.{shiftedIn, addressByte, latchByte, taking, wholeByte};
 use crate::Frame;
-use chip::Instruction;
-use chip::Latch;
+use codes::Instruction;
+use latch::Latch;
 
 // A byte with one more bit at its low end.
 pub fn shifted_in(part: u8, d: u8) -> u8
@@ -38,7 +38,7 @@ fn joined(address: u32, before: u8, byte: u8) -> u32
 fn next_address(address: u32) -> u32
     ensures { λ r. ⌜ r ≡ address / 128 * 128 + nextCell m95512 address ⌝ }
 {
-    address / 128 * 128 + chip::next_cell(address as usize) as u32
+    address / 128 * 128 + latch::next_cell(address as usize) as u32
 }
 
 fn latched(latch: Latch, cell: usize, byte: u8) -> Latch
@@ -117,6 +117,6 @@ impl Frame {
             return self.with_byte().with_code(byte, running);
         }
         self.with_byte()
-            .taking(chip::decode(self.code), self.taken, byte)
+            .taking(codes::decode(self.code), self.taken, byte)
     }
 }

@@ -7,8 +7,8 @@ use native.Mathlib.Omega.{arith}
 use lib.ListN.{getD}
 use Rattle.laws.specs.Pick.{pick}
 use Rattle.laws.specs.Table.{from, table}
-use Rattle.chip.specs.Part.{m95512}
-use Rattle.chip.specs.Instructions.{decode}
+use Rattle.codes.specs.Part.{m95512}
+use Rattle.codes.specs.Instructions.{decode}
 use Rattle.frames.specs.Shown.{padded, output}
 
 unpadded : (v : ℕ) → padded 0 v ≡ v

@@ -7,17 +7,18 @@ use Prim.Native.Nat.{ℕ, _*_, _-_, _/_, _<_}
 use lib.ListN.{length, getD}
 use Rattle.laws.specs.Pick.{pick-case, at-no, and-no-right}
 use Rattle.laws.specs.And.{or-none-out}
-use Rattle.chip.specs.Part.{Part}
-use Rattle.chip.specs.Latches.{inPage, marked}
+use Rattle.codes.specs.Part.{Part}
+use Rattle.latch.specs.Latches.{inPage, marked}
 use Rattle.chip.specs.Records.{running}
-use Rattle.chip.specs.Verdicts.{isExecuted}
+use Rattle.codes.specs.Verdicts.{isExecuted}
 use Rattle.chip.specs.Effects.{effect}
 use Rattle.chip.specs.Time.{ends, timed}
-use Rattle.chip.specs.Cells.{awaited, isWrite}
-use Rattle.chip.specs.declared.Latch.{Latch}
+use Rattle.chip.specs.Cells.{awaited}
+use Rattle.codes.specs.Instructions.{isWrite}
+use Rattle.latch.specs.declared.Latch.{Latch}
 use Rattle.chip.specs.declared.Core.{Core}
-use Rattle.chip.specs.declared.Instruction.{Instruction}
-use Rattle.chip.specs.declared.Instruction.the-variants.{Wren, Wrdi, Rdsr, Wrsr, Read, Write, Silence}
+use Rattle.codes.specs.declared.Instruction.{Instruction}
+use Rattle.codes.specs.declared.Instruction.the-variants.{Wren, Wrdi, Rdsr, Wrsr, Read, Write, Silence}
 use Rattle.chip.proofs.Within.{Within}
 use Rattle.chip.proofs.Passing.{timed-within, timed-length, cell-rule}
 use Rattle.frames.specs.Bytes.{instruction, address, written}
@@ -56,7 +57,7 @@ module _ (P : Part) (i : ℕ) where
 pub no-cell : (P : Part) (w : Bool) (s : List ℕ) (n : ℕ) (d : FrameBench) → acted P (frame w s n) d .memory ≡ d .memory
 no-cell P w s n d = refl
 
--- the memory keeps its size, and the record its ranges, whatever is actedAll
+-- the memory keeps its size, and the record its ranges, whatever is played
 pub played-length : (P : Part) (acts : List Act) (d : FrameBench) → length (actedAll P acts d .memory) ≡ length (d .memory)
 played-length P [] d = refl
 played-length P (frame w s n ∷ acts) d = played-length P acts (acted P (frame w s n) d)

@@ -6,18 +6,18 @@ use mathlib.Core.List.{List}
 use Prim.Native.Nat.{ℕ}
 use lib.ListN.{length}
 use Rattle.laws.specs.Pick.{at-no, and-both, pick-same}
-use Rattle.chip.specs.Part.{Part}
-use Rattle.chip.specs.Status.{on}
-use Rattle.chip.specs.Protect.{protects}
+use Rattle.codes.specs.Part.{Part}
+use Rattle.codes.specs.Status.{on}
+use Rattle.chip.specs.Questions.{protects}
 use Rattle.chip.specs.Records.{running}
-use Rattle.chip.specs.Refusals.{isDone}
-use Rattle.chip.specs.Verdicts.{isExecuted, needsNoCycle, needsWel, countFits, guarded, isUnknown}
+use Rattle.codes.specs.Refusals.{isDone}
+use Rattle.codes.specs.Verdicts.{isExecuted, needsNoCycle, needsWel, countFits, guarded, isUnknown}
 use Rattle.chip.specs.declared.Core.{Core}
-use Rattle.chip.specs.declared.Instruction.the-variants.{Write}
+use Rattle.codes.specs.declared.Instruction.the-variants.{Write}
 use Rattle.frames.specs.Bytes.{instruction, address}
 use Rattle.frames.specs.After.{judged, after}
 use Rattle.frames.specs.Answers.{frameOutcome, framed, framedOutput}
-use Rattle.chip.proofs.Judged.{Passed, passed}
+use Rattle.codes.proofs.Judged.{Passed, passed}
 
 -- a test that cannot have passed failed
 failed : (t : Bool) → (t ≡ true → ⊥) → t ≡ false

@@ -6,17 +6,18 @@ use Prim.Native.Nat.{ℕ, zero, suc, _+_, _*_, _-_, _/_, _%_, _^_, _<_}
 use native.Mathlib.Nat.{mod-lt, div-lt-iff-lt-mul}
 use lib.ListN.{length, getD, length-set, length-replicate}
 use Rattle.laws.specs.Pick.{pick-case}
-use Rattle.chip.specs.Part.{Part, pages}
-use Rattle.chip.specs.Status.{on}
-use Rattle.chip.specs.Latches.{zeros, noLatch, latched, latchFits}
+use Rattle.codes.specs.Part.{Part, pages}
+use Rattle.codes.specs.Status.{on}
+use Rattle.latch.specs.Latches.{zeros, noLatch, latched, latchFits}
 use Rattle.chip.specs.Records.{running}
-use Rattle.chip.specs.Protect.{protects}
-use Rattle.chip.specs.Verdicts.{isExecuted}
-use Rattle.chip.specs.Refusals.{isDone}
-use Rattle.chip.specs.declared.Latch.{Latch}
+use Rattle.chip.specs.Questions.{protects}
+use Rattle.codes.specs.Verdicts.{isExecuted}
+use Rattle.codes.specs.Refusals.{isDone}
+use Rattle.latch.specs.declared.Latch.{Latch}
 use Rattle.chip.specs.declared.Core.{Core}
 use Rattle.chip.proofs.Within.{Within}
-use Rattle.chip.proofs.Executed.{Paged, none-latched, one-latched, executed-within}
+use Rattle.chip.proofs.Executed.{Paged, executed-within}
+use Rattle.latch.proofs.Fitting.{none-latched, one-latched}
 use Rattle.frames.specs.Bytes.{instruction, address, addressTo, payload, latchedFrom, written}
 use Rattle.frames.specs.After.{judged, after}
 use Rattle.frames.specs.Answers.{frameOutcome, framed}

@@ -6,9 +6,9 @@ use native.Mathlib.Nat.{add-zero}
 use native.Mathlib.Omega.{arith}
 use lib.ListN.{length, take, getD}
 use lib.Seq.{take-suc, length-take-le}
-use Rattle.chip.specs.Part.{Part}
-use Rattle.chip.specs.Latches.{latched}
-use Rattle.chip.specs.declared.Latch.{Latch}
+use Rattle.codes.specs.Part.{Part}
+use Rattle.latch.specs.Latches.{latched}
+use Rattle.latch.specs.declared.Latch.{Latch}
 use Rattle.frames.specs.Bytes.{latchedFrom}
 
 pub latched-end : (P : Part) (i : ℕ) (vs : List ℕ) (v : ℕ) (l : Latch)

@@ -8,15 +8,15 @@ use lib.ListN.{length}
 use lib.Dec.{eqb, leb}
 use borrow.Author.Tests.{eqb-true, leb-true}
 use Rattle.laws.specs.Pick.{pick, pick-ap, pick-cong}
-use Rattle.chip.specs.Part.{Part}
+use Rattle.codes.specs.Part.{Part}
 use Rattle.chip.specs.Ranges.{inRanges}
 use Rattle.chip.specs.Records.{running, status}
-use Rattle.chip.specs.Refusals.{refusalNumber, number}
+use Rattle.codes.specs.Refusals.{refusalNumber, number}
 use Rattle.chip.specs.declared.Core.{Core}
-use Rattle.chip.specs.declared.Refusal.{Refusal}
-use Rattle.chip.specs.declared.Refusal.the-variants.{MemoryLength, RecordRange, FrameLength, BitCount, OutputLength}
-use Rattle.chip.specs.declared.Outcome.{Outcome}
-use Rattle.chip.specs.declared.Outcome.the-variants.{Done, Refused}
+use Rattle.codes.specs.declared.Refusal.{Refusal}
+use Rattle.codes.specs.declared.Refusal.the-variants.{MemoryLength, RecordRange, FrameLength, BitCount, OutputLength}
+use Rattle.codes.specs.declared.Outcome.{Outcome}
+use Rattle.codes.specs.declared.Outcome.the-variants.{Done, Refused}
 use Rattle.frames.specs.Answers.{bitsFit, longestFrame, frameOutcome, framed, framedOutput, frameNumber, frameUndriven}
 use Rattle.frames.specs.Bytes.{instruction}
 use Rattle.frames.specs.After.{after}

@@ -4,13 +4,13 @@ use mathlib.Core.Bool.{Bool, false, not, _&&_}
 use mathlib.Core.List.{List}
 use lib.ListN.{getD}
 use Rattle.laws.specs.Pick.{pick}
-use Rattle.chip.specs.Part.{Part}
-use Rattle.chip.specs.Status.{on}
-use Rattle.chip.specs.Protect.{protects}
-use Rattle.chip.specs.Verdicts.{verdict, isExecuted}
+use Rattle.codes.specs.Part.{Part}
+use Rattle.codes.specs.Status.{on}
+use Rattle.chip.specs.Questions.{protects}
+use Rattle.codes.specs.Verdicts.{verdict, isExecuted}
 use Rattle.chip.specs.Effects.{effect}
 use Rattle.chip.specs.declared.Core.{Core}
-use Rattle.chip.specs.declared.Verdict.{Verdict}
+use Rattle.codes.specs.declared.Verdict.{Verdict}
 use Rattle.frames.specs.Bytes.{instruction, address, written}
 
 -- HOLD is high throughout, so the frame is never held

@@ -5,14 +5,14 @@ use mathlib.Core.List.{List}
 use lib.ListN.{length}
 use lib.Dec.{eqb, leb}
 use Rattle.laws.specs.Pick.{pick}
-use Rattle.chip.specs.Part.{Part}
+use Rattle.codes.specs.Part.{Part}
 use Rattle.chip.specs.Records.{running, status}
 use Rattle.chip.specs.Ranges.{inRanges}
-use Rattle.chip.specs.Refusals.{refusalNumber, isDone}
+use Rattle.codes.specs.Refusals.{refusalNumber, isDone}
 use Rattle.chip.specs.declared.Core.{Core}
-use Rattle.chip.specs.declared.Refusal.the-variants.{MemoryLength, RecordRange, FrameLength, BitCount, OutputLength}
-use Rattle.chip.specs.declared.Outcome.{Outcome}
-use Rattle.chip.specs.declared.Outcome.the-variants.{Done, Refused}
+use Rattle.codes.specs.declared.Refusal.the-variants.{MemoryLength, RecordRange, FrameLength, BitCount, OutputLength}
+use Rattle.codes.specs.declared.Outcome.{Outcome}
+use Rattle.codes.specs.declared.Outcome.the-variants.{Done, Refused}
 use Rattle.frames.specs.declared.Answer.{Answer}
 use Rattle.frames.specs.declared.Answer.the-variants.{Shown, Unshown}
 use Rattle.frames.specs.declared.Framed.{Framed}

@@ -2,11 +2,11 @@
 use Prim.Native.Nat.{ℕ, zero, suc, _+_, _*_, _-_, _%_, _^_}
 use mathlib.Core.List.{List, [], _∷_}
 use lib.ListN.{getD, drop}
-use Rattle.chip.specs.Part.{Part}
-use Rattle.chip.specs.Instructions.{decode}
-use Rattle.chip.specs.Latches.{latched, noLatch}
-use Rattle.chip.specs.declared.Latch.{Latch}
-use Rattle.chip.specs.declared.Instruction.{Instruction}
+use Rattle.codes.specs.Part.{Part}
+use Rattle.codes.specs.Instructions.{decode}
+use Rattle.latch.specs.Latches.{latched, noLatch}
+use Rattle.latch.specs.declared.Latch.{Latch}
+use Rattle.codes.specs.declared.Instruction.{Instruction}
 
 abbrev pub instruction : List ℕ → Instruction
 instruction s = decode (getD s 0 0)

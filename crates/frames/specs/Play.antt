@@ -1,12 +1,12 @@
--- Any list of frames and clock readings, actedAll over a record and a memory; and which cells its executed WRITEs address.
+-- Any list of frames and clock readings, played over a record and a memory; and which cells its executed WRITEs address.
 use Prim.Native.Nat.{ℕ, _*_, _-_, _/_}
 use mathlib.Core.Bool.{Bool, false, _&&_, _||_}
 use mathlib.Core.List.{List, [], _∷_}
-use Rattle.chip.specs.Part.{Part}
-use Rattle.chip.specs.Latches.{inPage, marked}
+use Rattle.codes.specs.Part.{Part}
+use Rattle.latch.specs.Latches.{inPage, marked}
 use Rattle.chip.specs.Records.{running}
-use Rattle.chip.specs.Verdicts.{isExecuted}
-use Rattle.chip.specs.Cells.{isWrite}
+use Rattle.codes.specs.Verdicts.{isExecuted}
+use Rattle.codes.specs.Instructions.{isWrite}
 use Rattle.chip.specs.Time.{timed, timedMemory}
 use Rattle.chip.specs.declared.Core.{Core}
 use Rattle.frames.specs.Bytes.{instruction, address, written}

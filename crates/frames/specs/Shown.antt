@@ -6,10 +6,10 @@ use lib.ListN.{length, getD}
 use lib.Dec.{eqb}
 use Rattle.laws.specs.Pick.{pick}
 use Rattle.laws.specs.Table.{table}
-use Rattle.chip.specs.Part.{Part}
-use Rattle.chip.specs.Output.{outputs}
-use Rattle.chip.specs.declared.Instruction.{Instruction}
-use Rattle.chip.specs.declared.Instruction.the-variants.{Wren, Wrdi, Rdsr, Wrsr, Read, Write, Silence}
+use Rattle.codes.specs.Part.{Part}
+use Rattle.codes.specs.Output.{outputs}
+use Rattle.codes.specs.declared.Instruction.{Instruction}
+use Rattle.codes.specs.declared.Instruction.the-variants.{Wren, Wrdi, Rdsr, Wrsr, Read, Write, Silence}
 use Rattle.frames.specs.Bytes.{instruction, address}
 
 -- what stands over byte j: where Q is driven, the status sampled for data byte j − 1, or the cells from the address up, rolling over; undriven

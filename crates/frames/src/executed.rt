@@ -1,7 +1,7 @@
 // What a frame leaves in the record.
 ghost use mathlib.Core.Path.{_≡_};
 ghost use mathlib.Core.Bool.{false};
-ghost use Rattle.chip.specs.Part.{m95512};
+ghost use Rattle.codes.specs.Part.{m95512};
 ghost use Rattle.chip.specs.Records.{running};
 ghost use Rattle.frames.specs.After.{judged, executed, after};
 use crate::fields::address_of;
@@ -9,9 +9,9 @@ use crate::fields::byte_at;
 use crate::fields::instruction_of;
 use crate::fields::latch_of;
 use chip::Core;
-use chip::Instruction;
-use chip::Verdict;
-use chip::judge;
+use codes::Instruction;
+use codes::Verdict;
+use codes::judge;
 
 // No time passes inside a frame: a cycle ran at the eighth edge where one runs now.
 fn verdict_of(core: Core, w: bool, bytes: &[u8], bits: usize) -> Verdict

@@ -2,11 +2,11 @@
 ghost use mathlib.Core.Path.{_≡_};
 ghost use Prim.Native.Nat.{_+_, _*_};
 ghost use lib.ListN.{getD};
-ghost use Rattle.chip.specs.Part.{m95512};
+ghost use Rattle.codes.specs.Part.{m95512};
 ghost use Rattle.frames.specs.Bytes.{instruction, address, written};
-use chip::Instruction;
-use chip::Latch;
-use chip::next_cell;
+use codes::Instruction;
+use latch::Latch;
+use latch::next_cell;
 
 pub(crate) fn byte_at(bytes: &[u8], i: usize) -> u8
     ensures { λ r. ⌜ r ≡ getD (now (bytes .entry)) i 0 ⌝ }
@@ -20,7 +20,7 @@ pub(crate) fn byte_at(bytes: &[u8], i: usize) -> u8
 pub(crate) fn instruction_of(bytes: &[u8]) -> Instruction
     ensures { λ r. ⌜ r ≡ instruction (now (bytes .entry)) ⌝ }
 {
-    chip::decode(byte_at(bytes, 0))
+    codes::decode(byte_at(bytes, 0))
 }
 
 fn joined(high: u8, low: u8) -> usize

@@ -3,14 +3,14 @@
 // Public calls, each for every input: frame, here, and chip's power_up and clock_reading, whose record this model holds.
 ghost use mathlib.Core.Path.{_≡_};
 ghost use lib.ListN.{length};
-ghost use Rattle.chip.specs.Part.{m95512};
+ghost use Rattle.codes.specs.Part.{m95512};
 ghost use Rattle.chip.specs.Records.{running, status};
 ghost use Rattle.frames.specs.After.{after};
 ghost use Rattle.frames.specs.Shown.{output, undriven};
 ghost use Rattle.frames.specs.Answers.{framed, framedOutput, answerNumber, answerUndriven, frameNumber, frameUndriven};
 use chip::Core;
-use chip::Outcome;
-use chip::Refusal;
+use codes::Outcome;
+use codes::Refusal;
 
 mod answers;
 mod executed;

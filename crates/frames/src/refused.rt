@@ -1,11 +1,11 @@
 // The refusals of a frame, in their order.
 ghost use mathlib.Core.Path.{_≡_};
 ghost use Prim.Native.Nat.{_≤_};
-ghost use Rattle.chip.specs.Part.{m95512};
+ghost use Rattle.codes.specs.Part.{m95512};
 ghost use Rattle.frames.specs.Answers.{bitsFit, frameOutcome};
 use chip::Core;
-use chip::Outcome;
-use chip::Refusal;
+use codes::Outcome;
+use codes::Refusal;
 
 // A bit count that fits: 0 for an empty slice, else from 8·length − 7 to 8·length. For a slice that is not too long.
 fn bits_fit(len: usize, bits: usize) -> bool

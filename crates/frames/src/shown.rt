@@ -6,14 +6,14 @@ ghost use mathlib.Core.Bool.{true};
 ghost use lib.ListN.{length, getD, replicate};
 ghost use Rattle.laws.specs.Pick.{pick};
 ghost use Rattle.laws.specs.Table.{table};
-ghost use Rattle.chip.specs.Part.{m95512};
-ghost use Rattle.chip.specs.Output.{outputs};
-ghost use Rattle.chip.specs.declared.Instruction.the-variants.{Read};
+ghost use Rattle.codes.specs.Part.{m95512};
+ghost use Rattle.codes.specs.Output.{outputs};
+ghost use Rattle.codes.specs.declared.Instruction.the-variants.{Read};
 ghost use Rattle.frames.specs.Bytes.{instruction, address};
 ghost use Rattle.frames.specs.Answers.{bitsFit};
 ghost use Rattle.frames.specs.Shown.{byteOut, padded, output, undriven};
 use crate::fields::address_of;
-use chip::Instruction;
+use codes::Instruction;
 
 // How many leading bits of the count are undriven.
 pub(crate) fn undriven(i: Instruction, ran: bool, bits: usize) -> usize

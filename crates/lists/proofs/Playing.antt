@@ -5,7 +5,7 @@ use Prim.Native.Nat.{ℕ, zero, suc, _<_}
 use native.Mathlib.Omega.{arith}
 use lib.ListN.{length, take, getD}
 use lib.Seq.{take-suc}
-use Rattle.chip.specs.Part.{Part}
+use Rattle.codes.specs.Part.{Part}
 use Rattle.pins.specs.Devices.{q}
 use Rattle.edges.specs.Falling.{levelNumber}
 use Rattle.pins.specs.Answers.{PinBench, afterEvent, played}

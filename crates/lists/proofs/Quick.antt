@@ -6,20 +6,20 @@ use Prim.Native.Nat.{ℕ, _+_, _%_, _<_, _≤_, min}
 use lib.Dec.{leb, ltb}
 use lib.ListN.{getD}
 use Rattle.laws.specs.Pick.{pick, yes-so, no-so, ne-so, lt-so, ge-so}
-use Rattle.chip.specs.Part.{Part}
-use Rattle.chip.specs.Status.{bit, on}
+use Rattle.codes.specs.Part.{Part}
+use Rattle.codes.specs.Status.{bit, on}
 use Rattle.chip.specs.Records.{running}
-use Rattle.chip.specs.Instructions.{decode}
+use Rattle.codes.specs.Instructions.{decode}
 use Rattle.chip.specs.declared.Core.{Core}
-use Rattle.chip.specs.declared.Instruction.{Instruction}
-use Rattle.chip.specs.declared.Instruction.the-variants.{Read}
+use Rattle.codes.specs.declared.Instruction.{Instruction}
+use Rattle.codes.specs.declared.Instruction.the-variants.{Read}
 use Rattle.edges.specs.declared.Frame.{Frame}
 use Rattle.pins.specs.declared.Device.{Device}
 use Rattle.pins.specs.Devices.{withC, withPins, withFrame, selected, counting}
 use Rattle.lists.specs.Ways.{withTaken, heldAt, isWhole, afterMemory}
 use Rattle.edges.specs.Frames.{withBits, withByte, withOut, withAddress}
 use Rattle.edges.specs.Rising.{shiftedIn, taking, wholeByte, risen}
-use Rattle.chip.specs.Output.{outputs}
+use Rattle.codes.specs.Output.{outputs}
 use Rattle.edges.specs.Falling.{loading, fallen}
 use Rattle.pins.specs.declared.Event.{Event}
 use Rattle.lists.specs.declared.Way.{Way}

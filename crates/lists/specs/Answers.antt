@@ -4,10 +4,10 @@ use mathlib.Core.List.{List, [], _∷_}
 use lib.ListN.{length}
 use lib.Dec.{eqb}
 use Rattle.laws.specs.Pick.{pick}
-use Rattle.chip.specs.Part.{Part}
-use Rattle.chip.specs.declared.Refusal.the-variants.{MemoryLength, RecordRange, OutputLength}
-use Rattle.chip.specs.declared.Outcome.{Outcome}
-use Rattle.chip.specs.declared.Outcome.the-variants.{Done, Refused}
+use Rattle.codes.specs.Part.{Part}
+use Rattle.codes.specs.declared.Refusal.the-variants.{MemoryLength, RecordRange, OutputLength}
+use Rattle.codes.specs.declared.Outcome.{Outcome}
+use Rattle.codes.specs.declared.Outcome.the-variants.{Done, Refused}
 use Rattle.edges.specs.Falling.{levelNumber}
 use Rattle.pins.specs.declared.Device.{Device}
 use Rattle.pins.specs.Devices.{q}

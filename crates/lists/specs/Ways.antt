@@ -3,8 +3,8 @@
 use Prim.Native.Nat.{ℕ}
 use mathlib.Core.Bool.{Bool, true, false}
 use mathlib.Core.List.{List}
-use Rattle.chip.specs.Part.{Part}
-use Rattle.chip.specs.declared.Latch.{Latch}
+use Rattle.codes.specs.Part.{Part}
+use Rattle.latch.specs.declared.Latch.{Latch}
 use Rattle.chip.specs.declared.Core.{Core}
 use Rattle.edges.specs.declared.Frame.{Frame}
 use Rattle.edges.specs.Frames.{withBits, withOut, withAddress}

@@ -4,10 +4,10 @@ ghost use mathlib.Core.Path.{_≡_};
 ghost use mathlib.Core.List.{List};
 ghost use mathlib.Core.Bool.{true, false};
 ghost use Prim.Native.Nat.{ℕ};
-ghost use Rattle.chip.specs.Part.{m95512};
-ghost use Rattle.chip.specs.declared.Latch.{Latch};
+ghost use Rattle.codes.specs.Part.{m95512};
+ghost use Rattle.latch.specs.declared.Latch.{Latch};
 ghost use Rattle.chip.specs.declared.Core.{Core};
-ghost use Rattle.chip.specs.declared.Instruction.the-variants.{Read};
+ghost use Rattle.codes.specs.declared.Instruction.the-variants.{Read};
 ghost use Rattle.edges.specs.declared.Frame.{Frame};
 ghost use Rattle.pins.specs.declared.Event.{Event};
 ghost use Rattle.pins.specs.declared.Event.the-variants.{C, Hold};
@@ -17,8 +17,7 @@ ghost use Rattle.pins.specs.Events.{onC, onHold, stepped, steppedMemory};
 use crate::Front;
 use crate::Way;
 use chip::Core;
-use chip::Instruction;
-use chip::Latch;
+use codes::Instruction;
 use edges::Frame;
 use edges::bit;
 use edges::cell;
@@ -26,6 +25,7 @@ use edges::one_more;
 use edges::one_up;
 use edges::outputs;
 use edges::shifted_in;
+use latch::Latch;
 use pins::Device;
 use pins::Event;
 use pins::Pins;
@@ -128,7 +128,7 @@ impl Front {
                     part: byte,
                 };
             }
-            if unkept(chip::decode(self.code), taken) {
+            if unkept(codes::decode(self.code), taken) {
                 let counted = one_more(taken);
                 return Way::Rise {
                     taken: counted,
@@ -151,7 +151,7 @@ impl Front {
         ensures { λ r. ⌜ ((l : Latch) (k : Core) → after m95512 (now (memory .entry)) (C false) r (whole self l k) ≡ onC m95512 false (now (memory .entry)) (whole self l k)) ⌝ }
     {
         let counted = !(self.s == 1) & !(self.held == 1);
-        let i = chip::decode(self.code);
+        let i = codes::decode(self.code);
         let drives = outputs(i, self.taken, self.ran == 1);
         let held = bit(!(self.s == 1) & !(self.hold == 1));
         let shown = self.shown;

@@ -1,14 +1,14 @@
 // A list of events at once: the ranges are checked once, and then the events are taken one after another.
 ghost use mathlib.Core.Path.{_≡_};
 ghost use lib.ListN.{length};
-ghost use Rattle.chip.specs.Part.{m95512};
-ghost use Rattle.chip.specs.Refusals.{number};
+ghost use Rattle.codes.specs.Part.{m95512};
+ghost use Rattle.codes.specs.Refusals.{number};
 ghost use Rattle.pins.specs.Events.{eventOf};
 ghost use Rattle.pins.specs.Answers.{answer, answerMemory, played, pinBench};
 ghost use Rattle.lists.specs.Answers.{playOutcome, playNumber, playedQ};
 use crate::fronts::front_of;
-use chip::Outcome;
-use chip::Refusal;
+use codes::Outcome;
+use codes::Refusal;
 use edges::level_of;
 use pins::Device;
 use pins::Event;

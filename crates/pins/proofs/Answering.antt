@@ -7,12 +7,12 @@ use lib.ListN.{length}
 use lib.Dec.{eqb}
 use borrow.Author.Tests.{eq-eqb, ne-eqb}
 use Rattle.laws.specs.Pick.{pick, at-yes, at-no, yes-so, no-so, pick-ap, pick-cong}
-use Rattle.chip.specs.Part.{Part}
-use Rattle.chip.specs.Refusals.{number}
-use Rattle.chip.specs.declared.Refusal.{Refusal}
-use Rattle.chip.specs.declared.Refusal.the-variants.{MemoryLength, RecordRange}
-use Rattle.chip.specs.declared.Outcome.{Outcome}
-use Rattle.chip.specs.declared.Outcome.the-variants.{Done, Refused}
+use Rattle.codes.specs.Part.{Part}
+use Rattle.codes.specs.Refusals.{number}
+use Rattle.codes.specs.declared.Refusal.{Refusal}
+use Rattle.codes.specs.declared.Refusal.the-variants.{MemoryLength, RecordRange}
+use Rattle.codes.specs.declared.Outcome.{Outcome}
+use Rattle.codes.specs.declared.Outcome.the-variants.{Done, Refused}
 use Rattle.pins.specs.declared.Device.{Device}
 use Rattle.pins.specs.declared.Stepped.{Stepped}
 use Rattle.pins.specs.Ranges.{deviceFits}

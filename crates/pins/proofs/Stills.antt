@@ -4,14 +4,14 @@ use mathlib.Core.List.{List}
 use mathlib.Core.Bool.{Bool, true, false, _&&_, true≢false}
 use Prim.Native.Nat.{ℕ}
 use Rattle.laws.specs.Pick.{pick}
-use Rattle.chip.specs.Part.{Part}
-use Rattle.chip.specs.Status.{on}
-use Rattle.chip.specs.Instructions.{decode}
+use Rattle.codes.specs.Part.{Part}
+use Rattle.codes.specs.Status.{on}
+use Rattle.codes.specs.Instructions.{decode}
 use Rattle.chip.specs.declared.Core.{Core}
 use Rattle.edges.specs.declared.Frame.{Frame}
 use Rattle.pins.specs.declared.Device.{Device}
 use Rattle.pins.specs.Devices.{withFrame, counting}
-use Rattle.chip.specs.Output.{outputs}
+use Rattle.codes.specs.Output.{outputs}
 use Rattle.edges.specs.Falling.{fallen}
 
 -- neither choice is taken, or both come to the same

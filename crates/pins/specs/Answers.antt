@@ -5,13 +5,13 @@ use mathlib.Core.List.{List, [], _∷_}
 use lib.ListN.{length}
 use lib.Dec.{eqb}
 use Rattle.laws.specs.Pick.{pick}
-use Rattle.chip.specs.Part.{Part}
+use Rattle.codes.specs.Part.{Part}
 use Rattle.chip.specs.Records.{status}
 use Rattle.chip.specs.Power.{poweredUp}
-use Rattle.chip.specs.Refusals.{refusalNumber, isDone}
-use Rattle.chip.specs.declared.Refusal.the-variants.{MemoryLength, RecordRange}
-use Rattle.chip.specs.declared.Outcome.{Outcome}
-use Rattle.chip.specs.declared.Outcome.the-variants.{Done, Refused}
+use Rattle.codes.specs.Refusals.{refusalNumber, isDone}
+use Rattle.codes.specs.declared.Refusal.the-variants.{MemoryLength, RecordRange}
+use Rattle.codes.specs.declared.Outcome.{Outcome}
+use Rattle.codes.specs.declared.Outcome.the-variants.{Done, Refused}
 use Rattle.pins.specs.declared.Device.{Device}
 use Rattle.pins.specs.declared.Event.{Event}
 use Rattle.pins.specs.declared.Stepped.{Stepped}

@@ -1,8 +1,8 @@
 -- The device record: what its fields say, and every way in which one is made of another. But for a list's own parts (lists/Ways), no record is written out anywhere else.
 use Prim.Native.Nat.{ℕ}
 use mathlib.Core.Bool.{Bool, not, _&&_}
-use Rattle.chip.specs.Part.{Part}
-use Rattle.chip.specs.Status.{bit, on}
+use Rattle.codes.specs.Part.{Part}
+use Rattle.codes.specs.Status.{bit, on}
 use Rattle.chip.specs.declared.Core.{Core}
 use Rattle.edges.specs.declared.Level.{Level}
 use Rattle.edges.specs.Frames.{noFrame}

@@ -4,16 +4,16 @@ use mathlib.Core.Bool.{Bool, false, not, _&&_}
 use mathlib.Core.List.{List}
 use lib.Dec.{eqb}
 use Rattle.laws.specs.Pick.{pick}
-use Rattle.chip.specs.Part.{Part}
-use Rattle.chip.specs.Status.{bit, on}
+use Rattle.codes.specs.Part.{Part}
+use Rattle.codes.specs.Status.{bit, on}
 use Rattle.chip.specs.Records.{running}
-use Rattle.chip.specs.Instructions.{decode}
-use Rattle.chip.specs.Protect.{protects}
-use Rattle.chip.specs.Verdicts.{verdict, isExecuted}
+use Rattle.codes.specs.Instructions.{decode}
+use Rattle.chip.specs.Questions.{protects}
+use Rattle.codes.specs.Verdicts.{verdict, isExecuted}
 use Rattle.chip.specs.Effects.{effect}
 use Rattle.chip.specs.Time.{timed, timedMemory}
 use Rattle.chip.specs.declared.Core.{Core}
-use Rattle.chip.specs.declared.Verdict.{Verdict}
+use Rattle.codes.specs.declared.Verdict.{Verdict}
 use Rattle.pins.specs.declared.Device.{Device}
 use Rattle.pins.specs.declared.Event.{Event}
 use Rattle.pins.specs.declared.Event.the-variants.{S, C, D, W, Hold, Time}

@@ -3,8 +3,8 @@ use Prim.Native.Nat.{ℕ, _+_, _-_}
 use mathlib.Core.Bool.{Bool, not, _&&_, _||_}
 use lib.Dec.{eqb, leb}
 use Rattle.laws.specs.Pick.{pick}
-use Rattle.chip.specs.Part.{Part}
-use Rattle.chip.specs.Status.{on}
+use Rattle.codes.specs.Part.{Part}
+use Rattle.codes.specs.Status.{on}
 use Rattle.chip.specs.Records.{running}
 use Rattle.chip.specs.Ranges.{inRanges}
 use Rattle.pins.specs.declared.Pins.{Pins}

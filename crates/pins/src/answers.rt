@@ -3,7 +3,7 @@ ghost use mathlib.Core.Path.{_≡_};
 ghost use Rattle.pins.specs.Answers.{qNumber, qValue, statusNumber, statusValue};
 use crate::QAnswer;
 use crate::StatusAnswer;
-use chip::wide;
+use codes::wide;
 
 impl QAnswer {
     // 0 for an answer, or the refusal's number.

@@ -1,16 +1,16 @@
 // The events, with no refusal: each hands back the device that follows.
 ghost use mathlib.Core.Path.{_≡_};
 ghost use mathlib.Core.Bool.{not};
-ghost use Rattle.chip.specs.Part.{m95512};
-ghost use Rattle.chip.specs.Status.{on};
+ghost use Rattle.codes.specs.Part.{m95512};
+ghost use Rattle.codes.specs.Status.{on};
 ghost use Rattle.chip.specs.Time.{timedMemory};
 ghost use Rattle.pins.specs.Events.{selecting, judgedNow, executedNow, decided, deselecting, onS, renewed, raising, lowering, onC, onD, onW, onHold, onTime, stepped, steppedMemory};
 use crate::Device;
 use crate::Event;
 use chip::Core;
-use chip::Instruction;
-use chip::Verdict;
-use chip::judge;
+use codes::Instruction;
+use codes::Verdict;
+use codes::judge;
 use edges::Frame;
 use edges::bit;
 use edges::outputs;
@@ -37,7 +37,7 @@ impl Device {
         let locked = (core.srwd == 1) & !(self.pins.w == 1);
         let protected = core.protects(self.frame.address);
         judge(
-            chip::decode(self.frame.code),
+            codes::decode(self.frame.code),
             bits,
             self.frame.ran == 1,
             core.wel == 1,
@@ -52,7 +52,7 @@ impl Device {
     {
         let core = self.core;
         let latch = self.frame.latch;
-        match chip::decode(self.frame.code) {
+        match codes::decode(self.frame.code) {
             Instruction::Wren => core.with_wel(1),
             Instruction::Wrdi => core.with_wel(0),
             Instruction::Rdsr => core,
@@ -134,7 +134,7 @@ impl Device {
         ensures { λ r. ⌜ r ≡ lowering m95512 (now (memory .entry)) self ⌝ }
     {
         let counted = !(self.pins.s == 1) & !(self.held == 1);
-        let i = chip::decode(self.frame.code);
+        let i = codes::decode(self.frame.code);
         let shown = self.frame.shown;
         let drives = outputs(i, self.frame.taken, self.frame.ran == 1);
         let held = bit(!(self.pins.s == 1) & !(self.pins.hold == 1));

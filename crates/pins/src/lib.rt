@@ -3,8 +3,8 @@
 // Public calls, each for every input: power_up; the methods of Device set_s, set_c, set_d, set_w, set_hold and read_clock, one for each kind of
 // event; q and status, what the device shows; and in_ranges.
 use chip::Core;
-use chip::Outcome;
-use chip::Refusal;
+use codes::Outcome;
+use codes::Refusal;
 use edges::Frame;
 use edges::Level;
 

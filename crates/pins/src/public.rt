@@ -1,18 +1,18 @@
 // The public calls, for every input: refusal 1 where memory is lent, then 2, both with everything as it was; else the event.
 ghost use mathlib.Core.Path.{_≡_};
-ghost use Rattle.chip.specs.Part.{m95512};
+ghost use Rattle.codes.specs.Part.{m95512};
 ghost use Rattle.chip.specs.Power.{powerUpNumber};
-ghost use Rattle.chip.specs.Refusals.{number};
+ghost use Rattle.codes.specs.Refusals.{number};
 ghost use Rattle.chip.specs.Time.{timedMemory};
-ghost use Rattle.chip.specs.declared.Outcome.the-variants.{Done, Refused};
+ghost use Rattle.codes.specs.declared.Outcome.the-variants.{Done, Refused};
 ghost use Rattle.pins.specs.Events.{onS, onC, onD, onW, onHold, onTime};
 ghost use Rattle.pins.specs.Answers.{steppedTo, recordOutcome, memoryOutcome, recordNumber, memoryNumber, answer, answerMemory, qAnswer, qNumber, qValue, qAsked, statusAnswer, statusNumber, statusValue, statusAsked, powered};
 use crate::Device;
 use crate::QAnswer;
 use crate::StatusAnswer;
 use crate::Stepped;
-use chip::Outcome;
-use chip::Refusal;
+use codes::Outcome;
+use codes::Refusal;
 
 // Power-up: 6 and the delivered record for a cycle length that is not 1 to 5,000.
 pub fn power_up(cycle: u32, srwd: bool, bp1: bool, bp0: bool, reading: u32) -> Stepped

@@ -1,7 +1,7 @@
 // Is a device inside its ranges. Each part of the test has a definition of its own.
 ghost use mathlib.Core.Path.{_≡_};
 ghost use Prim.Native.Nat.{_-_, _<_};
-ghost use Rattle.chip.specs.Part.{m95512};
+ghost use Rattle.codes.specs.Part.{m95512};
 ghost use Rattle.pins.specs.Ranges.{pinsFit, heldFits, emptyFits, ranFits, deviceFits};
 use crate::Device;
 use crate::Pins;

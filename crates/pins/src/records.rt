@@ -1,8 +1,8 @@
 // The device record, made of another.
 ghost use mathlib.Core.Path.{_≡_};
 ghost use mathlib.Core.Bool.{not};
-ghost use Rattle.chip.specs.Part.{m95512};
-ghost use Rattle.chip.specs.Status.{bit};
+ghost use Rattle.codes.specs.Part.{m95512};
+ghost use Rattle.codes.specs.Status.{bit};
 ghost use Rattle.pins.specs.Devices.{resting, withHeld, q};
 use crate::Device;
 use crate::Pins;

@@ -13,17 +13,17 @@ use borrow.Author.Tests.{leb-true, ltb-true, lt-leb, eqb-true, eq-eqb}
 use Rattle.laws.specs.Pick.{pick, pick-case, and-left, and-right, and-both, and-no-left, and-no-right}
 use Rattle.laws.specs.And.{and-other, and-rest, or-none-in, or-none-out, never}
 use Rattle.laws.specs.Each.{each-at}
-use Rattle.chip.specs.Part.{Part}
-use Rattle.chip.specs.Status.{bit, on}
-use Rattle.chip.specs.Latches.{inPage, marked, byteAt, noLatch, cellFits, latchFits, latched, nextCell}
+use Rattle.codes.specs.Part.{Part}
+use Rattle.codes.specs.Status.{bit, on}
+use Rattle.latch.specs.Latches.{inPage, marked, byteAt, noLatch, cellFits, latchFits, latched, nextCell}
 use Rattle.chip.specs.Records.{running}
-use Rattle.chip.specs.Instructions.{decode}
-use Rattle.chip.specs.Verdicts.{isExecuted}
-use Rattle.chip.specs.Cells.{awaited, isWrite}
-use Rattle.chip.specs.declared.Latch.{Latch}
+use Rattle.codes.specs.Instructions.{decode, isWrite}
+use Rattle.codes.specs.Verdicts.{isExecuted}
+use Rattle.chip.specs.Cells.{awaited}
+use Rattle.latch.specs.declared.Latch.{Latch}
 use Rattle.chip.specs.declared.Core.{Core}
-use Rattle.chip.specs.declared.Instruction.{Instruction}
-use Rattle.chip.specs.declared.Instruction.the-variants.{Wren, Wrdi, Rdsr, Wrsr, Read, Write, Silence}
+use Rattle.codes.specs.declared.Instruction.{Instruction}
+use Rattle.codes.specs.declared.Instruction.the-variants.{Wren, Wrdi, Rdsr, Wrsr, Read, Write, Silence}
 use Rattle.chip.proofs.Executed.{Paged}
 use Rattle.edges.specs.declared.Frame.{Frame}
 use Rattle.pins.specs.declared.Device.{Device}
@@ -32,7 +32,7 @@ use Rattle.pins.specs.declared.Event.the-variants.{S, C, D, W, Hold, Time}
 use Rattle.edges.specs.Frames.{withByte}
 use Rattle.pins.specs.Devices.{withC, withPins, counting}
 use Rattle.edges.specs.Rising.{shiftedIn, latchByte, taking, wholeByte, risen}
-use Rattle.chip.specs.Output.{outputs}
+use Rattle.codes.specs.Output.{outputs}
 use Rattle.edges.specs.Falling.{loading, fallen}
 use Rattle.edges.specs.Ranges.{latches}
 use Rattle.pins.specs.Ranges.{deviceFits}

@@ -7,18 +7,18 @@ use lib.ListN.{length, getD}
 use lib.Dec.{eqb}
 use Rattle.laws.specs.Pick.{pick, at-no, pick-case, and-no-right}
 use Rattle.laws.specs.And.{and-rest, or-none-out}
-use Rattle.chip.specs.Part.{Part}
-use Rattle.chip.specs.Status.{bit, on}
-use Rattle.chip.specs.Latches.{inPage, marked, byteAt}
-use Rattle.chip.specs.Instructions.{decode}
-use Rattle.chip.specs.Verdicts.{isExecuted}
+use Rattle.codes.specs.Part.{Part}
+use Rattle.codes.specs.Status.{bit, on}
+use Rattle.latch.specs.Latches.{inPage, marked, byteAt}
+use Rattle.codes.specs.Instructions.{decode, isWrite}
+use Rattle.codes.specs.Verdicts.{isExecuted}
 use Rattle.chip.specs.Effects.{effect}
 use Rattle.chip.specs.Time.{ends, timed}
-use Rattle.chip.specs.Cells.{offset, awaited, isWrite}
-use Rattle.chip.specs.declared.Latch.{Latch}
+use Rattle.chip.specs.Cells.{offset, awaited}
+use Rattle.latch.specs.declared.Latch.{Latch}
 use Rattle.chip.specs.declared.Core.{Core}
-use Rattle.chip.specs.declared.Instruction.{Instruction}
-use Rattle.chip.specs.declared.Instruction.the-variants.{Wren, Wrdi, Rdsr, Wrsr, Read, Write, Silence}
+use Rattle.codes.specs.declared.Instruction.{Instruction}
+use Rattle.codes.specs.declared.Instruction.the-variants.{Wren, Wrdi, Rdsr, Wrsr, Read, Write, Silence}
 use Rattle.chip.proofs.Within.{Within}
 use Rattle.chip.proofs.Passing.{timed-length, cell-rule}
 use Rattle.pins.specs.declared.Device.{Device}

@@ -7,19 +7,20 @@ use lib.Dec.{eqb, leb}
 use borrow.Author.Tests.{leb-true, ltb-false, eqb-true}
 use Rattle.laws.specs.Pick.{pick-case, and-left}
 use Rattle.laws.specs.And.{never}
-use Rattle.chip.specs.Part.{Part, pages}
-use Rattle.chip.specs.Status.{on}
+use Rattle.codes.specs.Part.{Part, pages}
+use Rattle.codes.specs.Status.{on}
 use Rattle.chip.specs.Records.{running}
-use Rattle.chip.specs.Instructions.{decode}
-use Rattle.chip.specs.Protect.{protects}
-use Rattle.chip.specs.Verdicts.{isExecuted, countFits}
+use Rattle.codes.specs.Instructions.{decode}
+use Rattle.chip.specs.Questions.{protects}
+use Rattle.codes.specs.Verdicts.{isExecuted, countFits}
 use Rattle.chip.specs.Effects.{effect}
-use Rattle.chip.specs.declared.Latch.{Latch}
+use Rattle.latch.specs.declared.Latch.{Latch}
 use Rattle.chip.specs.declared.Core.{Core}
-use Rattle.chip.specs.declared.Instruction.{Instruction}
-use Rattle.chip.specs.declared.Instruction.the-variants.{Wren, Wrdi, Rdsr, Wrsr, Read, Write, Silence}
+use Rattle.codes.specs.declared.Instruction.{Instruction}
+use Rattle.codes.specs.declared.Instruction.the-variants.{Wren, Wrdi, Rdsr, Wrsr, Read, Write, Silence}
 use Rattle.chip.proofs.Within.{Within}
-use Rattle.chip.proofs.Executed.{Paged, more-fits, executed-within}
+use Rattle.chip.proofs.Executed.{Paged, executed-within}
+use Rattle.latch.proofs.Fitting.{more-fits}
 use Rattle.edges.specs.declared.Frame.{Frame}
 use Rattle.pins.specs.declared.Device.{Device}
 use Rattle.edges.specs.Ranges.{latches}

@@ -11,25 +11,25 @@ use lib.Dec.{eqb, leb, ltb}
 use borrow.Author.Tests.{le-leb, leb-true, ltb-true, eq-eqb, eqb-true, eqb-false, ne-eqb}
 use Rattle.laws.specs.Pick.{pick, at-yes, at-no, pick-case, and-left, and-right, and-both}
 use Rattle.laws.specs.And.{or-right}
-use Rattle.chip.specs.Part.{Part}
-use Rattle.chip.specs.Status.{bit, on}
+use Rattle.codes.specs.Part.{Part}
+use Rattle.codes.specs.Status.{bit, on}
 use Rattle.chip.specs.Records.{nothing, status}
-use Rattle.chip.specs.Instructions.{decode}
-use Rattle.chip.specs.Latches.{latchFits, noLatch}
+use Rattle.codes.specs.Instructions.{decode}
+use Rattle.latch.specs.Latches.{latchFits, noLatch}
 use Rattle.chip.specs.declared.Core.{Core}
-use Rattle.chip.specs.declared.Instruction.{Instruction}
-use Rattle.chip.specs.declared.Instruction.the-variants.{Wren, Wrdi, Rdsr, Wrsr, Read, Write, Silence}
+use Rattle.codes.specs.declared.Instruction.{Instruction}
+use Rattle.codes.specs.declared.Instruction.the-variants.{Wren, Wrdi, Rdsr, Wrsr, Read, Write, Silence}
 use Rattle.chip.specs.Ranges.{valueFits, pageFits}
 use Rattle.chip.proofs.Within.{nothing-fits}
 use Rattle.edges.specs.declared.Frame.{Frame}
 use Rattle.edges.specs.Frames.{noFrame, withBits, withByte, withCode, withOut}
 use Rattle.edges.specs.Rising.{shiftedIn, taking, wholeByte, risen}
-use Rattle.chip.specs.Output.{outputs}
+use Rattle.codes.specs.Output.{outputs}
 use Rattle.edges.specs.Falling.{loading, fallen}
 use Rattle.edges.specs.Ranges.{valued, latches, codeFits}
 use Rattle.rules.proofs.Sound.{Sound}
 use Rattle.rules.proofs.Parts.{FieldsFit, FrameFits}
-use Rattle.chip.proofs.Bits.{bit-small}
+use Rattle.codes.proofs.Bits.{bit-small}
 use Rattle.rules.proofs.Untouched.{taking-same, loading-same}
 use Rattle.rules.proofs.Fields.{latch-more, address-some, whole-bounded, taking-fits}
 

@@ -10,17 +10,18 @@ use lib.Dec.{eqb, leb, ltb}
 use borrow.Author.Tests.{le-leb, leb-true, leb-false, lt-ltb, ltb-true, eq-eqb, eqb-true}
 use Rattle.laws.specs.Pick.{pick, pick-case, and-left, and-right, and-both}
 use Rattle.laws.specs.And.{or-left, or-more}
-use Rattle.chip.specs.Part.{Part, pages}
-use Rattle.chip.specs.Status.{on}
-use Rattle.chip.specs.Latches.{latched, nextCell, latchFits}
-use Rattle.chip.specs.declared.Latch.{Latch}
-use Rattle.chip.specs.declared.Instruction.{Instruction}
-use Rattle.chip.specs.declared.Instruction.the-variants.{Wren, Wrdi, Rdsr, Wrsr, Read, Write, Silence}
-use Rattle.chip.proofs.Executed.{Paged, more-fits, one-latched}
+use Rattle.codes.specs.Part.{Part, pages}
+use Rattle.codes.specs.Status.{on}
+use Rattle.latch.specs.Latches.{latched, nextCell, latchFits}
+use Rattle.latch.specs.declared.Latch.{Latch}
+use Rattle.codes.specs.declared.Instruction.{Instruction}
+use Rattle.codes.specs.declared.Instruction.the-variants.{Wren, Wrdi, Rdsr, Wrsr, Read, Write, Silence}
+use Rattle.chip.proofs.Executed.{Paged}
+use Rattle.latch.proofs.Fitting.{more-fits, one-latched}
 use Rattle.edges.specs.declared.Frame.{Frame}
 use Rattle.edges.specs.Frames.{withByte, withValue, withAddress}
 use Rattle.edges.specs.Rising.{latchByte, taking}
-use Rattle.chip.specs.Output.{outputs}
+use Rattle.codes.specs.Output.{outputs}
 use Rattle.edges.specs.Ranges.{addressFits, valued, latches, outFits}
 use Rattle.rules.proofs.Sound.{Sound}
 use Rattle.rules.proofs.Parts.{FieldsFit}

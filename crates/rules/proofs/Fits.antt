@@ -9,18 +9,18 @@ use lib.Dec.{eqb, leb, ltb}
 use borrow.Author.Tests.{le-leb, lt-ltb, ltb-true, eq-eqb}
 use Rattle.laws.specs.Pick.{pick, at-yes, pick-case, and-left}
 use Rattle.laws.specs.And.{and-5-out, and-5-in, or-left}
-use Rattle.chip.specs.Part.{Part}
-use Rattle.chip.specs.Status.{bit, on}
-use Rattle.chip.specs.Latches.{zeros}
+use Rattle.codes.specs.Part.{Part}
+use Rattle.codes.specs.Status.{bit, on}
+use Rattle.latch.specs.Latches.{zeros}
 use Rattle.chip.specs.Records.{running}
-use Rattle.chip.specs.Instructions.{decode}
+use Rattle.codes.specs.Instructions.{decode}
 use Rattle.chip.specs.Time.{elapsed, ends, timed}
 use Rattle.chip.specs.Power.{poweredUp}
-use Rattle.chip.specs.Refusals.{isDone}
+use Rattle.codes.specs.Refusals.{isDone}
 use Rattle.chip.specs.declared.Core.{Core}
-use Rattle.chip.specs.declared.Outcome.{Outcome}
-use Rattle.chip.specs.declared.Instruction.{Instruction}
-use Rattle.chip.specs.declared.Instruction.the-variants.{Wren, Wrdi, Rdsr, Wrsr, Read, Write, Silence}
+use Rattle.codes.specs.declared.Outcome.{Outcome}
+use Rattle.codes.specs.declared.Instruction.{Instruction}
+use Rattle.codes.specs.declared.Instruction.the-variants.{Wren, Wrdi, Rdsr, Wrsr, Read, Write, Silence}
 use Rattle.chip.proofs.Within.{Within}
 use Rattle.chip.proofs.Passing.{timed-within}
 use Rattle.chip.proofs.Cases.{powered-within}
@@ -32,14 +32,14 @@ use Rattle.pins.specs.declared.Event.the-variants.{S, C, D, W, Hold, Time}
 use Rattle.pins.specs.Devices.{withS, withC, withD, withW, withHold, withPins, withFrame, resting, selected, counting}
 use Rattle.edges.specs.Frames.{noFrame, withByte}
 use Rattle.edges.specs.Rising.{shiftedIn, taking, wholeByte, risen}
-use Rattle.chip.specs.Output.{outputs}
+use Rattle.codes.specs.Output.{outputs}
 use Rattle.edges.specs.Falling.{fallen}
 use Rattle.pins.specs.Ranges.{pinsFit, heldFits, ranFits, deviceFits}
 use Rattle.pins.specs.Events.{selecting, deselecting, renewed, raising, lowering, onS, onC, onD, onW, onHold, onTime, stepped, eventOf}
 use Rattle.pins.specs.Answers.{PinBench, answer, afterEvent, played, powered}
 use Rattle.rules.proofs.Sound.{Sound}
 use Rattle.rules.proofs.Parts.{Fits, parts, device-fits}
-use Rattle.chip.proofs.Bits.{bit-small}
+use Rattle.codes.proofs.Bits.{bit-small}
 use Rattle.rules.proofs.Held.{hold-small, low-or-high, renewed-fits, held-small}
 use Rattle.rules.proofs.Untouched.{taking-same, loading-same}
 use Rattle.rules.proofs.Edges.{empty-frame, risen-fits, fallen-fits}

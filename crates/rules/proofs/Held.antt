@@ -7,8 +7,8 @@ use lib.Dec.{leb}
 use borrow.Author.Tests.{le-leb, leb-true, eq-eqb, eqb-true, eqb-false}
 use Rattle.laws.specs.Pick.{at-yes, at-no, pick-case}
 use Rattle.laws.specs.And.{and-5-out}
-use Rattle.chip.specs.Status.{bit, on}
-use Rattle.chip.proofs.Bits.{bit-small}
+use Rattle.codes.specs.Status.{bit, on}
+use Rattle.codes.proofs.Bits.{bit-small}
 use Rattle.pins.specs.declared.Pins.{Pins}
 use Rattle.pins.specs.Ranges.{pinsFit, heldFits}
 

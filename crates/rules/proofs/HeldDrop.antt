@@ -5,13 +5,13 @@ use Prim.Native.Nat.{_+_, _*_}
 use lib.Dec.{eqb}
 use Rattle.laws.specs.Pick.{pick-case}
 use Rattle.laws.specs.And.{never}
-use Rattle.chip.specs.Part.{Part}
-use Rattle.chip.specs.Status.{bit, on}
-use Rattle.chip.specs.Instructions.{decode}
-use Rattle.chip.specs.Protect.{protects}
-use Rattle.chip.specs.Verdicts.{isExecuted}
+use Rattle.codes.specs.Part.{Part}
+use Rattle.codes.specs.Status.{bit, on}
+use Rattle.codes.specs.Instructions.{decode}
+use Rattle.chip.specs.Questions.{protects}
+use Rattle.codes.specs.Verdicts.{isExecuted}
 use Rattle.chip.specs.declared.Core.{Core}
-use Rattle.chip.proofs.Judged.{Passed, passed}
+use Rattle.codes.proofs.Judged.{Passed, passed}
 use Rattle.pins.specs.declared.Device.{Device}
 use Rattle.pins.specs.Events.{judgedNow, decided, onS}
 

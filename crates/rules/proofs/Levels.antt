@@ -7,8 +7,8 @@ use native.Mathlib.Omega.{arith}
 use lib.Dec.{leb}
 use borrow.Author.Tests.{eq-eqb, lt-leb, ltb-true}
 use Rattle.laws.specs.Pick.{at-yes, pick-case, and-no-left, and-no-right}
-use Rattle.chip.specs.Part.{Part}
-use Rattle.chip.specs.Status.{bit, on}
+use Rattle.codes.specs.Part.{Part}
+use Rattle.codes.specs.Status.{bit, on}
 use Rattle.chip.specs.Records.{running, withTime}
 use Rattle.chip.specs.Time.{elapsed, ends, timedMemory}
 use Rattle.chip.specs.declared.Core.{Core}

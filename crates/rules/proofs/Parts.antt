@@ -6,10 +6,10 @@ use lib.Dec.{eqb, leb, ltb}
 use borrow.Author.Tests.{le-leb, leb-true, lt-ltb, ltb-true}
 use Rattle.laws.specs.Pick.{and-left, and-right, and-both}
 use Rattle.laws.specs.And.{and-3-out, and-3-in, and-4-out, and-4-in, and-6-out, and-6-in}
-use Rattle.chip.specs.Part.{Part}
-use Rattle.chip.specs.Instructions.{decode}
-use Rattle.chip.specs.Latches.{latchFits}
-use Rattle.chip.specs.declared.Instruction.{Instruction}
+use Rattle.codes.specs.Part.{Part}
+use Rattle.codes.specs.Instructions.{decode}
+use Rattle.latch.specs.Latches.{latchFits}
+use Rattle.codes.specs.declared.Instruction.{Instruction}
 use Rattle.edges.specs.declared.Frame.{Frame}
 use Rattle.edges.specs.Ranges.{partFits, countsFit, codeFits, addressFits, valued, latches, outFits, fieldsFit, frameFits}
 use Rattle.chip.specs.Ranges.{inRanges}

@@ -7,17 +7,17 @@ use lib.Dec.{eqb, leb, ltb}
 use borrow.Author.Tests.{eqb-true}
 use Rattle.laws.specs.Pick.{pick, at-no, pick-case, and-right, and-no-left, and-no-right}
 use Rattle.laws.specs.And.{never}
-use Rattle.chip.specs.Part.{Part}
-use Rattle.chip.specs.Status.{bit, on}
+use Rattle.codes.specs.Part.{Part}
+use Rattle.codes.specs.Status.{bit, on}
 use Rattle.chip.specs.Records.{running}
-use Rattle.chip.specs.Instructions.{decode}
+use Rattle.codes.specs.Instructions.{decode}
 use Rattle.edges.specs.declared.Frame.{Frame}
 use Rattle.pins.specs.declared.Device.{Device}
 use Rattle.edges.specs.declared.Level.the-variants.{Z}
 use Rattle.pins.specs.Devices.{withC, withPins, selected, counting, q}
 use Rattle.edges.specs.Frames.{withByte}
 use Rattle.edges.specs.Rising.{shiftedIn, wholeByte, risen}
-use Rattle.chip.specs.Output.{outputs}
+use Rattle.codes.specs.Output.{outputs}
 use Rattle.pins.specs.Ranges.{deviceFits}
 use Rattle.pins.specs.Events.{raising, onS, onC, onD, onW, onHold, onTime}
 use Rattle.rules.proofs.Parts.{parts}

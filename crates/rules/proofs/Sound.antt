@@ -2,7 +2,7 @@
 use Prim.Native.Nat.{_+_, _-_, _^_, _≤_, _∣_}
 use native.Mathlib.Nat.{dvd-mul-right}
 use native.Mathlib.Omega.{arith}
-use Rattle.chip.specs.Part.{Part, m95512}
+use Rattle.codes.specs.Part.{Part, m95512}
 use Rattle.chip.proofs.Executed.{Paged, m95512-paged}
 
 pub record Sound (P : Part) : Type 0 where

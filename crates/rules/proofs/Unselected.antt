@@ -6,8 +6,8 @@ use Prim.Native.Nat.{ℕ}
 use lib.Dec.{eqb}
 use borrow.Author.Tests.{eqb-true}
 use Rattle.laws.specs.Pick.{pick, at-yes, at-no, pick-case, and-no-left}
-use Rattle.chip.specs.Part.{Part}
-use Rattle.chip.specs.Status.{bit, on}
+use Rattle.codes.specs.Part.{Part}
+use Rattle.codes.specs.Status.{bit, on}
 use Rattle.pins.specs.declared.Pins.{Pins}
 use Rattle.pins.specs.declared.Device.{Device}
 use Rattle.pins.specs.Devices.{withC, withD, withW, withHold, withPins, selected, counting}

@@ -4,10 +4,10 @@ use mathlib.Core.List.{List, []}
 use Prim.Native.Nat.{ℕ}
 use lib.Dec.{eqb, leb}
 use Rattle.laws.specs.Pick.{pick-case}
-use Rattle.chip.specs.Part.{Part}
+use Rattle.codes.specs.Part.{Part}
 use Rattle.chip.specs.declared.Core.{Core}
-use Rattle.chip.specs.declared.Instruction.{Instruction}
-use Rattle.chip.specs.declared.Instruction.the-variants.{Wren, Wrdi, Rdsr, Wrsr, Read, Write, Silence}
+use Rattle.codes.specs.declared.Instruction.{Instruction}
+use Rattle.codes.specs.declared.Instruction.the-variants.{Wren, Wrdi, Rdsr, Wrsr, Read, Write, Silence}
 use Rattle.edges.specs.declared.Frame.{Frame}
 use Rattle.edges.specs.Frames.{withValue, withOut, withAddress, withLatch}
 use Rattle.edges.specs.Rising.{taking}

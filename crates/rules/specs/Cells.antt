@@ -3,12 +3,11 @@ use Prim.Native.Nat.{ℕ, _*_, _-_, _/_}
 use mathlib.Core.Bool.{Bool, false, not, _&&_, _||_}
 use mathlib.Core.List.{List, [], _∷_}
 use lib.Dec.{eqb, leb, ltb}
-use Rattle.chip.specs.Part.{Part}
-use Rattle.chip.specs.Status.{on}
-use Rattle.chip.specs.Instructions.{decode}
-use Rattle.chip.specs.Latches.{inPage, marked}
-use Rattle.chip.specs.Verdicts.{isExecuted}
-use Rattle.chip.specs.Cells.{isWrite}
+use Rattle.codes.specs.Part.{Part}
+use Rattle.codes.specs.Status.{on}
+use Rattle.codes.specs.Instructions.{decode, isWrite}
+use Rattle.latch.specs.Latches.{inPage, marked}
+use Rattle.codes.specs.Verdicts.{isExecuted}
 use Rattle.chip.specs.Time.{ends}
 use Rattle.chip.specs.declared.Core.{Core}
 use Rattle.edges.specs.declared.Frame.{Frame}

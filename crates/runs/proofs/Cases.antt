@@ -5,10 +5,10 @@ use Prim.Native.Nat.{ℕ}
 use lib.ListN.{replicate}
 use Rattle.laws.specs.Pick.{pick}
 use Rattle.laws.specs.Table.{from}
-use Rattle.chip.specs.Part.{m95512}
-use Rattle.chip.specs.Latches.{zeros}
-use Rattle.chip.specs.Instructions.{decode}
-use Rattle.chip.specs.Verdicts.{verdict}
+use Rattle.codes.specs.Part.{m95512}
+use Rattle.latch.specs.Latches.{zeros}
+use Rattle.codes.specs.Instructions.{decode}
+use Rattle.codes.specs.Verdicts.{verdict}
 use Rattle.chip.specs.Time.{timed}
 use Rattle.chip.specs.Power.{delivered}
 use Rattle.frames.specs.Bytes.{latchedFrom}

@@ -9,9 +9,9 @@ use native.Mathlib.Omega.{arith}
 use lib.ListN.{length, drop, length-drop}
 use lib.Seq.{length-take-le}
 use borrow.Author.Tests.{lt-ltb}
-use Rattle.chip.specs.Part.{m95512}
-use Rattle.chip.specs.Status.{on}
-use Rattle.chip.specs.Protect.{protects}
+use Rattle.codes.specs.Part.{m95512}
+use Rattle.codes.specs.Status.{on}
+use Rattle.chip.specs.Questions.{protects}
 use Rattle.chip.specs.Records.{running, withWel}
 use Rattle.chip.specs.declared.Core.{Core}
 use Rattle.split.specs.Split.{count, splitAddress, splitLength}

@@ -9,7 +9,7 @@ use native.Mathlib.Omega.{arith}
 use lib.Dec.{leb}
 use borrow.Author.Tests.{lt-ltb, le-ltb, le-leb, lt-leb}
 use Rattle.laws.specs.Pick.{pick, at-yes, and-both, and-no-right}
-use Rattle.chip.specs.Part.{m95512}
+use Rattle.codes.specs.Part.{m95512}
 use Rattle.chip.specs.Records.{running, waitsStatus, withTime}
 use Rattle.chip.specs.Time.{elapsed, ends, ended, endedMemory, timed, timedMemory}
 use Rattle.chip.specs.declared.Core.{Core}

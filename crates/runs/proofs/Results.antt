@@ -10,8 +10,8 @@ use lib.ListN.{length}
 use lib.Dec.{leb}
 use borrow.Author.Tests.{lt-ltb, le-ltb, leb-true, ltb-false, ltb-true}
 use Rattle.laws.specs.Pick.{at-yes, at-no, and-left, pick-case}
-use Rattle.chip.specs.Part.{m95512}
-use Rattle.chip.specs.Protect.{protects}
+use Rattle.codes.specs.Part.{m95512}
+use Rattle.chip.specs.Questions.{protects}
 use Rattle.chip.specs.Records.{running, waitsStatus, withoutCycle}
 use Rattle.chip.specs.Time.{ended}
 use Rattle.chip.specs.declared.Core.{Core}

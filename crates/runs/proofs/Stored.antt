@@ -13,10 +13,10 @@ use borrow.Author.Tests.{le-leb, lt-leb, lt-ltb, le-ltb}
 use Rattle.laws.specs.Pick.{pick, at-yes, at-no, and-both, and-no-left, and-no-right}
 use Rattle.laws.specs.Spliced.{getD-past}
 use Rattle.laws.specs.Table.{table-length, table-at, table-cong, table-of}
-use Rattle.chip.specs.Part.{m95512}
-use Rattle.chip.specs.Status.{on}
-use Rattle.chip.specs.Latches.{laidAt, zeros, noLatch, latched, inPage, storedAt, stored}
-use Rattle.chip.specs.declared.Latch.{Latch}
+use Rattle.codes.specs.Part.{m95512}
+use Rattle.codes.specs.Status.{on}
+use Rattle.latch.specs.Latches.{laidAt, zeros, noLatch, latched, inPage, storedAt, stored}
+use Rattle.latch.specs.declared.Latch.{Latch}
 use Rattle.frames.specs.Bytes.{latchedFrom, written}
 use Rattle.driver.specs.Sequence.{writeBytes}
 use Rattle.runs.specs.Counts.{overwritten}

@@ -9,15 +9,15 @@ use lib.ListN.{length}
 use lib.Dec.{eqb, leb, ltb}
 use borrow.Author.Tests.{lt-ltb, le-ltb, le-leb, eq-eqb}
 use Rattle.laws.specs.Pick.{pick, at-yes, at-no, and-both, and-no-left}
-use Rattle.chip.specs.Part.{m95512}
-use Rattle.chip.specs.Status.{on}
-use Rattle.chip.specs.Protect.{protects}
-use Rattle.chip.specs.Latches.{stored}
+use Rattle.codes.specs.Part.{m95512}
+use Rattle.codes.specs.Status.{on}
+use Rattle.chip.specs.Questions.{protects}
+use Rattle.latch.specs.Latches.{stored}
 use Rattle.chip.specs.Records.{running, pageWaits, withWel, withTime, withCycle, withoutCycle}
-use Rattle.chip.specs.Instructions.{decode}
-use Rattle.chip.specs.Verdicts.{verdict, isExecuted}
+use Rattle.codes.specs.Instructions.{decode}
+use Rattle.codes.specs.Verdicts.{verdict, isExecuted}
 use Rattle.chip.specs.Time.{elapsed, ends, ended, endedMemory, timed}
-use Rattle.chip.specs.declared.Latch.{Latch}
+use Rattle.latch.specs.declared.Latch.{Latch}
 use Rattle.chip.specs.declared.Core.{Core}
 use Rattle.chip.proofs.Passing.{on-core, no-end}
 use Rattle.frames.specs.Bytes.{address, written}

@@ -3,8 +3,8 @@
 use Prim.Native.Nat.{ℕ, _+_, _-_, _*_, _<_}
 use mathlib.Core.Bool.{true}
 use mathlib.Core.Path.{_≡_}
-use Rattle.chip.specs.Part.{Part}
-use Rattle.chip.specs.Protect.{protects}
+use Rattle.codes.specs.Part.{Part}
+use Rattle.chip.specs.Questions.{protects}
 use Rattle.chip.specs.declared.Core.{Core}
 use Rattle.split.specs.Split.{splitAddress}
 use Rattle.driver.specs.Sequence.{Ending, allDone, timedOut, notTaken}

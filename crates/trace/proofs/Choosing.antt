@@ -10,7 +10,7 @@ use lib.Dec.{eqb, leb}
 use borrow.Author.Tests.{ne-eqb, le-leb, lt-leb}
 use Rattle.laws.specs.Pick.{pick, yes-so, no-so, eq-so, ne-so, pick-ap}
 use Rattle.laws.specs.And.{and-3-out}
-use Rattle.chip.specs.Part.{m95512}
+use Rattle.codes.specs.Part.{m95512}
 use Rattle.pins.specs.Ranges.{deviceFits}
 use Rattle.lines.specs.declared.Line.{Line}
 use Rattle.trace.specs.Printing.{badLine}

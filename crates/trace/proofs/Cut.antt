@@ -9,7 +9,7 @@ use lib.Dec.{eqb}
 use borrow.Author.Tests.{eqb-true, eqb-false, ne-eqb}
 use Rattle.laws.specs.Pick.{pick}
 use Rattle.laws.specs.And.{and-3-in}
-use Rattle.chip.specs.Part.{m95512}
+use Rattle.codes.specs.Part.{m95512}
 use Rattle.pins.specs.Answers.{PinBench, played}
 use Rattle.lists.specs.Answers.{playedQ}
 use Rattle.pins.specs.Ranges.{deviceFits}

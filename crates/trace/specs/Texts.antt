@@ -5,7 +5,7 @@ use mathlib.Core.List.{List, [], _∷_, _++_}
 use lib.ListN.{length}
 use lib.Dec.{eqb}
 use Rattle.laws.specs.Pick.{pick}
-use Rattle.chip.specs.Part.{m95512}
+use Rattle.codes.specs.Part.{m95512}
 use Rattle.chip.specs.Power.{delivered, deliveredMemory}
 use Rattle.pins.specs.Devices.{resting}
 use Rattle.pins.specs.Answers.{PinBench, played, pinBench}

@@ -2,7 +2,7 @@
 //
 // Public calls, each for every input: start and memory, what a text starts from; feed, a chunk of the text; finish, its end; in_ranges, of a
 // player.
-use chip::Refusal;
+use codes::Refusal;
 use lines::Line;
 use pins::Device;
 

@@ -2,7 +2,7 @@
 ghost use mathlib.Core.Path.{_≡_};
 ghost use Prim.Native.Nat.{_≤_};
 ghost use lib.ListN.{length};
-ghost use Rattle.chip.specs.Part.{m95512};
+ghost use Rattle.codes.specs.Part.{m95512};
 ghost use Rattle.chip.specs.Power.{deliveredMemory};
 ghost use Rattle.trace.specs.Chunks.{startPlayer, answerNumber, feedAnswer, feedNumber, feedMemory, feedOutput, endAnswer, endNumber, endWritten};
 use crate::Answer;
@@ -12,7 +12,7 @@ use crate::chunks::has_room;
 use crate::chunks::take_chunk;
 use crate::chunks::take_end;
 use chip::Core;
-use chip::Refusal;
+use codes::Refusal;
 use lines::Line;
 use pins::Device;
 

@@ -1,5 +1,5 @@
 use lib.ListN.{length}
-use Rattle.chip.specs.Part.{m95512}
+use Rattle.codes.specs.Part.{m95512}
 use Rattle.driver.proofs.Outcomes.{taken, drove, refused}
 use borrow.Author.Needs.{needs}
 use Rattle.driver.proofs.write.Statement.{statement}

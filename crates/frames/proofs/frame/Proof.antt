@@ -1,6 +1,6 @@
 -- By the outcome that the code found: what is asked of `show` is what the refusals tested.
 use lib.ListN.{length}
-use Rattle.chip.specs.Part.{m95512}
+use Rattle.codes.specs.Part.{m95512}
 use Rattle.frames.proofs.Outcomes.{taken, shown-frame, refused-frame}
 use borrow.Author.Needs.{needs}
 use Rattle.frames.proofs.frame.Statement.{statement}

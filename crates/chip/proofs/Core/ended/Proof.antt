@@ -1,6 +1,6 @@
 use mathlib.Core.Path.{refl, ap, _∙_}
 use Rattle.laws.specs.Pick.{eq-so, ne-so}
-use Rattle.chip.specs.Part.{m95512}
+use Rattle.codes.specs.Part.{m95512}
 use Rattle.chip.specs.Records.{withoutCycle}
 use borrow.Author.Needs.{needs}
 use Rattle.chip.proofs.Core.ended.Statement.{statement}

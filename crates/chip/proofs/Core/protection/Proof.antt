@@ -1,5 +1,5 @@
 use Rattle.laws.specs.Pick.{arms}
-use Rattle.chip.specs.Part.{m95512}
+use Rattle.codes.specs.Part.{m95512}
 use Rattle.chip.proofs.Numbers.{answered}
 use borrow.Author.Needs.{needs}
 use Rattle.chip.proofs.Core.protection.Statement.{statement}

@@ -1,5 +1,5 @@
 use Rattle.laws.specs.Pick.{call-yes, call-no}
-use Rattle.chip.specs.Part.{m95512}
+use Rattle.codes.specs.Part.{m95512}
 use Rattle.chip.proofs.Numbers.{powered}
 use borrow.Author.Needs.{needs}
 use Rattle.chip.proofs.power.power_up.Statement.{statement}

@@ -1,7 +1,7 @@
 use Rattle.chip.proofs.Numbers.{reading-number}
 use mathlib.Core.Path.{sym, _∙_}
 use Rattle.laws.specs.Pick.{pick}
-use Rattle.chip.specs.Part.{m95512}
+use Rattle.codes.specs.Part.{m95512}
 use Rattle.chip.proofs.Readings.{memory-refused, record-refused, reading-taken}
 use borrow.Author.Needs.{needs}
 use Rattle.chip.proofs.time.clock_reading.Statement.{statement}

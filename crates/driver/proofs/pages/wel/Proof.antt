@@ -1,6 +1,6 @@
 use mathlib.Core.Path.{ap}
-use Rattle.chip.specs.Status.{on}
-use Rattle.chip.proofs.Bits.{masked-bit}
+use Rattle.codes.specs.Status.{on}
+use Rattle.codes.proofs.Bits.{masked-bit}
 use Rattle.driver.proofs.pages.wel.Statement.{statement}
 use Rattle.driver.proofs.pages.wel.Tie as tie
 use Rattle.driver.proofs.pages.wel.Reads as reads

@@ -1,5 +1,5 @@
 use mathlib.Core.Path.{ap}
-use Rattle.chip.specs.Status.{on}
+use Rattle.codes.specs.Status.{on}
 use Rattle.driver.proofs.Seen.{low-bit}
 use Rattle.driver.proofs.pages.wip.Statement.{statement}
 use Rattle.driver.proofs.pages.wip.Tie as tie

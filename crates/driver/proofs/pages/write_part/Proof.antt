@@ -3,7 +3,7 @@ use mathlib.Core.List.{List}
 use Prim.Native.Nat.{ℕ, _+_, _-_}
 use native.Mathlib.Omega.{arith}
 use lib.ListN.{length-take, length-drop}
-use Rattle.chip.specs.Part.{m95512}
+use Rattle.codes.specs.Part.{m95512}
 use Rattle.split.specs.Pieces.{piece}
 use Rattle.frames.specs.Play.{FrameBench, frameBench}
 use Rattle.driver.specs.Sequence.{pageActs}

@@ -5,7 +5,7 @@ use mathlib.Core.Bool.{true}
 use mathlib.Core.List.{List}
 use lib.ListN.{length}
 use Rattle.laws.specs.Spliced.{spliced}
-use Rattle.chip.specs.Part.{m95512}
+use Rattle.codes.specs.Part.{m95512}
 use Rattle.chip.specs.Records.{running}
 use Rattle.frames.specs.After.{after}
 use Rattle.driver.proofs.Frames.{headed, head-length, frame-room, frame-bytes}

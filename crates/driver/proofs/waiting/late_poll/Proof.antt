@@ -4,7 +4,7 @@ use lib.ListN.{length}
 use Rattle.chip.specs.Ranges.{inRanges}
 use Rattle.chip.specs.Records.{status}
 use Rattle.chip.specs.Time.{timed, timedMemory}
-use Rattle.chip.specs.Part.{m95512}
+use Rattle.codes.specs.Part.{m95512}
 use Rattle.chip.specs.declared.Timed.{Timed}
 use Rattle.frames.specs.Play.{FrameBench, frameBench}
 use Rattle.driver.proofs.Frames.{reading-core, reading-memory, poll-leaves}

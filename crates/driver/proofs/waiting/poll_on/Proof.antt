@@ -1,7 +1,7 @@
 use mathlib.Core.Path.{_≡_, ap, sym, subst, _∙_}
 use Prim.Native.Nat.{_-_, _≤_}
 use native.Mathlib.Omega.{arith}
-use Rattle.chip.specs.Part.{m95512}
+use Rattle.codes.specs.Part.{m95512}
 use Rattle.chip.specs.Records.{status}
 use Rattle.frames.specs.Play.{FrameBench, actedAll, frameBench}
 use Rattle.driver.specs.Sequence.{latePoll}

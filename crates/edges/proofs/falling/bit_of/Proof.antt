@@ -1,4 +1,4 @@
-use Rattle.chip.proofs.Bits.{masked-bit}
+use Rattle.codes.proofs.Bits.{masked-bit}
 use borrow.Author.Needs.{needs}
 use Rattle.edges.proofs.falling.bit_of.Statement.{statement}
 use Rattle.edges.proofs.falling.bit_of.Tie as tie

@@ -5,7 +5,7 @@ use mathlib.Core.Path.{_≡_, refl, ap, sym, _∙_}
 use lib.Dec.{leb}
 use borrow.Author.Tests.{leb-true}
 use Rattle.laws.specs.Pick.{yes-so, no-so, eq-so, ne-so, and-right}
-use Rattle.chip.specs.Status.{on, bitOf}
+use Rattle.codes.specs.Status.{on, bitOf}
 use borrow.Author.Needs.{needs}
 use Rattle.edges.proofs.falling.level_of.Statement.{statement}
 use Rattle.edges.proofs.falling.level_of.Tie as tie

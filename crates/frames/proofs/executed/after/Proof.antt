@@ -1,6 +1,6 @@
 use mathlib.Core.Path.{refl, ap, sym, _∙_}
 use Rattle.laws.specs.Pick.{yes-so, no-so}
-use Rattle.chip.specs.Verdicts.{isExecuted}
+use Rattle.codes.specs.Verdicts.{isExecuted}
 use borrow.Author.Needs.{needs}
 use Rattle.frames.proofs.executed.after.Statement.{statement}
 use Rattle.frames.proofs.executed.after.Tie as tie

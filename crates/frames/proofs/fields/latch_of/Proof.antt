@@ -5,8 +5,8 @@ use mathlib.Core.Path.{_≡_, refl, ap, _∙_}
 use mathlib.Core.List.{List}
 use lib.ListN.{length, getD, take, drop, length-drop, length-set}
 use lib.Seq.{getD-drop, take-all}
-use Rattle.chip.specs.Part.{m95512}
-use Rattle.chip.specs.Latches.{zeros, latched, noLatch}
+use Rattle.codes.specs.Part.{m95512}
+use Rattle.latch.specs.Latches.{zeros, latched, noLatch}
 use Rattle.frames.specs.Bytes.{address, payload, latchedFrom}
 use Rattle.frames.proofs.Latching.{latched-next}
 use borrow.Author.Needs.{needs}

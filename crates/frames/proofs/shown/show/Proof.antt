@@ -1,6 +1,6 @@
 -- The bytes, and then the last one padded: fewer than eight bits are unused, since the count fits.
 use lib.ListN.{length}
-use Rattle.chip.specs.Part.{m95512}
+use Rattle.codes.specs.Part.{m95512}
 use Rattle.frames.specs.Bytes.{instruction, address}
 use Rattle.frames.specs.Shown.{byteOut, output}
 use Rattle.frames.proofs.Padding.{few-unused, padded-last}

@@ -1,5 +1,5 @@
 use mathlib.Core.Path.{ap, sym, _∙_}
-use Rattle.chip.specs.Status.{bit}
+use Rattle.codes.specs.Status.{bit}
 use borrow.Author.Needs.{needs}
 use Rattle.lists.proofs.Front.clocked.Statement.{statement}
 use Rattle.lists.proofs.Front.clocked.Tie as tie

@@ -5,11 +5,11 @@ use native.Mathlib.Omega.{arith}
 use lib.Dec.{leb, ltb}
 use borrow.Author.Tests.{ltb-true}
 use Rattle.laws.specs.Pick.{and-left, and-right}
-use Rattle.chip.specs.Part.{m95512}
-use Rattle.chip.specs.Status.{on}
-use Rattle.chip.specs.Instructions.{decode}
+use Rattle.codes.specs.Part.{m95512}
+use Rattle.codes.specs.Status.{on}
+use Rattle.codes.specs.Instructions.{decode}
 use Rattle.lists.specs.Ways.{whole}
-use Rattle.chip.specs.Output.{outputs}
+use Rattle.codes.specs.Output.{outputs}
 use Rattle.pins.proofs.Stills.{still}
 use Rattle.lists.proofs.Quick.{next-bit, next-cell, down, down-counted}
 use borrow.Author.Needs.{needs}

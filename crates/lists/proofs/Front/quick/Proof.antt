@@ -1,5 +1,5 @@
 use mathlib.Core.Path.{refl}
-use Rattle.chip.specs.Part.{m95512}
+use Rattle.codes.specs.Part.{m95512}
 use Rattle.pins.specs.Events.{onD, onW}
 use Rattle.lists.proofs.Quick.{memory-kept}
 use borrow.Author.Needs.{needs}

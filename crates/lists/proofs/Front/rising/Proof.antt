@@ -1,6 +1,6 @@
 use mathlib.Core.Path.{ap, sym, _∙_}
-use Rattle.chip.specs.Part.{m95512}
-use Rattle.chip.specs.declared.Instruction.{Instruction}
+use Rattle.codes.specs.Part.{m95512}
+use Rattle.codes.specs.declared.Instruction.{Instruction}
 use Rattle.lists.specs.Ways.{whole}
 use Rattle.edges.specs.Rising.{taking}
 use Rattle.lists.proofs.Quick.{one-bit, no-byte, up-counted, up-uncounted}

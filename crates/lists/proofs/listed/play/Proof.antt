@@ -1,6 +1,6 @@
 use mathlib.Core.Path.{sym, _∙_}
 use lib.ListN.{length}
-use Rattle.chip.specs.Part.{m95512}
+use Rattle.codes.specs.Part.{m95512}
 use Rattle.lists.proofs.Answering.{play-done, play-output, play-record, play-length, play-taken, play-untaken}
 use borrow.Author.Needs.{needs}
 use Rattle.lists.proofs.listed.play.Statement.{statement}

@@ -7,7 +7,7 @@ use mathlib.Core.Path.{_≡_, ap, sym, _∙_}
 use lib.ListN.{length, take, getD, length-set}
 use lib.Seq.{take-all}
 use Rattle.laws.specs.Filled.{filled, filled-none, filled-more, filled-all}
-use Rattle.chip.specs.Part.{m95512}
+use Rattle.codes.specs.Part.{m95512}
 use Rattle.pins.specs.Answers.{PinBench, afterEvent, played, pinBench}
 use Rattle.lists.specs.Answers.{playedQ}
 use Rattle.lists.specs.Ways.{whole, after, afterMemory}
@@ -15,7 +15,7 @@ use Rattle.pins.specs.Events.{stepped, steppedMemory}
 use Rattle.pins.specs.Devices.{q}
 use Rattle.edges.specs.Falling.{levelNumber}
 use Rattle.chip.specs.declared.Core.{Core}
-use Rattle.chip.specs.declared.Latch.{Latch}
+use Rattle.latch.specs.declared.Latch.{Latch}
 use Rattle.pins.specs.declared.Device.{Device}
 use Rattle.pins.specs.declared.Event.{Event}
 use Rattle.lists.specs.declared.Front.{Front}

@@ -1,6 +1,6 @@
 use mathlib.Core.Path.{refl, ap, _∙_}
 use Rattle.laws.specs.Pick.{call-yes, call-no}
-use Rattle.chip.specs.Verdicts.{isExecuted}
+use Rattle.codes.specs.Verdicts.{isExecuted}
 use borrow.Author.Needs.{needs}
 use Rattle.pins.proofs.Device.decided.Statement.{statement}
 use Rattle.pins.proofs.Device.decided.Tie as tie

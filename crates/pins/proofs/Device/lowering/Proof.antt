@@ -3,12 +3,12 @@ use Prim.Native.Nat.{_<_}
 use lib.Dec.{leb, ltb}
 use borrow.Author.Tests.{ltb-true}
 use Rattle.laws.specs.Pick.{yes-so, no-so, and-left, and-right}
-use Rattle.chip.specs.Part.{m95512}
-use Rattle.chip.specs.Status.{on}
-use Rattle.chip.specs.Instructions.{decode}
+use Rattle.codes.specs.Part.{m95512}
+use Rattle.codes.specs.Status.{on}
+use Rattle.codes.specs.Instructions.{decode}
 use Rattle.pins.specs.Devices.{withC, withPins, withFrame, counting}
 use Rattle.pins.specs.Events.{renewed}
-use Rattle.chip.specs.Output.{outputs}
+use Rattle.codes.specs.Output.{outputs}
 use Rattle.edges.specs.Falling.{fallen}
 use Rattle.pins.proofs.Stills.{still}
 use native.Mathlib.Omega.{arith}

@@ -1,5 +1,5 @@
 use mathlib.Core.Path.{sym, _∙_}
-use Rattle.chip.specs.Part.{m95512}
+use Rattle.codes.specs.Part.{m95512}
 use Rattle.pins.proofs.Answering.{taken, untaken}
 use borrow.Author.Needs.{needs}
 use Rattle.pins.proofs.Device.set_d.Statement.{statement}

@@ -1,0 +1,45 @@
+-- Is an address protected: the lowest protected one is at most this one.
+use Prim.Native.Nat.{ℕ}
+use mathlib.Core.Bool.{Bool}
+use lib.Dec.{leb, ltb}
+use Rattle.laws.specs.Pick.{pick}
+use Rattle.codes.specs.Part.{Part}
+use Rattle.codes.specs.Status.{bit, on}
+use Rattle.codes.specs.Protect.{lowestProtected}
+use Rattle.codes.specs.Refusals.{refusalNumber}
+use Rattle.chip.specs.Ranges.{inRanges}
+use Rattle.chip.specs.declared.Core.{Core}
+use Rattle.codes.specs.declared.Refusal.the-variants.{RecordRange, AddressRange}
+use Rattle.chip.specs.declared.Protection.{Protection}
+use Rattle.chip.specs.declared.Protection.the-variants.{Open, Protected, Unanswered}
+
+-- the lowest protected address is at most this one
+abbrev pub protects : Part → Core → ℕ → Bool
+protects P c a = leb (lowestProtected P (on (c .bp1)) (on (c .bp0))) a
+
+-- ---- the public question, for every record and every number
+
+-- what stands for refusal 2, for 7 after it (an address that the memory lacks), and for no refusal
+abbrev pub questionChoice : {A : Type 0} → Part → Core → ℕ → A → A → A → A
+questionChoice P c a two seven done = pick (inRanges P c) (pick (ltb a (P .size)) done seven) two
+
+abbrev pub protection : Part → Core → ℕ → Protection
+protection P c a = questionChoice P c a (Unanswered RecordRange) (Unanswered AddressRange) (pick (protects P c a) Protected Open)
+
+-- the number of an answer in document 01, and its value: 1 for a protected address
+abbrev pub protectionNumber : Protection → ℕ
+protectionNumber Open = 0
+protectionNumber Protected = 0
+protectionNumber (Unanswered r) = refusalNumber r
+
+abbrev pub protectionValue : Protection → ℕ
+protectionValue Open = 0
+protectionValue Protected = 1
+protectionValue (Unanswered r) = 0
+
+-- the number and the value, by the input
+abbrev pub questionNumber : Part → Core → ℕ → ℕ
+questionNumber P c a = questionChoice P c a 2 7 0
+
+abbrev pub questionValue : Part → Core → ℕ → ℕ
+questionValue P c a = questionChoice P c a 0 0 (bit (protects P c a))

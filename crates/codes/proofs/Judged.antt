@@ -1,0 +1,48 @@
+-- What it says of a frame that it is executed: which tests it passed.
+use mathlib.Core.Path.{_≡_, refl, sym, _∙_}
+use mathlib.Core.Bool.{Bool, true, false, not, _&&_, true≢false}
+use Prim.Native.Nat.{ℕ}
+use lib.Dec.{ltb}
+use borrow.Author.Tests.{not-false}
+use Rattle.laws.specs.Pick.{pick}
+use Rattle.codes.specs.Part.{Part}
+use Rattle.codes.specs.Verdicts.{verdict, isExecuted, needsNoCycle, needsWel, countFits, guarded, isUnknown}
+use Rattle.codes.specs.declared.Instruction.{Instruction}
+use Rattle.codes.specs.declared.Verdict.{Verdict}
+use Rattle.codes.specs.declared.Verdict.the-variants.{CycleRan, WelOff, WrongCount, Guarded, OnHold, UnknownCode}
+
+pub record Passed (P : Part) (i : Instruction) (n : ℕ) (ran wel locked protected held : Bool) : Type 0 where
+  pub whole : ltb n 8 ≡ false
+  pub free : (needsNoCycle i && ran) ≡ false
+  pub enabled : (needsWel i && not wel) ≡ false
+  pub counted : countFits P i n ≡ true
+  pub unguarded : guarded i locked protected ≡ false
+  pub unheld : held ≡ false
+  pub known : isUnknown i ≡ false
+
+-- a choice between failing a test and going on
+passes : (t : Bool) (v o : Verdict) → isExecuted v ≡ false → isExecuted (pick t v o) ≡ true → (t ≡ false) × (isExecuted o ≡ true)
+unfolding pick
+passes true v o n e = absurd (true≢false (sym e ∙ n))
+passes false v o n e = (refl, e)
+
+pub passed : (P : Part) (i : Instruction) (n : ℕ) (ran wel locked protected held : Bool)
+    → isExecuted (verdict P i n ran wel locked protected held) ≡ true → Passed P i n ran wel locked protected held
+unfolding verdict
+passed P i n ran wel locked protected held e =
+    let eight = passes _ WrongCount _ refl e in
+    let cycle = passes _ CycleRan _ refl (eight .1) in
+    let enable = passes _ WelOff _ refl (cycle .1) in
+    let count = passes _ WrongCount _ refl (enable .1) in
+    let guard = passes _ Guarded _ refl (count .1) in
+    let hold = passes _ OnHold _ refl (guard .1) in
+    let code = passes _ UnknownCode _ refl (hold .1) in
+    record {
+      whole = eight .0;
+      free = cycle .0;
+      enabled = enable .0;
+      counted = not-false _ (count .0);
+      unguarded = guard .0;
+      unheld = hold .0;
+      known = code .0;
+    }

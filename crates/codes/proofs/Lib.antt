@@ -1,0 +1,3 @@
+-- Facts on bits, and on a frame that is executed.
+pub mod Bits
+pub mod Judged

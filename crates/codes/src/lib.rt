@@ -1,0 +1,73 @@
+// What the M95512's data sheet says with no record in hand: the part's sizes, the instruction codes, the verdict on a frame, the status byte,
+// where protection starts, and the numbers of the refusals.
+//
+// Every public function is an inner call of the models: total, and exactly its definition.
+mod answers;
+mod instructions;
+mod protect;
+mod sizes;
+mod status;
+mod verdicts;
+
+pub use instructions::RDSR;
+pub use instructions::READ;
+pub use instructions::WRDI;
+pub use instructions::WREN;
+pub use instructions::WRITE;
+pub use instructions::WRSR;
+pub use instructions::decode;
+pub use protect::lowest_protected;
+pub use sizes::ADDRESS_BYTES;
+pub use sizes::LONGEST_CYCLE;
+pub use sizes::LONGEST_FRAME;
+pub use sizes::MOST;
+pub use sizes::PAGE;
+pub use sizes::PAGES;
+pub use sizes::SIZE;
+pub use status::bp0_of;
+pub use status::bp1_of;
+pub use status::srwd_of;
+pub use status::status_byte;
+pub use status::wide;
+pub use status::writable;
+pub use verdicts::judge;
+
+// The refusals 1 to 8, in their order; specs/Refusals.antt has their numbers.
+pub enum Refusal {
+    MemoryLength,
+    RecordRange,
+    FrameLength,
+    BitCount,
+    OutputLength,
+    CycleLength,
+    AddressRange,
+    PollRange,
+}
+
+// The answer of a call that hands back no number beside its record.
+pub enum Outcome {
+    Done,
+    Refused(Refusal),
+}
+
+// What an instruction byte says.
+pub enum Instruction {
+    Wren,
+    Wrdi,
+    Rdsr,
+    Wrsr,
+    Read,
+    Write,
+    Silence,
+}
+
+// What a deselect decides: the frame is executed, or the first test that failed.
+pub enum Verdict {
+    Executed,
+    CycleRan,
+    WelOff,
+    WrongCount,
+    Guarded,
+    OnHold,
+    UnknownCode,
+}

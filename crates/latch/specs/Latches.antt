@@ -1,0 +1,65 @@
+-- A page write: latched bytes, and a mark on each addressed one; what it lays over a page, its ranges, and storing it.
+use Prim.Native.Nat.{ℕ, _+_, _*_, _-_, _%_}
+use mathlib.Core.Bool.{Bool, _&&_, _||_}
+use mathlib.Core.List.{List}
+use lib.ListN.{length, getD, set, replicate}
+use lib.Dec.{eqb, leb, ltb}
+use Rattle.laws.specs.Pick.{pick}
+use Rattle.laws.specs.Each.{each}
+use Rattle.laws.specs.Table.{table}
+use Rattle.codes.specs.Part.{Part}
+use Rattle.codes.specs.Status.{on}
+use Rattle.latch.specs.declared.Latch.{Latch}
+
+abbrev pub marked : Latch → ℕ → Bool
+marked l i = on (getD (l .marks) i 0)
+
+abbrev pub byteAt : Latch → ℕ → ℕ
+byteAt l i = getD (l .bytes) i 0
+
+-- what stands in cell i of its page once the write is laid over a cell that held x
+abbrev pub laidAt : Latch → ℕ → ℕ → ℕ
+laidAt l i x = pick (marked l i) (byteAt l i) x
+
+-- a page's worth of zeros
+unfoldable pub zeros : Part → List ℕ
+zeros P = replicate (P .page) 0
+
+-- no byte latched: what does not wait reads 0
+abbrev pub noLatch : Part → Latch
+noLatch P = record { bytes = zeros P; marks = zeros P }
+
+-- one more byte latched, for cell i of its page; the latest byte for a cell wins
+abbrev pub latched : ℕ → ℕ → Latch → Latch
+latched i v l = record { bytes = set (l .bytes) i v; marks = set (l .marks) i 1 }
+
+-- the cell of its page that comes after address i: from the last one back to the first
+abbrev pub nextCell : Part → ℕ → ℕ
+nextCell P i = (i % P .page + 1) % P .page
+
+-- the page with the write laid over it
+unfoldable pub laid : Part → Latch → List ℕ → List ℕ
+laid P l page = table (P .page) (λ i. laidAt l i (getD page i 0))
+
+-- ---- its ranges
+
+-- cell i: no mark and the byte 0, or a mark where there may be marks
+abbrev pub cellFits : Bool → Latch → ℕ → Bool
+cellFits may l i = eqb (getD (l .marks) i 0) 0 && eqb (byteAt l i) 0 || eqb (getD (l .marks) i 0) 1 && may
+
+-- every cell; `may` says whether anything may be marked
+abbrev pub latchFits : Part → Bool → Latch → Bool
+latchFits P may l = each (cellFits may l) (P .page)
+
+-- ---- storing it
+
+-- cell i of the memory lies in page p
+abbrev pub inPage : Part → ℕ → ℕ → Bool
+inPage P p i = leb (p * P .page) i && ltb i (p * P .page + P .page)
+
+abbrev pub storedAt : Part → ℕ → Latch → List ℕ → ℕ → ℕ
+storedAt P p l m i = pick (inPage P p i) (laidAt l (i - p * P .page) (getD m i 0)) (getD m i 0)
+
+-- the memory with the write laid over page p; a page that the memory lacks is not stored
+unfoldable pub stored : Part → ℕ → Latch → List ℕ → List ℕ
+stored P p l m = pick (leb (p * P .page + P .page) (length m)) (table (length m) (storedAt P p l m)) m

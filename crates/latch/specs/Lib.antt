@@ -1,0 +1,2 @@
+-- A page write: what is latched, what it lays over a page, and storing it.
+pub mod Latches

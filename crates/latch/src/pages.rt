@@ -1,0 +1,84 @@
+// A page write: its ranges, and the page that it is stored in.
+ghost use mathlib.Core.Path.{_≡_};
+ghost use mathlib.Core.Bool.{_&&_, _||_};
+ghost use lib.Dec.{eqb};
+ghost use lib.ListN.{length};
+ghost use Rattle.laws.specs.Pick.{pick};
+ghost use Rattle.codes.specs.Part.{m95512};
+ghost use Rattle.latch.specs.Latches.{laid, latchFits, nextCell, noLatch, stored};
+use crate::Latch;
+
+impl Latch {
+    // No byte latched.
+    pub fn none() -> Latch
+        ensures { λ r. ⌜ r ≡ noLatch m95512 ⌝ }
+    {
+        Latch {
+            bytes: [0; 128],
+            marks: [0; 128],
+        }
+    }
+
+    // Unmarked bytes read 0; there are marks only where there may be.
+    pub fn fits(self, may: bool) -> bool
+        ensures { λ r. ⌜ r ≡ latchFits m95512 may self ⌝ }
+    {
+        let bytes = self.bytes;
+        let marks = self.marks;
+        cells_fit(may, &bytes, &marks)
+    }
+
+    // Lays the write over page number `page` of the memory: that page's 128 bytes alone are lent on. A page that the memory lacks is not stored.
+    pub fn store(self, page: u32, memory: &mut [u8])
+        ensures { λ _. ⌜ now (memory .exit) ≡ stored m95512 page self (now (memory .entry)) ⌝ }
+    {
+        let bytes = self.bytes;
+        let marks = self.marks;
+        let start = page as usize * 128;
+        let end = start + 128;
+        if end <= memory.len() {
+            store_page(&mut memory[start..end], &bytes, &marks);
+        }
+    }
+}
+
+// The cell of its page that comes after an address: from the last one back to the first.
+pub fn next_cell(address: usize) -> usize
+    ensures { λ r. ⌜ r ≡ nextCell m95512 address ⌝ }
+{
+    (address % 128 + 1) % 128
+}
+
+// No mark and the byte 0, or a mark where there may be marks.
+fn cell_fits(may: bool, byte: u8, mark: u8) -> bool
+    ensures { λ r. ⌜ r ≡ (eqb mark 0 && eqb byte 0 || eqb mark 1 && may) ⌝ }
+{
+    (mark == 0) & (byte == 0) | (mark == 1) & may
+}
+
+// The loop has no branch: it runs at every public call.
+fn cells_fit<'a>(may: bool, bytes: &'a [u8; 128], marks: &'a [u8; 128]) -> bool
+    ensures { λ r. ⌜ r ≡ latchFits m95512 may (record { bytes = now (bytes .entry); marks = now (marks .entry) }) ⌝ }
+{
+    let mut fits = true;
+    for i in 0..128usize {
+        fits = fits & cell_fits(may, bytes[i], marks[i]);
+    }
+    fits
+}
+
+fn laid_byte(byte: u8, mark: u8, old: u8) -> u8
+    ensures { λ r. ⌜ r ≡ pick (eqb mark 1) byte old ⌝ }
+{
+    if mark == 1 { byte } else { old }
+}
+
+// The marked bytes go into the page; its other cells stay.
+fn store_page<'a>(page: &mut [u8], bytes: &'a [u8; 128], marks: &'a [u8; 128])
+    requires { ⌜ length (now page) ≡ 128 ⌝ }
+    ensures { λ _. ⌜ now (page .exit) ≡ laid m95512 (record { bytes = now (bytes .entry); marks = now (marks .entry) }) (now (page .entry)) ⌝ }
+{
+    for i in 0..128usize {
+        page[i] = laid_byte(bytes[i], marks[i], page[i]);
+    }
+}
