@@ -1,4 +1,4 @@
--- The two models agree: demand 3.
+-- The two models agree, demand 3: a frame's ticks come to what the frame model says of its bytes, and a drawing to its frames' ticks.
 use Prim.Native.Nat.{ℕ, _*_, _-_, _<_, _≤_}
 use mathlib.Core.Bool.{Bool, true, _&&_}
 use mathlib.Core.List.{List, []}
@@ -21,16 +21,20 @@ use Rattle.frames.specs.Bytes.{instruction, address}
 use Rattle.frames.specs.After.{after}
 use Rattle.frames.specs.Shown.{byteOut, output}
 use Rattle.frames.specs.Answers.{frameOutcome, framed, framedOutput}
+use Rattle.frames.specs.Play.{frame, frameBench, acted}
 use Rattle.frames.proofs.Padding.{few-unused}
-use Rattle.frames.proofs.Kept.{framed-within}
+use Rattle.frames.proofs.Kept.{after-within}
 use Rattle.pins.specs.declared.Pins.{Pins}
 use Rattle.pins.specs.declared.Device.{Device}
 use Rattle.edges.specs.Frames.{noFrame}
+use Rattle.pins.specs.Devices.{pinsAt, withPins, withHeldAt}
+use Rattle.pins.specs.Answers.{pinBench}
 use Rattle.pins.specs.Ranges.{pinsFit, heldFits, emptyFits, ranFits, deviceFits}
 use Rattle.edges.specs.Ranges.{frameFits}
 use Rattle.agree.specs.Drawings.{Sendable, flat, bitsOf}
-use Rattle.agree.specs.Reports.{watched, framesPlayed, Agreement}
-use Rattle.agree.proofs.Facts.{Good, m95512-good, bit-on}
+use Rattle.agree.specs.Reports.{shared, watched, framesPlayed, Agreement}
+use Rattle.codes.proofs.Sound.{Sound, m95512-sound}
+use Rattle.agree.proofs.Facts.{bit-on}
 use Rattle.agree.proofs.Ticks.{seenOf, endOf, decides}
 use Rattle.agree.proofs.Bytes.{none, seen-bytes, end-bytes}
 use Rattle.agree.proofs.Seen.{seen-table}
@@ -38,18 +42,20 @@ use Rattle.agree.proofs.Ends.{end-table}
 use Rattle.agree.proofs.Pad.{pad-bits}
 use Rattle.agree.proofs.Waves.{says}
 
-module _ (P : Part) (G : Good P) where
+module _ (P : Part) (sound : Sound P) where
   -- ---- one frame
 
-  module _ (w : Bool) (c : Core) (m : List ℕ) (s : List ℕ) (n : ℕ) (kept : Within P c) (size : length m ≡ P .size) (F : Sendable P s n) where
+  module _ (w : Bool) (c : Core) (m : List ℕ) (s : List ℕ) (n : ℕ) (kept : Within P c) (size : length m ≡ P .size) (sendable : Sendable P s n) where
     -- it is not refused
     done : (room : ℕ) → room ≡ length s → frameOutcome P c (length m) (length s) n room ≡ Done
     done room e =
-        at-yes _ _ (eq-eqb _ _ size) ∙ at-yes _ _ (in-ranges P c kept) ∙ at-yes _ _ (le-leb _ _ (F .short)) ∙ at-yes _ _ (F .counted) ∙ at-yes _ _ (eq-eqb _ _ e)
+        at-yes _ _ (eq-eqb _ _ size) ∙ at-yes _ _ (in-ranges P c kept) ∙ at-yes _ _ (le-leb _ _ (sendable .short))
+        ∙ at-yes _ _ (sendable .counted) ∙ at-yes _ _ (eq-eqb _ _ e)
 
-    framed-core : framed P c m w s n (length s) .core ≡ after P (running c) w c s n
+    -- the record that the public call promises is the one that the act leaves
+    pub framed-acted : framed P c m w s n (length s) .core ≡ acted P (frame w s n) (frameBench c m) .core
     unfolding framed
-    framed-core = at-yes _ _ (ap isDone (done (length s) refl))
+    framed-acted = at-yes _ _ (ap isDone (done (length s) refl))
 
     framed-output : framedOutput P c m s n (replicate (length s) 0) ≡ output P (running c) (λ j. status c) m s n
     unfolding framedOutput
@@ -57,23 +63,22 @@ module _ (P : Part) (G : Good P) where
 
     frame-seen : seenOf P m c (noFrame P) (bitsOf s n) ≡ bitsOf (framedOutput P c m s n (replicate (length s) 0)) n
     frame-seen =
-        let few = few-unused (length s) n (F .counted) in
-        seen-bytes P G m c s n (noFrame P) none (F .bytes)
-        ∙ ap (λ l. take n (flat l)) (seen-table P G m c s)
+        let few = few-unused (length s) n (sendable .counted) in
+        seen-bytes P sound m c s n (noFrame P) none (sendable .bytes)
+        ∙ ap (λ l. take n (flat l)) (seen-table P sound m c s)
         ∙ sym (ap (λ l. take n (flat l)) framed-output ∙ padding (few .0) (few .1))
       where
         shown : ℕ → ℕ
-        shown = byteOut P (instruction s) (running c) (λ j. status c) m (address P s)
+        shown = byteOut P (instruction P s) (running c) (λ j. status c) m (address P s)
 
         padding : n ≤ 8 * length s → 8 * length s - n < 8 → take n (flat (output P (running c) (λ j. status c) m s n)) ≡ take n (flat (table (length s) shown))
         padding h k = unfold output table in pad-bits shown (length s) (8 * length s - n) k (length s) 0 n (omega arith) (omega arith)
 
-    frame-core : decides P c w (endOf P m c (noFrame P) (bitsOf s n)) ≡ framed P c m w s n (length s) .core
+    frame-core : decides P c w (endOf P m c (noFrame P) (bitsOf s n)) ≡ after P (running c) w c s n
     frame-core =
-        let few = few-unused (length s) n (F .counted) in
-        end-bytes P G m c s n (noFrame P) w none (F .bytes) (few .0)
-        ∙ end-table P G m c w s n (few .0) (omega arith)
-        ∙ sym framed-core
+        let few = few-unused (length s) n (sendable .counted) in
+        end-bytes P sound m c s n (noFrame P) w none (sendable .bytes) (few .0)
+        ∙ end-table P sound m c w s n (few .0) (omega arith)
 
   -- ---- the start: an unselected device inside its ranges
 
@@ -115,18 +120,14 @@ module _ (P : Part) (G : Good P) where
       let x = b .device in
       let p = x .pins in
       let l = levels x (u .fits) in
-      subst⁻¹ (λ y. watched P es [] y ≡ framesPlayed P ks (on (p .w)) (x .core) (b .memory))
-      (λ i. record {
-        device = record {
-          pins = record { s = u .up i; c = bit-on (p .c) (l .0) i; d = bit-on (p .d) (l .1 .0) i; w = bit-on (p .w) (l .1 .1) i; hold = u .free i };
-          held = unheld x (u .fits) (u .up) i;
-          frame = x .frame;
-          core = x .core;
-        };
-        memory = b .memory;
-      })
-      (says P (λ w c m s n k e F. (frame-seen w c m s n k e F, (frame-core w c m s n k e F, framed-within P (G .paged) w c s n m (length s) k)))
+      subst⁻¹ (λ y. watched P es [] y ≡ framesPlayed P ks (shared b))
+      (λ i. pinBench
+      (withPins (pinsAt (u .up i) (bit-on (p .c) (l .0) i) (bit-on (p .d) (l .1 .0) i) (bit-on (p .w) (l .1 .1) i) (u .free i))
+      (withHeldAt (unheld x (u .fits) (u .up) i) x))
+      (b .memory))
+      (says P x
+      (λ w c m s n k e h. (frame-seen w c m s n k e h, (frame-core w c m s n k e h, after-within P sound w c s n (running c) (λ r. r) k)))
       r (x .frame) (x .core) (b .memory) (within P (x .core) (parts x (u .fits) .1 .1)) (u .memory))
 
 pub agreement : Agreement m95512
-agreement = agrees m95512 m95512-good
+agreement = agrees m95512 m95512-sound

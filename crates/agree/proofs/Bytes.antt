@@ -1,4 +1,4 @@
--- Eight ticks are a byte.
+-- Eight ticks are a byte, and the ticks of a frame its bytes: by the seven high bits of a byte, and then the lowest.
 use Prim.Native.Nat.{ℕ, zero, suc, _+_, _*_, _-_, _/_, _%_, _^_, _<_, _≤_, min}
 use mathlib.Core.Bool.{Bool, true, false}
 use mathlib.Core.List.{List, [], _∷_, _++_}
@@ -20,15 +20,16 @@ use Rattle.latch.specs.declared.Latch.{Latch}
 use Rattle.codes.specs.declared.Instruction.{Instruction}
 use Rattle.edges.specs.declared.Frame.{Frame}
 use Rattle.edges.specs.declared.Level.the-variants.{Zero, One}
-use Rattle.edges.specs.Frames.{noFrame}
+use Rattle.edges.specs.Frames.{noFrame, withBits, withOut}
 use Rattle.edges.specs.Rising.{risen, wholeByte, shiftedIn}
 use Rattle.edges.specs.Falling.{fallen, levelOf}
 use Rattle.codes.specs.Output.{outputs}
 use Rattle.agree.specs.Drawings.{flat}
 use Rattle.agree.specs.Reports.{asOne}
-use Rattle.agree.proofs.Facts.{Good, on-bit}
+use Rattle.codes.proofs.Sound.{Sound}
+use Rattle.agree.proofs.Facts.{on-bit}
 use Rattle.agree.proofs.Ticks.{tick, shows, seenOf, endOf, decidesAt, decides}
-use Rattle.agree.proofs.Steps.{shownAt, mid, stepByte, St, drives, Go, addressOf, valueOf, latchOf, first-is, step-is}
+use Rattle.agree.proofs.Steps.{shownAt, midByte, stepByte, afterBytes, drives, afterFall, addressOf, valueOf, latchOf, first-is, step-is}
 
 -- ---- the bits of a byte, joined
 
@@ -37,40 +38,40 @@ bit-most true = omega arith
 bit-most false = omega arith
 
 bit-odd : (x : ℕ) → bit (on (x % 2)) ≡ x % 2
-bit-odd x = go (x % 2) (omega arith)
+bit-odd x = small (x % 2) (omega arith)
   where
-    go : (y : ℕ) → y < 2 → bit (on y) ≡ y
-    go zero h = refl
-    go (suc zero) h = refl
-    go (suc (suc y)) h = absurd (omega arith)
+    small : (y : ℕ) → y < 2 → bit (on y) ≡ y
+    small zero h = refl
+    small (suc zero) h = refl
+    small (suc (suc y)) h = absurd (omega arith)
 
 unfoldable pub joined : ℕ → List Bool → ℕ
 joined a [] = a
 joined a (b ∷ bs) = joined (2 * a + bit b) bs
 
-top : (v : ℕ) → v < 256 → 2 * 0 + v / 2 ^ 7 % 2 ≡ v / 2 ^ 7
-top v h = omega arith
+add-bit-7 : (v : ℕ) → v < 256 → 2 * 0 + v / 2 ^ 7 % 2 ≡ v / 2 ^ 7
+add-bit-7 v h = omega arith
 
-b6 : (v : ℕ) → 2 * (v / 2 ^ 7) + v / 2 ^ 6 % 2 ≡ v / 2 ^ 6
-b6 v = omega arith
+add-bit-6 : (v : ℕ) → 2 * (v / 2 ^ 7) + v / 2 ^ 6 % 2 ≡ v / 2 ^ 6
+add-bit-6 v = omega arith
 
-b5 : (v : ℕ) → 2 * (v / 2 ^ 6) + v / 2 ^ 5 % 2 ≡ v / 2 ^ 5
-b5 v = omega arith
+add-bit-5 : (v : ℕ) → 2 * (v / 2 ^ 6) + v / 2 ^ 5 % 2 ≡ v / 2 ^ 5
+add-bit-5 v = omega arith
 
-b4 : (v : ℕ) → 2 * (v / 2 ^ 5) + v / 2 ^ 4 % 2 ≡ v / 2 ^ 4
-b4 v = omega arith
+add-bit-4 : (v : ℕ) → 2 * (v / 2 ^ 5) + v / 2 ^ 4 % 2 ≡ v / 2 ^ 4
+add-bit-4 v = omega arith
 
-b3 : (v : ℕ) → 2 * (v / 2 ^ 4) + v / 2 ^ 3 % 2 ≡ v / 2 ^ 3
-b3 v = omega arith
+add-bit-3 : (v : ℕ) → 2 * (v / 2 ^ 4) + v / 2 ^ 3 % 2 ≡ v / 2 ^ 3
+add-bit-3 v = omega arith
 
-b2 : (v : ℕ) → 2 * (v / 2 ^ 3) + v / 2 ^ 2 % 2 ≡ v / 2 ^ 2
-b2 v = omega arith
+add-bit-2 : (v : ℕ) → 2 * (v / 2 ^ 3) + v / 2 ^ 2 % 2 ≡ v / 2 ^ 2
+add-bit-2 v = omega arith
 
-b1 : (v : ℕ) → 2 * (v / 2 ^ 2) + v / 2 ^ 1 % 2 ≡ v / 2 ^ 1
-b1 v = omega arith
+add-bit-1 : (v : ℕ) → 2 * (v / 2 ^ 2) + v / 2 ^ 1 % 2 ≡ v / 2 ^ 1
+add-bit-1 v = omega arith
 
-b0 : (v : ℕ) → 2 * (v / 2 ^ 1) + v / 2 ^ 0 % 2 ≡ v
-b0 v = omega arith
+add-bit-0 : (v : ℕ) → 2 * (v / 2 ^ 1) + v / 2 ^ 0 % 2 ≡ v
+add-bit-0 v = omega arith
 
 -- the seven high bits
 abbrev high7 : ℕ → List Bool
@@ -78,10 +79,26 @@ high7 v = on (bitOf 7 v) ∷ on (bitOf 6 v) ∷ on (bitOf 5 v) ∷ on (bitOf 4 v
 
 joined-seven : (v : ℕ) → v < 256 → joined 0 (high7 v) ≡ v / 2 ^ 1
 unfolding joined
-joined-seven v h = rw (bit-odd (v / 2 ^ 7), bit-odd (v / 2 ^ 6), bit-odd (v / 2 ^ 5), bit-odd (v / 2 ^ 4), bit-odd (v / 2 ^ 3), bit-odd (v / 2 ^ 2), bit-odd (v / 2 ^ 1), top v h, b6 v, b5 v, b4 v, b3 v, b2 v, b1 v)
+joined-seven v h =
+    rw (
+      bit-odd (v / 2 ^ 7),
+      bit-odd (v / 2 ^ 6),
+      bit-odd (v / 2 ^ 5),
+      bit-odd (v / 2 ^ 4),
+      bit-odd (v / 2 ^ 3),
+      bit-odd (v / 2 ^ 2),
+      bit-odd (v / 2 ^ 1),
+      add-bit-7 v h,
+      add-bit-6 v,
+      add-bit-5 v,
+      add-bit-4 v,
+      add-bit-3 v,
+      add-bit-2 v,
+      add-bit-1 v,
+    )
 
 joined-eight : (v : ℕ) → v < 256 → 2 * joined 0 (high7 v) + bit (on (bitOf 0 v)) ≡ v
-joined-eight v h = rw (joined-seven v h, bit-odd (v / 2 ^ 0)) (b0 v)
+joined-eight v h = rw (joined-seven v h, bit-odd (v / 2 ^ 0)) (add-bit-0 v)
 
 -- ---- what Q shows over a byte, an undriven bit as 1
 
@@ -105,7 +122,7 @@ all-ones (suc (suc (suc (suc (suc (suc zero)))))) h = refl
 all-ones (suc (suc (suc (suc (suc (suc (suc zero))))))) h = refl
 all-ones (suc (suc (suc (suc (suc (suc (suc (suc k)))))))) h = absurd (omega arith)
 
-shown-bit : (b : Bool) (k a : ℕ) (f : Frame) → k ≤ 7 → asOne (shows (mid b k a f)) ≡ on (bitOf (7 - k) (onQ b f))
+shown-bit : (b : Bool) (k a : ℕ) (f : Frame) → k ≤ 7 → asOne (shows (midByte b k a f)) ≡ on (bitOf (7 - k) (onQ b f))
 unfolding shows
 shown-bit true k a f h =
     let next : 8 - suc k ≡ 7 - k = omega arith in
@@ -119,10 +136,10 @@ unfoldable pub shownBits : ℕ → ℕ → ℕ → List Bool
 shownBits v k zero = []
 shownBits v k (suc n) = on (bitOf (7 - k) v) ∷ shownBits v (suc k) n
 
-module _ (P : Part) (G : Good P) (m : List ℕ) (c : Core) where
+module _ (P : Part) (sound : Sound P) (m : List ℕ) (c : Core) where
   -- in data output
   abbrev pub drivesOf : Frame → Bool
-  drivesOf f = outputs P (decode (f .code)) (f .taken) (on (f .ran))
+  drivesOf f = outputs P (decode P (f .code)) (f .taken) (on (f .ran))
 
   -- ---- one of the first seven ticks
 
@@ -131,45 +148,33 @@ module _ (P : Part) (G : Good P) (m : List ℕ) (c : Core) where
 
   -- the rising edge: one bit more, nothing else
   abbrev rose : Bool → ℕ → ℕ → Frame → Frame
-  rose b k a f =
-      record {
-        taken = f .taken;
-        bits = suc k;
-        part = a;
-        code = f .code;
-        ran = f .ran;
-        value = f .value;
-        out = f .out;
-        shown = shownAt b k;
-        address = f .address;
-        latch = f .latch;
-      }
+  rose b k a f = withOut (f .out) (shownAt b k) (withBits (suc k) a f)
 
-  mid-rise : (b d : Bool) (f : Frame) (k a : ℕ) → k < 7 → a < 128 → risen P (running c) (bit d) (mid b k a f) ≡ rose b k (2 * a + bit d) f
+  mid-rise : (b d : Bool) (f : Frame) (k a : ℕ) → k < 7 → a < 128 → risen P (running c) (bit d) (midByte b k a f) ≡ rose b k (2 * a + bit d) f
   unfolding risen
   mid-rise b d f k a h l =
       let next : k + 1 ≡ suc k = omega arith in
       at-yes _ _ (lt-ltb k 7 h)
-      ∙ ap₂ (λ n v. record { taken = f .taken; bits = n; part = v; code = f .code; ran = f .ran; value = f .value; out = f .out; shown = shownAt b k; address = f .address; latch = f .latch }) next (shifted d a l)
+      ∙ ap₂ (λ n v. withOut (f .out) (shownAt b k) (withBits n v f)) next (shifted d a l)
 
-  mid-fall : (b : Bool) (f : Frame) (k a : ℕ) → drivesOf f ≡ b → k < 7 → fallen P m c (rose b k a f) ≡ mid b (suc k) a f
+  mid-fall : (b : Bool) (f : Frame) (k a : ℕ) → drivesOf f ≡ b → k < 7 → fallen P m c (rose b k a f) ≡ midByte b (suc k) a f
   unfolding fallen
   mid-fall true f k a e h =
       let next : suc k + 1 ≡ suc (suc k) = omega arith in
       at-yes _ _ e
       ∙ at-yes _ _ (and-both (leb 1 (suc k)) (ltb (suc k) 8) (le-leb 1 (suc k) (omega arith)) (lt-ltb (suc k) 8 (omega arith)))
-      ∙ ap (λ n. record { taken = f .taken; bits = suc k; part = a; code = f .code; ran = f .ran; value = f .value; out = f .out; shown = n; address = f .address; latch = f .latch }) next
+      ∙ ap (λ n. withOut (f .out) n (withBits (suc k) a f)) next
   mid-fall false f k a e h = at-no _ _ e
 
-  mid-tick : (b d : Bool) (f : Frame) (k a : ℕ) → drivesOf f ≡ b → k < 7 → a < 128 → tick P m c d (mid b k a f) ≡ mid b (suc k) (2 * a + bit d) f
+  mid-tick : (b d : Bool) (f : Frame) (k a : ℕ) → drivesOf f ≡ b → k < 7 → a < 128 → tick P m c d (midByte b k a f) ≡ midByte b (suc k) (2 * a + bit d) f
   mid-tick b d f k a e h l = ap (fallen P m c) (mid-rise b d f k a h l) ∙ mid-fall b f k (2 * a + bit d) e h
 
   -- the eighth: the byte v is whole
-  last-tick : (b d : Bool) (f : Frame) (a v : ℕ) → 2 * a + bit d ≡ v → v < 256 → tick P m c d (mid b 7 a f) ≡ stepByte P G m c b v f
+  last-tick : (b d : Bool) (f : Frame) (a v : ℕ) → 2 * a + bit d ≡ v → v < 256 → tick P m c d (midByte b 7 a f) ≡ stepByte P sound m c b v f
   unfolding risen wholeByte stepByte
   last-tick b d f a v e h =
       let whole : shiftedIn a (bit d) ≡ v = rw (on-bit d, e) (mod-eq-of-lt h) in
-      ap (fallen P m c) (at-no _ _ (le-ltb 7 7 (omega arith)) ∙ ap (λ x. wholeByte P (running c) x (mid b 7 a f)) whole)
+      ap (fallen P m c) (at-no _ _ (le-ltb 7 7 (omega arith)) ∙ ap (λ x. wholeByte P (running c) x (midByte b 7 a f)) whole)
 
   -- ---- up to seven ticks
 
@@ -187,31 +192,31 @@ module _ (P : Part) (G : Good P) (m : List ℕ) (c : Core) where
   twice-below k a d h = omega (arith, bit-most d, pow-suc 2 k)
 
   mid-seen : (bs rest : List Bool) (b : Bool) (f : Frame) (k a : ℕ) → drivesOf f ≡ b → k + length bs ≤ 7 → a < 2 ^ k
-      → seenOf P m c (mid b k a f) (bs ++ rest)
-      ≡ shownBits (onQ b f) k (length bs) ++ seenOf P m c (mid b (k + length bs) (joined a bs) f) rest
+      → seenOf P m c (midByte b k a f) (bs ++ rest)
+      ≡ shownBits (onQ b f) k (length bs) ++ seenOf P m c (midByte b (k + length bs) (joined a bs) f) rest
   unfolding seenOf joined shownBits
-  mid-seen [] rest b f k a e h l = ap (λ n. seenOf P m c (mid b n a f) rest) (omega arith)
+  mid-seen [] rest b f k a e h l = ap (λ n. seenOf P m c (midByte b n a f) rest) (omega arith)
   mid-seen (d ∷ bs) rest b f k a e h l =
       let next : suc k + length bs ≡ k + suc (length bs) = omega arith in
       ap₂ (λ x l. x ∷ l) (shown-bit b k a f (omega arith))
       (ap (λ g. seenOf P m c g (bs ++ rest)) (mid-tick b d f k a e (omega arith) (below-128 k a (omega arith) l))
       ∙ mid-seen bs rest b f (suc k) (2 * a + bit d) e (omega arith) (twice-below k a d l)
-      ∙ ap (λ n. shownBits (onQ b f) (suc k) (length bs) ++ seenOf P m c (mid b n (joined (2 * a + bit d) bs) f) rest) next)
+      ∙ ap (λ n. shownBits (onQ b f) (suc k) (length bs) ++ seenOf P m c (midByte b n (joined (2 * a + bit d) bs) f) rest) next)
 
   mid-end : (bs rest : List Bool) (b : Bool) (f : Frame) (k a : ℕ) → drivesOf f ≡ b → k + length bs ≤ 7 → a < 2 ^ k
-      → endOf P m c (mid b k a f) (bs ++ rest) ≡ endOf P m c (mid b (k + length bs) (joined a bs) f) rest
+      → endOf P m c (midByte b k a f) (bs ++ rest) ≡ endOf P m c (midByte b (k + length bs) (joined a bs) f) rest
   unfolding endOf joined
-  mid-end [] rest b f k a e h l = ap (λ n. endOf P m c (mid b n a f) rest) (omega arith)
+  mid-end [] rest b f k a e h l = ap (λ n. endOf P m c (midByte b n a f) rest) (omega arith)
   mid-end (d ∷ bs) rest b f k a e h l =
       let next : suc k + length bs ≡ k + suc (length bs) = omega arith in
       ap (λ g. endOf P m c g (bs ++ rest)) (mid-tick b d f k a e (omega arith) (below-128 k a (omega arith) l))
       ∙ mid-end bs rest b f (suc k) (2 * a + bit d) e (omega arith) (twice-below k a d l)
-      ∙ ap (λ n. endOf P m c (mid b n (joined (2 * a + bit d) bs) f) rest) next
+      ∙ ap (λ n. endOf P m c (midByte b n (joined (2 * a + bit d) bs) f) rest) next
 
   -- ---- a frame, byte by byte
 
   unfoldable pub step : ℕ → Frame → Frame
-  step v f = stepByte P G m c (drivesOf f) v f
+  step v f = stepByte P sound m c (drivesOf f) v f
 
   unfoldable pub bytesSeen : Frame → List ℕ → List ℕ
   bytesSeen f [] = []
@@ -221,44 +226,44 @@ module _ (P : Part) (G : Good P) (m : List ℕ) (c : Core) where
   bytesEnd f [] = f
   bytesEnd f (v ∷ vs) = bytesEnd (step v f) vs
 
-  pub step-first : (i : Instruction) (v : ℕ) → decode v ≡ i → step v (noFrame P) ≡ Go P G m c i v 1 0 0 0 (noLatch P)
+  pub step-first : (i : Instruction) (v : ℕ) → decode P v ≡ i → step v (noFrame P) ≡ afterFall P sound m c i v 1 0 0 0 (noLatch P)
   unfolding step decode pick
-  step-first i v e = first-is P G m c i v e
+  step-first i v e = first-is P sound m c i v e
 
-  pub step-more : (i : Instruction) (u v j a x o z : ℕ) (l : Latch) → decode v ≡ i → 1 ≤ j
+  pub step-more : (i : Instruction) (u v j a x o z : ℕ) (l : Latch) → decode P v ≡ i → 1 ≤ j
       → let n = min (P .most) j in
-      step u (St P G m c v j a x o z l) ≡ Go P G m c i v (suc j) (addressOf P i n u a) (valueOf i n u x) o (latchOf P i n u a l)
+      step u (afterBytes P sound m c v j a x o z l) ≡ afterFall P sound m c i v (suc j) (addressOf P i n u a) (valueOf i n u x) o (latchOf P i n u a l)
   unfolding step
   step-more i u v j a x o z l e k =
-      ap₂ (λ d r. stepByte P G m c (outputs P d (min (P .most) j) r) u (St P G m c v j a x o z l)) e (on-bit (running c))
-      ∙ step-is P G m c i u v j a x o z l e k
+      ap₂ (λ d r. stepByte P sound m c (outputs P d (min (P .most) j) r) u (afterBytes P sound m c v j a x o z l)) e (on-bit (running c))
+      ∙ step-is P sound m c i u v j a x o z l e k
 
   -- a byte's start: no bit taken, and nothing or the first bit shown
   pub data Reached : Frame → Type 0 where
     none : Reached (noFrame P)
-    some : (v j a x o : ℕ) (l : Latch) → 1 ≤ j → Reached (St P G m c v j a x o (shownAt (drives P G m c (decode v) j) 0) l)
+    some : (v j a x o : ℕ) (l : Latch) → 1 ≤ j → Reached (afterBytes P sound m c v j a x o (shownAt (drives P sound m c (decode P v) j) 0) l)
 
-  as-mid : (f : Frame) → Reached f → f ≡ mid (drivesOf f) 0 0 f
+  as-mid : (f : Frame) → Reached f → f ≡ midByte (drivesOf f) 0 0 f
   as-mid f none = unfold decode pick in refl
   as-mid f (some v j a x o l h) =
-      ap (λ r. St P G m c v j a x o (shownAt (outputs P (decode v) (min (P .most) j) r) 0) l) (sym (on-bit (running c)))
+      ap (λ r. afterBytes P sound m c v j a x o (shownAt (outputs P (decode P v) (min (P .most) j) r) 0) l) (sym (on-bit (running c)))
 
   reached-step : (u : ℕ) (f : Frame) → Reached f → Reached (step u f)
-  reached-step u f none = subst⁻¹ Reached (step-first (decode u) u refl) (some u 1 _ _ _ _ (omega arith))
-  reached-step u f (some v j a x o l h) = subst⁻¹ Reached (step-more (decode v) u v j a x o _ l refl h) (some v (suc j) _ _ _ _ (omega arith))
+  reached-step u f none = subst⁻¹ Reached (step-first (decode P u) u refl) (some u 1 _ _ _ _ (omega arith))
+  reached-step u f (some v j a x o l h) = subst⁻¹ Reached (step-more (decode P v) u v j a x o _ l refl h) (some v (suc j) _ _ _ _ (omega arith))
 
   cons-seen : (f : Frame) (v : ℕ) (vs : List ℕ) (n : ℕ) → v < 256
       → ((k : ℕ) → seenOf P m c (step v f) (take k (flat vs)) ≡ take k (flat (bytesSeen (step v f) vs)))
-      → seenOf P m c (mid (drivesOf f) 0 0 f) (take n (flat (v ∷ vs))) ≡ take n (flat (bytesSeen f (v ∷ vs)))
+      → seenOf P m c (midByte (drivesOf f) 0 0 f) (take n (flat (v ∷ vs))) ≡ take n (flat (bytesSeen f (v ∷ vs)))
   unfolding flat bytesSeen seenOf shownBits step
   cons-seen f v vs zero h ih = mid-seen ([]) [] (drivesOf f) f 0 0 refl (omega arith) (omega arith)
-  cons-seen f v vs (suc zero) h ih = mid-seen (on (bitOf 7 v) ∷ []) [] (drivesOf f) f 0 0 refl (omega arith) (omega arith)
-  cons-seen f v vs (suc (suc zero)) h ih = mid-seen (on (bitOf 7 v) ∷ on (bitOf 6 v) ∷ []) [] (drivesOf f) f 0 0 refl (omega arith) (omega arith)
-  cons-seen f v vs (suc (suc (suc zero))) h ih = mid-seen (on (bitOf 7 v) ∷ on (bitOf 6 v) ∷ on (bitOf 5 v) ∷ []) [] (drivesOf f) f 0 0 refl (omega arith) (omega arith)
-  cons-seen f v vs (suc (suc (suc (suc zero)))) h ih = mid-seen (on (bitOf 7 v) ∷ on (bitOf 6 v) ∷ on (bitOf 5 v) ∷ on (bitOf 4 v) ∷ []) [] (drivesOf f) f 0 0 refl (omega arith) (omega arith)
-  cons-seen f v vs (suc (suc (suc (suc (suc zero))))) h ih = mid-seen (on (bitOf 7 v) ∷ on (bitOf 6 v) ∷ on (bitOf 5 v) ∷ on (bitOf 4 v) ∷ on (bitOf 3 v) ∷ []) [] (drivesOf f) f 0 0 refl (omega arith) (omega arith)
-  cons-seen f v vs (suc (suc (suc (suc (suc (suc zero)))))) h ih = mid-seen (on (bitOf 7 v) ∷ on (bitOf 6 v) ∷ on (bitOf 5 v) ∷ on (bitOf 4 v) ∷ on (bitOf 3 v) ∷ on (bitOf 2 v) ∷ []) [] (drivesOf f) f 0 0 refl (omega arith) (omega arith)
-  cons-seen f v vs (suc (suc (suc (suc (suc (suc (suc zero))))))) h ih = mid-seen (on (bitOf 7 v) ∷ on (bitOf 6 v) ∷ on (bitOf 5 v) ∷ on (bitOf 4 v) ∷ on (bitOf 3 v) ∷ on (bitOf 2 v) ∷ on (bitOf 1 v) ∷ []) [] (drivesOf f) f 0 0 refl (omega arith) (omega arith)
+  cons-seen f v vs (suc zero) h ih = mid-seen (take 1 (high7 v)) [] (drivesOf f) f 0 0 refl (omega arith) (omega arith)
+  cons-seen f v vs (suc (suc zero)) h ih = mid-seen (take 2 (high7 v)) [] (drivesOf f) f 0 0 refl (omega arith) (omega arith)
+  cons-seen f v vs (suc (suc (suc zero))) h ih = mid-seen (take 3 (high7 v)) [] (drivesOf f) f 0 0 refl (omega arith) (omega arith)
+  cons-seen f v vs (suc (suc (suc (suc zero)))) h ih = mid-seen (take 4 (high7 v)) [] (drivesOf f) f 0 0 refl (omega arith) (omega arith)
+  cons-seen f v vs (suc (suc (suc (suc (suc zero))))) h ih = mid-seen (take 5 (high7 v)) [] (drivesOf f) f 0 0 refl (omega arith) (omega arith)
+  cons-seen f v vs (suc (suc (suc (suc (suc (suc zero)))))) h ih = mid-seen (take 6 (high7 v)) [] (drivesOf f) f 0 0 refl (omega arith) (omega arith)
+  cons-seen f v vs (suc (suc (suc (suc (suc (suc (suc zero))))))) h ih = mid-seen (high7 v) [] (drivesOf f) f 0 0 refl (omega arith) (omega arith)
   cons-seen f v vs (suc (suc (suc (suc (suc (suc (suc (suc n)))))))) h ih =
       let b = drivesOf f in
       let a = joined 0 (high7 v) in
@@ -275,17 +280,26 @@ module _ (P : Part) (G : Good P) (m : List ℕ) (c : Core) where
       ∙ cons-seen f v vs n (h 0) (λ k. seen-bytes vs k (step v f) (reached-step v f r) (λ i. h (suc i)))
 
   cons-end : (f : Frame) (v : ℕ) (vs : List ℕ) (n : ℕ) (w : Bool) → v < 256 → n ≤ 8 * suc (length vs)
-      → ((k : ℕ) → k ≤ 8 * length vs → decides P c w (endOf P m c (step v f) (take k (flat vs))) ≡ decidesAt P c w (k % 8) (bytesEnd (step v f) (take (k / 8) vs)))
-      → decides P c w (endOf P m c (mid (drivesOf f) 0 0 f) (take n (flat (v ∷ vs)))) ≡ decidesAt P c w (n % 8) (bytesEnd f (take (n / 8) (v ∷ vs)))
+      → ((k : ℕ) → k ≤ 8 * length vs
+      → decides P c w (endOf P m c (step v f) (take k (flat vs))) ≡ decidesAt P c w (k % 8) (bytesEnd (step v f) (take (k / 8) vs)))
+      → decides P c w (endOf P m c (midByte (drivesOf f) 0 0 f) (take n (flat (v ∷ vs)))) ≡ decidesAt P c w (n % 8) (bytesEnd f (take (n / 8) (v ∷ vs)))
   unfolding flat bytesEnd endOf step decides decidesAt
-  cons-end f v vs zero w h u ih = ap (decides P c w) (mid-end ([]) [] (drivesOf f) f 0 0 refl (omega arith) (omega arith))
-  cons-end f v vs (suc zero) w h u ih = ap (decides P c w) (mid-end (on (bitOf 7 v) ∷ []) [] (drivesOf f) f 0 0 refl (omega arith) (omega arith))
-  cons-end f v vs (suc (suc zero)) w h u ih = ap (decides P c w) (mid-end (on (bitOf 7 v) ∷ on (bitOf 6 v) ∷ []) [] (drivesOf f) f 0 0 refl (omega arith) (omega arith))
-  cons-end f v vs (suc (suc (suc zero))) w h u ih = ap (decides P c w) (mid-end (on (bitOf 7 v) ∷ on (bitOf 6 v) ∷ on (bitOf 5 v) ∷ []) [] (drivesOf f) f 0 0 refl (omega arith) (omega arith))
-  cons-end f v vs (suc (suc (suc (suc zero)))) w h u ih = ap (decides P c w) (mid-end (on (bitOf 7 v) ∷ on (bitOf 6 v) ∷ on (bitOf 5 v) ∷ on (bitOf 4 v) ∷ []) [] (drivesOf f) f 0 0 refl (omega arith) (omega arith))
-  cons-end f v vs (suc (suc (suc (suc (suc zero))))) w h u ih = ap (decides P c w) (mid-end (on (bitOf 7 v) ∷ on (bitOf 6 v) ∷ on (bitOf 5 v) ∷ on (bitOf 4 v) ∷ on (bitOf 3 v) ∷ []) [] (drivesOf f) f 0 0 refl (omega arith) (omega arith))
-  cons-end f v vs (suc (suc (suc (suc (suc (suc zero)))))) w h u ih = ap (decides P c w) (mid-end (on (bitOf 7 v) ∷ on (bitOf 6 v) ∷ on (bitOf 5 v) ∷ on (bitOf 4 v) ∷ on (bitOf 3 v) ∷ on (bitOf 2 v) ∷ []) [] (drivesOf f) f 0 0 refl (omega arith) (omega arith))
-  cons-end f v vs (suc (suc (suc (suc (suc (suc (suc zero))))))) w h u ih = ap (decides P c w) (mid-end (on (bitOf 7 v) ∷ on (bitOf 6 v) ∷ on (bitOf 5 v) ∷ on (bitOf 4 v) ∷ on (bitOf 3 v) ∷ on (bitOf 2 v) ∷ on (bitOf 1 v) ∷ []) [] (drivesOf f) f 0 0 refl (omega arith) (omega arith))
+  cons-end f v vs zero w h u ih =
+      ap (decides P c w) (mid-end ([]) [] (drivesOf f) f 0 0 refl (omega arith) (omega arith))
+  cons-end f v vs (suc zero) w h u ih =
+      ap (decides P c w) (mid-end (take 1 (high7 v)) [] (drivesOf f) f 0 0 refl (omega arith) (omega arith))
+  cons-end f v vs (suc (suc zero)) w h u ih =
+      ap (decides P c w) (mid-end (take 2 (high7 v)) [] (drivesOf f) f 0 0 refl (omega arith) (omega arith))
+  cons-end f v vs (suc (suc (suc zero))) w h u ih =
+      ap (decides P c w) (mid-end (take 3 (high7 v)) [] (drivesOf f) f 0 0 refl (omega arith) (omega arith))
+  cons-end f v vs (suc (suc (suc (suc zero)))) w h u ih =
+      ap (decides P c w) (mid-end (take 4 (high7 v)) [] (drivesOf f) f 0 0 refl (omega arith) (omega arith))
+  cons-end f v vs (suc (suc (suc (suc (suc zero))))) w h u ih =
+      ap (decides P c w) (mid-end (take 5 (high7 v)) [] (drivesOf f) f 0 0 refl (omega arith) (omega arith))
+  cons-end f v vs (suc (suc (suc (suc (suc (suc zero)))))) w h u ih =
+      ap (decides P c w) (mid-end (take 6 (high7 v)) [] (drivesOf f) f 0 0 refl (omega arith) (omega arith))
+  cons-end f v vs (suc (suc (suc (suc (suc (suc (suc zero))))))) w h u ih =
+      ap (decides P c w) (mid-end (high7 v) [] (drivesOf f) f 0 0 refl (omega arith) (omega arith))
   cons-end f v vs (suc (suc (suc (suc (suc (suc (suc (suc n)))))))) w h u ih =
       let b = drivesOf f in
       let a = joined 0 (high7 v) in

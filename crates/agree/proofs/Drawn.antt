@@ -1,5 +1,5 @@
 -- The statement is about something: every list of sendable frames has a drawing, each frame in the mode that is asked for, with a pause before
--- each bit for which one is asked.
+-- each bit for which one is asked: made act by act.
 use Prim.Native.Nat.{ℕ, zero, suc, _<_}
 use mathlib.Core.Bool.{Bool, true, false, _&&_}
 use mathlib.Core.List.{List, [], _∷_}
@@ -11,9 +11,10 @@ use native.Mathlib.Omega.{arith}
 use Rattle.laws.specs.Pick.{pick, and-left, and-right}
 use Rattle.codes.specs.Part.{Part, m95512}
 use Rattle.frames.specs.Answers.{bitsFit, longestFrame}
+use Rattle.frames.specs.Play.{Act, frame, reading}
 use Rattle.pins.specs.declared.Event.{Event}
 use Rattle.pins.specs.declared.Event.the-variants.{S, C, D, W, Hold, Time}
-use Rattle.agree.specs.Drawings.{Act, send, reading, protect, Mode, mode0, mode3, rest, Phase, between, inside, Sendable, flat, bitsOf, Wave, data′, end′, clock′, reading′, protect′, select′, rise′, fall′, deselect′, hold′, idle′, resume′}
+use Rattle.agree.specs.Drawings.{Mode, mode0, mode3, rest, Phase, between, inside, Sendable, flat, bitsOf, Wave, data′, end′, clock′, protect′, reading′, select′, rise′, fall′, deselect′, hold′, idle′, resume′}
 
 -- ---- bytes that can be sent, by tests
 
@@ -55,24 +56,22 @@ module _ (P : Part) where
 
   abbrev pub AllSendable : List Act → Type 0
   AllSendable [] = Unit {0}
-  AllSendable (send s n ∷ ks) = Sendable P s n × AllSendable ks
+  AllSendable (frame w s n ∷ ks) = Sendable P s n × AllSendable ks
   AllSendable (reading t ∷ ks) = AllSendable ks
-  AllSendable (protect w ∷ ks) = AllSendable ks
 
-  -- o and t: the mode of the frame that begins at each act, and whether to pause before each of its bits
+  -- o and t: the mode of the frame that begins at each act, and whether to pause before each of its bits. W is set before each select
   pub drawn : (o : List Act → Mode) (t : List Act → List Bool → Bool) (ks : List Act) → AllSendable ks → (l d w : Bool) → Drawn (between l) d w [] ks
   drawn o t [] h l d w = ([], end′)
-  drawn o t (send s n ∷ ks) h l d w =
-      let m = o (send s n ∷ ks) in
-      let x = bits-in m (t (send s n ∷ ks)) (bitsOf s n) ks d w (λ d′. drawn o t ks (h .1) (rest m) d′ w) in
-      (C (rest m) ∷ S false ∷ x .0, clock′ (rest m) (select′ m s n (h .0) (x .1)))
+  drawn o t (frame v s n ∷ ks) h l d w =
+      let m = o (frame v s n ∷ ks) in
+      let x = bits-in m (t (frame v s n ∷ ks)) (bitsOf s n) ks d v (λ d′. drawn o t ks (h .1) (rest m) d′ v) in
+      (C (rest m) ∷ W v ∷ S false ∷ x .0, clock′ (rest m) (protect′ v (select′ m s n (h .0) (x .1))))
   drawn o t (reading n ∷ ks) h l d w = let x = drawn o t ks h l d w in (Time n ∷ x .0, reading′ n (x .1))
-  drawn o t (protect v ∷ ks) h l d w = let x = drawn o t ks h l d v in (W v ∷ x .0, protect′ v (x .1))
 
 -- ---- one bit, drawn in each mode, without a pause and with one
 
 abbrev pub single : List Act
-single = send (0x80 ∷ []) 1 ∷ []
+single = frame true (0x80 ∷ []) 1 ∷ []
 
 pub single-sendable : AllSendable m95512 single
 unfolding below pick
@@ -82,10 +81,10 @@ abbrev pub singly : Mode → Bool → List Event
 singly o t = drawn m95512 (λ _. o) (λ _ _. t) single single-sendable false false true .0
 
 pub record OneBit : Type 0 where
-  pub plain0 : singly mode0 false ≡ C false ∷ S false ∷ D true ∷ C true ∷ C false ∷ S true ∷ []
-  pub plain3 : singly mode3 false ≡ C true ∷ S false ∷ C false ∷ D true ∷ C true ∷ S true ∷ []
-  pub paused0 : singly mode0 true ≡ C false ∷ S false ∷ Hold false ∷ C true ∷ C false ∷ Hold true ∷ D true ∷ C true ∷ C false ∷ S true ∷ []
-  pub paused3 : singly mode3 true ≡ C true ∷ S false ∷ C false ∷ Hold false ∷ C true ∷ C false ∷ Hold true ∷ D true ∷ C true ∷ S true ∷ []
+  pub plain0 : singly mode0 false ≡ C false ∷ W true ∷ S false ∷ D true ∷ C true ∷ C false ∷ S true ∷ []
+  pub plain3 : singly mode3 false ≡ C true ∷ W true ∷ S false ∷ C false ∷ D true ∷ C true ∷ S true ∷ []
+  pub paused0 : singly mode0 true ≡ C false ∷ W true ∷ S false ∷ Hold false ∷ C true ∷ C false ∷ Hold true ∷ D true ∷ C true ∷ C false ∷ S true ∷ []
+  pub paused3 : singly mode3 true ≡ C true ∷ W true ∷ S false ∷ C false ∷ Hold false ∷ C true ∷ C false ∷ Hold true ∷ D true ∷ C true ∷ S true ∷ []
 
 pub one-bit-drawn : OneBit
 unfolding flat drawn bits-in one-bit

@@ -1,4 +1,4 @@
--- The low bits of the last byte, past the bit count, are set to 1, and no bit before them changes.
+-- The low bits of the last byte, past the bit count, are set to 1, and no bit before them changes: by division, for each count of bits.
 use Prim.Native.Nat.{ℕ, zero, suc, _+_, _*_, _-_, _/_, _<_}
 use mathlib.Core.Bool.{false}
 use mathlib.Core.List.{[], _++_}
@@ -20,10 +20,38 @@ high p d v h =
     ∙ div-div-eq-div-mul v p d
 
 last-byte : (u v : ℕ) → u < 8 → take (8 - u) (lowBits 8 (padded u v) ++ []) ≡ take (8 - u) (lowBits 8 v ++ [])
-last-byte zero v l = simp (high 1 1 v (omega arith), high 1 2 v (omega arith), high 1 4 v (omega arith), high 1 8 v (omega arith), high 1 16 v (omega arith), high 1 32 v (omega arith), high 1 64 v (omega arith), high 1 128 v (omega arith))
-last-byte (suc zero) v l = simp (high 2 1 v (omega arith), high 2 2 v (omega arith), high 2 4 v (omega arith), high 2 8 v (omega arith), high 2 16 v (omega arith), high 2 32 v (omega arith), high 2 64 v (omega arith))
-last-byte (suc (suc zero)) v l = simp (high 4 1 v (omega arith), high 4 2 v (omega arith), high 4 4 v (omega arith), high 4 8 v (omega arith), high 4 16 v (omega arith), high 4 32 v (omega arith))
-last-byte (suc (suc (suc zero))) v l = simp (high 8 1 v (omega arith), high 8 2 v (omega arith), high 8 4 v (omega arith), high 8 8 v (omega arith), high 8 16 v (omega arith))
+last-byte zero v l =
+    simp (
+      high 1 1 v (omega arith),
+      high 1 2 v (omega arith),
+      high 1 4 v (omega arith),
+      high 1 8 v (omega arith),
+      high 1 16 v (omega arith),
+      high 1 32 v (omega arith),
+      high 1 64 v (omega arith),
+      high 1 128 v (omega arith),
+    )
+last-byte (suc zero) v l =
+    simp (
+      high 2 1 v (omega arith),
+      high 2 2 v (omega arith),
+      high 2 4 v (omega arith),
+      high 2 8 v (omega arith),
+      high 2 16 v (omega arith),
+      high 2 32 v (omega arith),
+      high 2 64 v (omega arith),
+    )
+last-byte (suc (suc zero)) v l =
+    simp (
+      high 4 1 v (omega arith),
+      high 4 2 v (omega arith),
+      high 4 4 v (omega arith),
+      high 4 8 v (omega arith),
+      high 4 16 v (omega arith),
+      high 4 32 v (omega arith),
+    )
+last-byte (suc (suc (suc zero))) v l =
+    simp (high 8 1 v (omega arith), high 8 2 v (omega arith), high 8 4 v (omega arith), high 8 8 v (omega arith), high 8 16 v (omega arith))
 last-byte (suc (suc (suc (suc zero)))) v l = simp (high 16 1 v (omega arith), high 16 2 v (omega arith), high 16 4 v (omega arith), high 16 8 v (omega arith))
 last-byte (suc (suc (suc (suc (suc zero))))) v l = simp (high 32 1 v (omega arith), high 32 2 v (omega arith), high 32 4 v (omega arith))
 last-byte (suc (suc (suc (suc (suc (suc zero)))))) v l = simp (high 64 1 v (omega arith), high 64 2 v (omega arith))

@@ -1,4 +1,4 @@
--- What Q shows over each byte is what the frame model says of its position.
+-- What Q shows over each byte is what the frame model says of its position: by induction on the bytes, for each instruction.
 use Prim.Native.Nat.{ℕ, zero, suc, _+_, _*_, _-_, _%_, _<_, _≤_, min, _^_}
 use mathlib.Core.Bool.{Bool, true, false, not}
 use mathlib.Core.List.{List, [], _∷_}
@@ -23,72 +23,78 @@ use Rattle.edges.specs.Frames.{noFrame}
 use Rattle.codes.specs.Output.{outputs}
 use Rattle.frames.specs.Bytes.{instruction, addressTo, address}
 use Rattle.frames.specs.Shown.{byteOut}
-use Rattle.agree.proofs.Facts.{Good, on-bit, leb-min, min-leb}
-use Rattle.agree.proofs.Steps.{St, drives, Go}
+use Rattle.codes.proofs.Sound.{Sound}
+use Rattle.agree.proofs.Facts.{on-bit, leb-min, min-leb}
+use Rattle.agree.proofs.Steps.{afterBytes, drives, afterFall}
 use Rattle.agree.proofs.Bytes.{onQ, drivesOf, step, bytesSeen, step-first, step-more}
 
-module _ (P : Part) (G : Good P) (m : List ℕ) (c : Core) where
-  abbrev L₀ : Latch
-  L₀ = noLatch P
+module _ (P : Part) (sound : Sound P) (m : List ℕ) (c : Core) where
+  abbrev unlatched : Latch
+  unlatched = noLatch P
 
   -- ---- data output or not
 
-  drives-st : (i : Instruction) (v j a x o z : ℕ) (l : Latch) → decode v ≡ i → drivesOf P G m c (St P G m c v j a x o z l) ≡ drives P G m c i j
-  drives-st i v j a x o z l e = ap₂ (λ d r. outputs P d (min (P .most) j) r) e (on-bit (running c))
+  drives-bytes : (i : Instruction) (v j a x o z : ℕ) (l : Latch) → decode P v ≡ i
+      → drivesOf P sound m c (afterBytes P sound m c v j a x o z l) ≡ drives P sound m c i j
+  drives-bytes i v j a x o z l e = ap₂ (λ d r. outputs P d (min (P .most) j) r) e (on-bit (running c))
 
-  quiet-go : (i : Instruction) (v j a x o : ℕ) (l : Latch) → drives P G m c i j ≡ false → Go P G m c i v j a x o l ≡ St P G m c v j a x o 0 l
+  quiet-fall : (i : Instruction) (v j a x o : ℕ) (l : Latch) → drives P sound m c i j ≡ false
+      → afterFall P sound m c i v j a x o l ≡ afterBytes P sound m c v j a x o 0 l
   unfolding pick
-  quiet-go i v j a x o l q = rw q
+  quiet-fall i v j a x o l q = rw q
 
-  read-go : (v j a x o : ℕ) (l : Latch) → drives P G m c Read j ≡ true
-      → Go P G m c Read v j a x o l ≡ St P G m c v j ((a + 1) % P .size) x (getD m a 0) 1 l
+  read-fall : (v j a x o : ℕ) (l : Latch) → drives P sound m c Read j ≡ true
+      → afterFall P sound m c Read v j a x o l ≡ afterBytes P sound m c v j ((a + 1) % P .size) x (getD m a 0) 1 l
   unfolding pick
-  read-go v j a x o l q = rw q
+  read-fall v j a x o l q = rw q
 
-  rdsr-go : (v j a x o : ℕ) (l : Latch) → drives P G m c Rdsr j ≡ true → Go P G m c Rdsr v j a x o l ≡ St P G m c v j a x (status c) 1 l
+  rdsr-fall : (v j a x o : ℕ) (l : Latch) → drives P sound m c Rdsr j ≡ true
+      → afterFall P sound m c Rdsr v j a x o l ≡ afterBytes P sound m c v j a x (status c) 1 l
   unfolding pick
-  rdsr-go v j a x o l q = rw q
+  rdsr-fall v j a x o l q = rw q
 
   -- ---- instructions that show nothing
 
   abbrev Hushed : Instruction → Type 0
   Hushed i = (n : ℕ) → outputs P i n (running c) ≡ false
 
-  hush-seen : (i : Instruction) (us : List ℕ) (n v j a x o z : ℕ) (l : Latch) → decode v ≡ i → 1 ≤ j → Hushed i
-      → bytesSeen P G m c (St P G m c v j a x o z l) us ≡ from n (length us) (λ _. 255)
+  hush-seen : (i : Instruction) (us : List ℕ) (n v j a x o z : ℕ) (l : Latch) → decode P v ≡ i → 1 ≤ j → Hushed i
+      → bytesSeen P sound m c (afterBytes P sound m c v j a x o z l) us ≡ from n (length us) (λ _. 255)
   unfolding bytesSeen from
   hush-seen i [] n v j a x o z l e k q = refl
   hush-seen i (u ∷ us) n v j a x o z l e k q =
-      ap₂ (λ b r. b ∷ r) (ap (λ t. onQ t (St P G m c v j a x o z l)) (drives-st i v j a x o z l e ∙ q _))
-      (ap (λ f. bytesSeen P G m c f us) (step-more P G m c i u v j a x o z l e k)
+      ap₂ (λ b r. b ∷ r) (ap (λ t. onQ t (afterBytes P sound m c v j a x o z l)) (drives-bytes i v j a x o z l e ∙ q _))
+      (ap (λ f. bytesSeen P sound m c f us) (step-more P sound m c i u v j a x o z l e k)
       ∙ hush-seen i us (suc n) v (suc j) _ _ _ _ _ e (omega arith) q)
 
   -- ---- RDSR
 
-  rdsr-on : (j : ℕ) → 1 ≤ j → drives P G m c Rdsr j ≡ true
-  rdsr-on j k = leb-min (P .most) j 1 (omega (arith, G .room)) ∙ le-leb 1 j k
+  rdsr-on : (j : ℕ) → 1 ≤ j → drives P sound m c Rdsr j ≡ true
+  rdsr-on j k = leb-min (P .most) j 1 (omega (arith, sound .counted)) ∙ le-leb 1 j k
 
-  rdsr-seen : (us : List ℕ) (v j a x A : ℕ) (l : Latch) → decode v ≡ Rdsr → 1 ≤ j
-      → bytesSeen P G m c (St P G m c v j a x (status c) 1 l) us ≡ from j (length us) (byteOut P Rdsr (running c) (λ _. status c) m A)
+  rdsr-seen : (us : List ℕ) (v j a x A : ℕ) (l : Latch) → decode P v ≡ Rdsr → 1 ≤ j
+      → bytesSeen P sound m c (afterBytes P sound m c v j a x (status c) 1 l) us ≡ from j (length us) (byteOut P Rdsr (running c) (λ _. status c) m A)
   unfolding bytesSeen from
   rdsr-seen [] v j a x A l e k = refl
   rdsr-seen (u ∷ us) v j a x A l e k =
       ap₂ (λ b r. b ∷ r)
-      (ap (λ t. onQ t (St P G m c v j a x (status c) 1 l)) (drives-st Rdsr v j a x (status c) 1 l e ∙ rdsr-on j k) ∙ sym (at-yes _ _ (le-leb 1 j k)))
-      (ap (λ f. bytesSeen P G m c f us) (step-more P G m c Rdsr u v j a x (status c) 1 l e k ∙ rdsr-go v (suc j) a x (status c) l (rdsr-on (suc j) (omega arith)))
+      (ap (λ t. onQ t (afterBytes P sound m c v j a x (status c) 1 l)) (drives-bytes Rdsr v j a x (status c) 1 l e ∙ rdsr-on j k)
+      ∙ sym (at-yes _ _ (le-leb 1 j k)))
+      (ap (λ f. bytesSeen P sound m c f us) (step-more P sound m c Rdsr u v j a x (status c) 1 l e k
+      ∙ rdsr-fall v (suc j) a x (status c) l (rdsr-on (suc j) (omega arith)))
       ∙ rdsr-seen us v (suc j) a x A l e (omega arith))
 
   -- ---- READ, no cycle
 
-  read-on : (j : ℕ) → running c ≡ false → P .addressBytes + 1 ≤ j → drives P G m c Read j ≡ true
+  read-on : (j : ℕ) → running c ≡ false → P .addressBytes + 1 ≤ j → drives P sound m c Read j ≡ true
   read-on j b k =
       and-both (leb (P .addressBytes + 1) (min (P .most) j)) (not (running c))
-      (leb-min (P .most) j (P .addressBytes + 1) (omega (arith, G .room)) ∙ le-leb (P .addressBytes + 1) j k) (ap not b)
+      (leb-min (P .most) j (P .addressBytes + 1) (omega (arith, sound .counted)) ∙ le-leb (P .addressBytes + 1) j k) (ap not b)
 
-  read-off : (j : ℕ) → j < P .addressBytes + 1 → drives P G m c Read j ≡ false
+  read-off : (j : ℕ) → j < P .addressBytes + 1 → drives P sound m c Read j ≡ false
   read-off j k =
       and-no-left (leb (P .addressBytes + 1) (min (P .most) j)) (not (running c))
-      (leb-min (P .most) j (P .addressBytes + 1) (omega (arith, G .room)) ∙ lt-leb (P .addressBytes + 1) j k)
+      (leb-min (P .most) j (P .addressBytes + 1) (omega (arith, sound .counted)) ∙ lt-leb (P .addressBytes + 1) j k)
 
   -- the byte over position n, of a read from A
   abbrev Cell : ℕ → ℕ → ℕ
@@ -101,25 +107,26 @@ module _ (P : Part) (G : Good P) (m : List ℕ) (c : Core) where
   cell-off A j k = at-no _ _ (and-no-left (leb (P .addressBytes + 1) j) (not (running c)) (lt-leb (P .addressBytes + 1) j k))
 
   -- the cell a is loaded
-  abbrev Rd : ℕ → ℕ → ℕ → Frame
-  Rd v j a = St P G m c v j ((a + 1) % P .size) 0 (getD m a 0) 1 L₀
+  abbrev cellLoaded : ℕ → ℕ → ℕ → Frame
+  cellLoaded v j a = afterBytes P sound m c v j ((a + 1) % P .size) 0 (getD m a 0) 1 unlatched
 
-  read-cells : (us : List ℕ) (v j a A : ℕ) → decode v ≡ Read → running c ≡ false → P .addressBytes + 1 ≤ j
+  read-cells : (us : List ℕ) (v j a A : ℕ) → decode P v ≡ Read → running c ≡ false → P .addressBytes + 1 ≤ j
       → a ≡ (A + (j - (P .addressBytes + 1))) % P .size
-      → bytesSeen P G m c (Rd v j a) us ≡ from j (length us) (Cell A)
+      → bytesSeen P sound m c (cellLoaded v j a) us ≡ from j (length us) (Cell A)
   unfolding bytesSeen from
   read-cells [] v j a A e b k q = refl
   read-cells (u ∷ us) v j a A e b k q =
       let n = min (P .most) j in
       let a′ = (a + 1) % P .size in
-      let past : leb n (P .addressBytes) ≡ false = min-leb (P .most) j (P .addressBytes) (omega (arith, G .room)) ∙ lt-leb j (P .addressBytes) (omega arith) in
+      let past : leb n (P .addressBytes) ≡ false =
+      min-leb (P .most) j (P .addressBytes) (omega (arith, sound .counted)) ∙ lt-leb j (P .addressBytes) (omega arith) in
       let next : A + (j - (P .addressBytes + 1)) + 1 ≡ A + (suc j - (P .addressBytes + 1)) = omega arith in
       ap₂ (λ x r. x ∷ r)
-      (ap (λ t. onQ t (Rd v j a)) (drives-st Read v j a′ 0 (getD m a 0) 1 L₀ e ∙ read-on j b k)
+      (ap (λ t. onQ t (cellLoaded v j a)) (drives-bytes Read v j a′ 0 (getD m a 0) 1 unlatched e ∙ read-on j b k)
       ∙ ap (λ y. getD m y 0) q ∙ sym (cell-on A j b k))
-      (ap (λ f. bytesSeen P G m c f us) (step-more P G m c Read u v j a′ 0 (getD m a 0) 1 L₀ e (omega arith)
-      ∙ ap (λ y. Go P G m c Read v (suc j) y 0 (getD m a 0) L₀) (at-no _ _ past)
-      ∙ read-go v (suc j) a′ 0 (getD m a 0) L₀ (read-on (suc j) b (omega arith)))
+      (ap (λ f. bytesSeen P sound m c f us) (step-more P sound m c Read u v j a′ 0 (getD m a 0) 1 unlatched e (omega arith)
+      ∙ ap (λ y. afterFall P sound m c Read v (suc j) y 0 (getD m a 0) unlatched) (at-no _ _ past)
+      ∙ read-fall v (suc j) a′ 0 (getD m a 0) unlatched (read-on (suc j) b (omega arith)))
       ∙ read-cells us v (suc j) a′ A e b (omega arith)
       (ap (λ y. (y + 1) % P .size) q ∙ mod-add-mod (A + (j - (P .addressBytes + 1))) (P .size) 1 ∙ ap (λ y. y % P .size) next))
 
@@ -130,71 +137,74 @@ module _ (P : Part) (G : Good P) (m : List ℕ) (c : Core) where
 
     -- r address bytes to come; or the cell that is loaded
     abbrev Read-at : ℕ → ℕ → ℕ → Frame
-    Read-at v zero k = Rd v (suc k) (addressTo P s k)
-    Read-at v (suc r) k = St P G m c v (suc k) (addressTo P s k) 0 0 0 L₀
+    Read-at v zero k = cellLoaded v (suc k) (addressTo P s k)
+    Read-at v (suc r) k = afterBytes P sound m c v (suc k) (addressTo P s k) 0 0 0 unlatched
 
     -- an address byte
-    read-address : (u v r k : ℕ) → decode v ≡ Read → running c ≡ false → k + suc r ≡ P .addressBytes → u ≡ getD s (suc k) 0
-        → step P G m c u (St P G m c v (suc k) (addressTo P s k) 0 0 0 L₀) ≡ Read-at v r (suc k)
+    read-address : (u v r k : ℕ) → decode P v ≡ Read → running c ≡ false → k + suc r ≡ P .addressBytes → u ≡ getD s (suc k) 0
+        → step P sound m c u (afterBytes P sound m c v (suc k) (addressTo P s k) 0 0 0 unlatched) ≡ Read-at v r (suc k)
     read-address u v r k e b q h =
         let n = min (P .most) (suc k) in
         let a = addressTo P s k in
-        let all : n ≡ suc k = omega (arith, G .room) in
-        let more : leb n (P .addressBytes) ≡ true = min-leb (P .most) (suc k) (P .addressBytes) (omega (arith, G .room)) ∙ le-leb (suc k) (P .addressBytes) (omega arith) in
-        step-more P G m c Read u v (suc k) a 0 0 0 L₀ e (omega arith)
-        ∙ ap (λ y. Go P G m c Read v (suc (suc k)) y 0 0 L₀) (at-yes _ _ more ∙ ap₂ (λ y x. (a + y * 256 ^ (P .addressBytes - x)) % P .size) h all)
-        ∙ go r q
+        let all : n ≡ suc k = omega (arith, sound .counted) in
+        let more : leb n (P .addressBytes) ≡ true =
+        min-leb (P .most) (suc k) (P .addressBytes) (omega (arith, sound .counted)) ∙ le-leb (suc k) (P .addressBytes) (omega arith) in
+        step-more P sound m c Read u v (suc k) a 0 0 0 unlatched e (omega arith)
+        ∙ ap (λ y. afterFall P sound m c Read v (suc (suc k)) y 0 0 unlatched)
+        (at-yes _ _ more ∙ ap₂ (λ y x. (a + y * 256 ^ (P .addressBytes - x)) % P .size) h all)
+        ∙ onward r q
       where
-        go : (r : ℕ) → k + suc r ≡ P .addressBytes → Go P G m c Read v (suc (suc k)) (addressTo P s (suc k)) 0 0 L₀ ≡ Read-at v r (suc k)
-        go zero q = read-go v (suc (suc k)) (addressTo P s (suc k)) 0 0 L₀ (read-on (suc (suc k)) b (omega arith))
-        go (suc r) q = quiet-go Read v (suc (suc k)) (addressTo P s (suc k)) 0 0 L₀ (read-off (suc (suc k)) (omega arith))
+        onward : (r : ℕ) → k + suc r ≡ P .addressBytes → afterFall P sound m c Read v (suc (suc k)) (addressTo P s (suc k)) 0 0 unlatched ≡ Read-at v r (suc k)
+        onward zero q = read-fall v (suc (suc k)) (addressTo P s (suc k)) 0 0 unlatched (read-on (suc (suc k)) b (omega arith))
+        onward (suc r) q = quiet-fall Read v (suc (suc k)) (addressTo P s (suc k)) 0 0 unlatched (read-off (suc (suc k)) (omega arith))
 
-    read-seen : (us : List ℕ) (v r k : ℕ) → decode v ≡ Read → running c ≡ false → k + r ≡ P .addressBytes
+    read-seen : (us : List ℕ) (v r k : ℕ) → decode P v ≡ Read → running c ≡ false → k + r ≡ P .addressBytes
         → ((i : ℕ) → getD us i 0 ≡ getD s (suc k + i) 0)
-        → bytesSeen P G m c (Read-at v r k) us ≡ from (suc k) (length us) (Cell (address P s))
+        → bytesSeen P sound m c (Read-at v r k) us ≡ from (suc k) (length us) (Cell (address P s))
     unfolding bytesSeen from
-    read-seen us v zero k e b q at =
+    read-seen us v zero k e b q tail =
         let all : k ≡ P .addressBytes = omega arith in
         let none : addressTo P s k ≡ addressTo P s k + (suc k - (P .addressBytes + 1)) = omega arith in
         read-cells us v (suc k) (addressTo P s k) (addressTo P s k) e b (omega arith) (address-mod k ∙ ap (λ y. y % P .size) none)
         ∙ ap (λ y. from (suc k) (length us) (Cell (addressTo P s y))) all
-    read-seen [] v (suc r) k e b q at = refl
-    read-seen (u ∷ us) v (suc r) k e b q at =
+    read-seen [] v (suc r) k e b q tail = refl
+    read-seen (u ∷ us) v (suc r) k e b q tail =
         let a = addressTo P s k in
         let here : suc k + 0 ≡ suc k = omega arith in
         ap₂ (λ x l. x ∷ l)
-        (ap (λ t. onQ t (St P G m c v (suc k) a 0 0 0 L₀)) (drives-st Read v (suc k) a 0 0 0 L₀ e ∙ read-off (suc k) (omega arith))
+        (ap (λ t. onQ t (afterBytes P sound m c v (suc k) a 0 0 0 unlatched)) (drives-bytes Read v (suc k) a 0 0 0 unlatched e ∙ read-off (suc k) (omega arith))
         ∙ sym (cell-off (address P s) (suc k) (omega arith)))
-        (ap (λ f. bytesSeen P G m c f us) (read-address u v r k e b q (at 0 ∙ ap (λ y. getD s y 0) here))
-        ∙ read-seen us v r (suc k) e b (omega arith) (λ i. let there : suc k + suc i ≡ suc (suc k) + i = omega arith in at (suc i) ∙ ap (λ y. getD s y 0) there))
+        (ap (λ f. bytesSeen P sound m c f us) (read-address u v r k e b q (tail 0 ∙ ap (λ y. getD s y 0) here))
+        ∙ read-seen us v r (suc k) e b (omega arith)
+        (λ i. let there : suc k + suc i ≡ suc (suc k) + i = omega arith in tail (suc i) ∙ ap (λ y. getD s y 0) there))
 
   -- ---- any frame
 
   abbrev Out : Instruction → ℕ → ℕ → ℕ
   Out i A n = byteOut P i (running c) (λ _. status c) m A n
 
-  hush-table : (i : Instruction) (v A : ℕ) (vs : List ℕ) → decode v ≡ i → Hushed i → ((n : ℕ) → 255 ≡ Out i A n)
-      → bytesSeen P G m c (step P G m c v (noFrame P)) vs ≡ from 1 (length vs) (Out i A)
+  hush-table : (i : Instruction) (v A : ℕ) (vs : List ℕ) → decode P v ≡ i → Hushed i → ((n : ℕ) → 255 ≡ Out i A n)
+      → bytesSeen P sound m c (step P sound m c v (noFrame P)) vs ≡ from 1 (length vs) (Out i A)
   hush-table i v A vs e q d =
-      ap (λ f. bytesSeen P G m c f vs) (step-first P G m c i v e)
+      ap (λ f. bytesSeen P sound m c f vs) (step-first P sound m c i v e)
       ∙ hush-seen i vs 1 v 1 _ _ _ _ _ e (omega arith) q
       ∙ ap (λ g. from 1 (length vs) g) (fun-ext d)
 
-  read-table : (v k : ℕ) (vs : List ℕ) → decode v ≡ Read → running c ≡ false → k ≡ P .addressBytes
-      → bytesSeen P G m c (step P G m c v (noFrame P)) vs ≡ from 1 (length vs) (Cell (address P (v ∷ vs)))
-  read-table v zero vs e b q = absurd (omega (arith, G .some))
+  read-table : (v k : ℕ) (vs : List ℕ) → decode P v ≡ Read → running c ≡ false → k ≡ P .addressBytes
+      → bytesSeen P sound m c (step P sound m c v (noFrame P)) vs ≡ from 1 (length vs) (Cell (address P (v ∷ vs)))
+  read-table v zero vs e b q = absurd (omega (arith, sound .bytes-some))
   read-table v (suc r) vs e b q =
-      ap (λ f. bytesSeen P G m c f vs) (step-first P G m c Read v e ∙ quiet-go Read v 1 0 0 0 L₀ (read-off 1 (omega (arith, G .some))))
+      ap (λ f. bytesSeen P sound m c f vs) (step-first P sound m c Read v e ∙ quiet-fall Read v 1 0 0 0 unlatched (read-off 1 (omega (arith, sound .bytes-some))))
       ∙ read-seen (v ∷ vs) vs v (suc r) 0 e b (omega arith) (λ i. let next : suc i ≡ suc 0 + i = omega arith in ap (λ y. getD (v ∷ vs) y 0) next)
 
-  tail-table : (i : Instruction) (b : Bool) (v : ℕ) (vs : List ℕ) → decode v ≡ i → running c ≡ b
-      → bytesSeen P G m c (step P G m c v (noFrame P)) vs ≡ from 1 (length vs) (Out i (address P (v ∷ vs)))
+  tail-table : (i : Instruction) (b : Bool) (v : ℕ) (vs : List ℕ) → decode P v ≡ i → running c ≡ b
+      → bytesSeen P sound m c (step P sound m c v (noFrame P)) vs ≡ from 1 (length vs) (Out i (address P (v ∷ vs)))
   unfolding pick
   tail-table Wren b v vs e r = hush-table Wren v (address P (v ∷ vs)) vs e (λ n. refl) (λ n. refl)
   tail-table Wrdi b v vs e r = hush-table Wrdi v (address P (v ∷ vs)) vs e (λ n. refl) (λ n. refl)
   tail-table Rdsr b v vs e r =
-      ap (λ f. bytesSeen P G m c f vs) (step-first P G m c Rdsr v e ∙ rdsr-go v 1 0 0 0 L₀ (rdsr-on 1 (omega arith)))
-      ∙ rdsr-seen vs v 1 0 0 (address P (v ∷ vs)) L₀ e (omega arith)
+      ap (λ f. bytesSeen P sound m c f vs) (step-first P sound m c Rdsr v e ∙ rdsr-fall v 1 0 0 0 unlatched (rdsr-on 1 (omega arith)))
+      ∙ rdsr-seen vs v 1 0 0 (address P (v ∷ vs)) unlatched e (omega arith)
   tail-table Wrsr b v vs e r = hush-table Wrsr v (address P (v ∷ vs)) vs e (λ n. refl) (λ n. refl)
   tail-table Read true v vs e r =
       hush-table Read v (address P (v ∷ vs)) vs e (λ n. and-no-right (leb (P .addressBytes + 1) n) (not (running c)) (ap not r))
@@ -214,7 +224,7 @@ module _ (P : Part) (G : Good P) (m : List ℕ) (c : Core) where
   head-table Write A = refl
   head-table Silence A = refl
 
-  pub seen-table : (s : List ℕ) → bytesSeen P G m c (noFrame P) s ≡ table (length s) (Out (instruction s) (address P s))
+  pub seen-table : (s : List ℕ) → bytesSeen P sound m c (noFrame P) s ≡ table (length s) (Out (instruction P s) (address P s))
   unfolding bytesSeen table from decode pick
   seen-table [] = refl
-  seen-table (v ∷ vs) = ap₂ (λ b l. b ∷ l) (head-table (decode v) (address P (v ∷ vs))) (tail-table (decode v) (running c) v vs refl refl)
+  seen-table (v ∷ vs) = ap₂ (λ b l. b ∷ l) (head-table (decode P v) (address P (v ∷ vs))) (tail-table (decode P v) (running c) v vs refl refl)

@@ -1,4 +1,4 @@
--- The statement is about models that do something: a list whose reports have driven bits at 0, a changed status and a changed cell.
+-- The statement is about models that do something: a list whose reports have driven bits at 0, a changed status and a changed cell, by computing.
 use Prim.Native.Nat.{ℕ}
 use mathlib.Core.Bool.{Bool, true, false}
 use mathlib.Core.List.{List, [], _∷_, _++_}
@@ -11,30 +11,31 @@ use Rattle.codes.specs.Part.{m95512}
 use Rattle.latch.specs.Latches.{zeros, stored}
 use Rattle.chip.specs.Records.{status}
 use Rattle.codes.specs.Instructions.{decode}
-use Rattle.codes.specs.Verdicts.{verdict}
+use Rattle.codes.specs.Verdicts.{verdictBy}
 use Rattle.chip.specs.Ranges.{inRanges}
 use Rattle.chip.specs.Time.{timed, timedMemory}
 use Rattle.chip.specs.Power.{delivered, deliveredMemory}
 use Rattle.frames.specs.Bytes.{latchedFrom}
 use Rattle.frames.specs.Shown.{output}
-use Rattle.frames.specs.Answers.{framed, framedOutput}
+use Rattle.frames.specs.Answers.{framedOutput}
+use Rattle.frames.specs.Play.{Act, frame, reading, frameBench}
 use Rattle.pins.specs.declared.Event.{Event}
 use Rattle.pins.specs.Devices.{resting}
 use Rattle.pins.specs.Ranges.{deviceFits}
 use Rattle.pins.specs.Answers.{PinBench, pinBench}
-use Rattle.agree.specs.Drawings.{Act, send, reading, flat, Wave, between}
+use Rattle.agree.specs.Drawings.{flat, Wave, between}
 use Rattle.agree.specs.Reports.{Report, watched, framesPlayed, Unselected, Agreement}
 use Rattle.agree.proofs.Agree.{agreement}
 
--- WREN; WRITE of 00h at 0000h; RDSR; the clock reads 5,000; RDSR; READ at 0000h
+-- with W high: WREN; WRITE of 00h at 0000h; RDSR; the clock reads 5,000; RDSR; READ at 0000h
 abbrev pub acts : List Act
 acts =
-    send (0x06 ∷ []) 8 ∷ send (0x02 ∷ 0x00 ∷ 0x00 ∷ 0x00 ∷ []) 32 ∷ send (0x05 ∷ 0x00 ∷ []) 16 ∷ reading 5000
-    ∷ send (0x05 ∷ 0x00 ∷ []) 16 ∷ send (0x03 ∷ 0x00 ∷ 0x00 ∷ 0x00 ∷ []) 32 ∷ []
+    frame true (0x06 ∷ []) 8 ∷ frame true (0x02 ∷ 0x00 ∷ 0x00 ∷ 0x00 ∷ []) 32 ∷ frame true (0x05 ∷ 0x00 ∷ []) 16 ∷ reading 5000
+    ∷ frame true (0x05 ∷ 0x00 ∷ []) 16 ∷ frame true (0x03 ∷ 0x00 ∷ 0x00 ∷ 0x00 ∷ []) 32 ∷ []
 
--- a device as delivered, with W high
+-- a device as delivered
 pub run : List Report
-run = framesPlayed m95512 acts true (delivered m95512) (deliveredMemory m95512)
+run = framesPlayed m95512 acts (frameBench (delivered m95512) (deliveredMemory m95512))
 
 abbrev pub bitsSeen : List Report → List (List Bool)
 bitsSeen [] = []
@@ -42,11 +43,11 @@ bitsSeen (r ∷ rs) = r .bits ∷ bitsSeen rs
 
 abbrev pub statuses : List Report → List ℕ
 statuses [] = []
-statuses (r ∷ rs) = status (r .core) ∷ statuses rs
+statuses (r ∷ rs) = status (r .bench .core) ∷ statuses rs
 
 abbrev pub firstCells : List Report → List ℕ
 firstCells [] = []
-firstCells (r ∷ rs) = getD (r .memory) 0 0 ∷ firstCells rs
+firstCells (r ∷ rs) = getD (r .bench .memory) 0 0 ∷ firstCells rs
 
 abbrev pub ones : List Bool
 ones = true ∷ true ∷ true ∷ true ∷ true ∷ true ∷ true ∷ true ∷ []
@@ -64,18 +65,18 @@ pub record Seen (rs : List Report) : Type 0 where
   pub cell : firstCells rs ≡ 0xff ∷ 0xff ∷ 0xff ∷ 0x00 ∷ 0x00 ∷ []
 
 pub frames-seen : Seen run
-unfolding run framesPlayed framed framedOutput inRanges each pick verdict decode latchedFrom zeros timed timedMemory stored table from output flat
+unfolding run framesPlayed framedOutput inRanges each pick verdictBy decode latchedFrom zeros timed timedMemory stored table from output flat
 frames-seen = record { bits = refl; registers = refl; cell = refl }
 
 -- ---- and so the pin model, from the same device, whatever drawing of the list
 
-abbrev pub bench : PinBench
-bench = pinBench (resting m95512 (delivered m95512)) (deliveredMemory m95512)
+abbrev pub deliveredBench : PinBench
+deliveredBench = pinBench (resting m95512 (delivered m95512)) (deliveredMemory m95512)
 
-unselected : Unselected m95512 bench
+unselected : Unselected m95512 deliveredBench
 unfolding deviceFits inRanges each pick decode zeros
 unselected = record { fits = refl; up = refl; free = refl; memory = length-replicate {A = ℕ} (m95512 .size) 0xff }
 
-pub pins-seen : (es : List Event) → Wave m95512 (between false) false true [] acts es → Seen (watched m95512 es [] bench)
+pub pins-seen : (es : List Event) → Wave m95512 (between false) false true [] acts es → Seen (watched m95512 es [] deliveredBench)
 unfolding Agreement run
-pins-seen es r = subst Seen (sym (agreement bench acts es unselected r)) frames-seen
+pins-seen es r = subst Seen (sym (agreement deliveredBench acts es unselected r)) frames-seen

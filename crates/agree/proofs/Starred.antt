@@ -11,7 +11,7 @@ use Rattle.laws.specs.Table.{from, table}
 use Rattle.codes.specs.Part.{m95512}
 use Rattle.latch.specs.Latches.{zeros, stored}
 use Rattle.codes.specs.Instructions.{decode}
-use Rattle.codes.specs.Verdicts.{verdict}
+use Rattle.codes.specs.Verdicts.{verdictBy}
 use Rattle.chip.specs.Ranges.{inRanges}
 use Rattle.codes.specs.Refusals.{isDone}
 use Rattle.chip.specs.Time.{timed, timedMemory}
@@ -23,9 +23,9 @@ use Rattle.frames.specs.Answers.{frameOutcome, framedOutput}
 use Rattle.frames.proofs.Cases.{case-f}
 use Rattle.split.proofs.Cases.{case-g-parts, case-g-lengths}
 use Rattle.driver.specs.Sequence.{wren}
-use Rattle.runs.proofs.Cases.{case-h}
+use Rattle.driver_theorems.proofs.Cases.{case-h}
 use Rattle.chip.proofs.Cases.{case-e, case-i}
-use Rattle.agree.specs.Starred.{after, allBitsSet, Starred}
+use Rattle.agree.specs.Starred.{benchAfter, allBitsSet, Starred}
 
 -- READ at FFFFh is not refused
 read-taken : (m : List ℕ) → length m ≡ m95512 .size → frameOutcome m95512 (delivered m95512) (length m) 5 40 5 ≡ Done
@@ -39,7 +39,7 @@ unfolding framedOutput
 read-rolls m e = at-yes _ _ (ap isDone (read-taken m e)) ∙ case-f m
 
 pub starred : Starred
-unfolding pick verdict decode latchedFrom zeros timed timedMemory stored table from
+unfolding pick verdictBy decode latchedFrom zeros timed timedMemory stored table from
 starred =
     record {
       a = refl;
@@ -50,8 +50,8 @@ starred =
       d-below = refl;
       d-protected = refl;
       e-idle = case-e allBitsSet refl refl refl .idle refl refl;
-      e-wel = case-e (after (wren ∷ []) allBitsSet .core) refl refl refl .with-wel refl refl;
-      e-cycle = case-e (after (wren ∷ frame true (0x01 ∷ 0x8c ∷ []) 16 ∷ []) allBitsSet .core) refl refl refl .in-cycle refl (lit≤ tt);
+      e-wel = case-e (benchAfter (wren ∷ []) allBitsSet .core) refl refl refl .with-wel refl refl;
+      e-cycle = case-e (benchAfter (wren ∷ frame true (0x01 ∷ 0x8c ∷ []) 16 ∷ []) allBitsSet .core) refl refl refl .in-cycle refl (lit≤ tt);
       f = read-rolls;
       g-parts = case-g-parts;
       g-lengths = case-g-lengths;

@@ -1,4 +1,4 @@
--- A byte of a frame, from a state in closed form.
+-- What a byte of a frame leaves in each field of the frame part: by cases on the instruction.
 use Prim.Native.Nat.{ℕ, suc, _+_, _*_, _/_, _%_, _≤_, min, _-_, _^_}
 use mathlib.Core.Bool.{Bool, true, false, not, true≢false}
 use mathlib.Core.List.{List}
@@ -18,11 +18,12 @@ use Rattle.latch.specs.declared.Latch.{Latch}
 use Rattle.codes.specs.declared.Instruction.{Instruction}
 use Rattle.codes.specs.declared.Instruction.the-variants.{Wren, Wrdi, Rdsr, Wrsr, Read, Write, Silence}
 use Rattle.edges.specs.declared.Frame.{Frame}
-use Rattle.edges.specs.Frames.{noFrame}
+use Rattle.edges.specs.Frames.{noFrame, withBits, withOut}
 use Rattle.edges.specs.Rising.{wholeByte, taking}
 use Rattle.edges.specs.Falling.{fallen, loading}
 use Rattle.codes.specs.Output.{outputs}
-use Rattle.agree.proofs.Facts.{Good, on-bit, min-eqb, min-next}
+use Rattle.codes.proofs.Sound.{Sound}
+use Rattle.agree.proofs.Facts.{on-bit, min-eqb, min-next}
 
 -- bits shown once k bits of a byte are taken, in data output and outside it
 abbrev pub shownAt : Bool → ℕ → ℕ
@@ -30,20 +31,8 @@ shownAt true k = suc k
 shownAt false k = 0
 
 -- a frame part with k bits of a byte taken, of the values a
-abbrev pub mid : Bool → ℕ → ℕ → Frame → Frame
-mid b k a f =
-    record {
-      taken = f .taken;
-      bits = k;
-      part = a;
-      code = f .code;
-      ran = f .ran;
-      value = f .value;
-      out = f .out;
-      shown = shownAt b k;
-      address = f .address;
-      latch = f .latch;
-    }
+abbrev pub midByte : Bool → ℕ → ℕ → Frame → Frame
+midByte b k a f = withOut (f .out) (shownAt b k) (withBits k a f)
 
 -- ---- what a byte u does to each field, n whole bytes before it
 
@@ -93,16 +82,16 @@ pastOf P Read a = (a + 1) % P .size
 pastOf P Write a = a
 pastOf P Silence a = a
 
-module _ (P : Part) (G : Good P) (m : List ℕ) (c : Core) where
+module _ (P : Part) (sound : Sound P) (m : List ℕ) (c : Core) where
   -- the byte v, from a byte's start in data output (b) or outside it
   unfoldable pub stepByte : Bool → ℕ → Frame → Frame
-  stepByte b v f = fallen P m c (wholeByte P (running c) v (mid b 7 0 f))
+  stepByte b v f = fallen P m c (wholeByte P (running c) v (midByte b 7 0 f))
 
-  -- after j whole bytes, the first of them v
-  abbrev pub St : ℕ → ℕ → ℕ → ℕ → ℕ → ℕ → Latch → Frame
-  St v j a x o z l =
+  -- at a byte's start, with t whole bytes taken, the first of them v
+  abbrev byteStart : ℕ → ℕ → ℕ → ℕ → ℕ → ℕ → Latch → Frame
+  byteStart t v a x o z l =
       record {
-        taken = min (P .most) j;
+        taken = t;
         bits = 0;
         part = 0;
         code = v;
@@ -114,48 +103,55 @@ module _ (P : Part) (G : Good P) (m : List ℕ) (c : Core) where
         latch = l;
       }
 
+  -- after j whole bytes: their count stays at the part's most
+  abbrev pub afterBytes : ℕ → ℕ → ℕ → ℕ → ℕ → ℕ → Latch → Frame
+  afterBytes v j a x o z l = byteStart (min (P .most) j) v a x o z l
+
   -- in data output after j whole bytes
   abbrev pub drives : Instruction → ℕ → Bool
   drives i j = outputs P i (min (P .most) j) (running c)
 
-  -- the same once a byte's start has put out what it puts out
-  abbrev pub Go : Instruction → ℕ → ℕ → ℕ → ℕ → ℕ → Latch → Frame
-  Go i v j a x o l =
+  -- .. and the falling edge after them, which loads what is put out
+  abbrev pub afterFall : Instruction → ℕ → ℕ → ℕ → ℕ → ℕ → Latch → Frame
+  afterFall i v j a x o l =
       let t = drives i j in
-      St v j (pick t (pastOf P i a) a) x (pick t (outOf m c i a o) o) (shownAt t 0) l
+      afterBytes v j (pick t (pastOf P i a) a) x (pick t (outOf m c i a o) o) (shownAt t 0) l
 
   -- data output lasts
   pub drives-on : (i : Instruction) (j : ℕ) → drives i j ≡ true → drives i (suc j) ≡ true
   drives-on Wren j e = e
   drives-on Wrdi j e = e
-  drives-on Rdsr j e = let h : 1 ≤ min (P .most) j = leb-true _ _ e in le-leb 1 (min (P .most) (suc j)) (omega (arith, G .room))
+  drives-on Rdsr j e = let h : 1 ≤ min (P .most) j = leb-true _ _ e in le-leb 1 (min (P .most) (suc j)) (omega (arith, sound .counted))
   drives-on Wrsr j e = e
   drives-on Read j e =
       let h : P .addressBytes + 1 ≤ min (P .most) j = leb-true _ _ (and-left (leb (P .addressBytes + 1) (min (P .most) j)) (not (running c)) e) in
       and-both (leb (P .addressBytes + 1) (min (P .most) (suc j))) (not (running c))
-      (le-leb (P .addressBytes + 1) (min (P .most) (suc j)) (omega (arith, G .room)))
+      (le-leb (P .addressBytes + 1) (min (P .most) (suc j)) (omega (arith, sound .counted)))
       (and-right (leb (P .addressBytes + 1) (min (P .most) j)) (not (running c)) e)
   drives-on Write j e = e
   drives-on Silence j e = e
 
   -- the fields, set
   taking-is : (i : Instruction) (n u v j a x o z : ℕ) (l : Latch)
-      → taking P i n u (St v j a x o z l) ≡ St v j (addressOf P i n u a) (valueOf i n u x) o z (latchOf P i n u a l)
+      → taking P i n u (afterBytes v j a x o z l) ≡ afterBytes v j (addressOf P i n u a) (valueOf i n u x) o z (latchOf P i n u a l)
   unfolding pick
   taking-is Wren n u v j a x o z l = refl
   taking-is Wrdi n u v j a x o z l = refl
   taking-is Rdsr n u v j a x o z l = refl
-  taking-is Wrsr n u v j a x o z l = go (eqb n 1)
+  taking-is Wrsr n u v j a x o z l = either (eqb n 1)
     where
-      go : (t : Bool) → pick t (St v j a u o z l) (St v j a x o z l) ≡ St v j a (pick t u x) o z l
-      go true = refl
-      go false = refl
-  taking-is Read n u v j a x o z l = go (leb n (P .addressBytes))
+      either : (t : Bool) → pick t (afterBytes v j a u o z l) (afterBytes v j a x o z l) ≡ afterBytes v j a (pick t u x) o z l
+      either true = refl
+      either false = refl
+  taking-is Read n u v j a x o z l = either (leb n (P .addressBytes))
     where
-      go : (t : Bool) → pick t (St v j ((a + u * 256 ^ (P .addressBytes - n)) % P .size) x o z l) (St v j a x o z l) ≡ St v j (pick t ((a + u * 256 ^ (P .addressBytes - n)) % P .size) a) x o z l
-      go true = refl
-      go false = refl
-  taking-is Write n u v j a x o z l = go (leb n (P .addressBytes))
+      a₁ : ℕ
+      a₁ = (a + u * 256 ^ (P .addressBytes - n)) % P .size
+
+      either : (t : Bool) → pick t (afterBytes v j a₁ x o z l) (afterBytes v j a x o z l) ≡ afterBytes v j (pick t a₁ a) x o z l
+      either true = refl
+      either false = refl
+  taking-is Write n u v j a x o z l = either (leb n (P .addressBytes))
     where
       a₁ : ℕ
       a₁ = (a + u * 256 ^ (P .addressBytes - n)) % P .size
@@ -166,33 +162,33 @@ module _ (P : Part) (G : Good P) (m : List ℕ) (c : Core) where
       l₂ : Latch
       l₂ = latched (a % P .page) u l
 
-      go : (t : Bool) → pick t (St v j a₁ x o z l) (St v j a₂ x o z l₂) ≡ St v j (pick t a₁ a₂) x o z (pick t l l₂)
-      go true = refl
-      go false = refl
+      either : (t : Bool) → pick t (afterBytes v j a₁ x o z l) (afterBytes v j a₂ x o z l₂) ≡ afterBytes v j (pick t a₁ a₂) x o z (pick t l l₂)
+      either true = refl
+      either false = refl
   taking-is Silence n u v j a x o z l = refl
 
   -- ---- a byte's start; b: in data output before it
 
   -- outside data output nothing shows
-  none-shown : (b : Bool) (v j a x o : ℕ) (l : Latch) → (b ≡ true → false ≡ true) → St v j a x o (shownAt b 7) l ≡ St v j a x o 0 l
+  none-shown : (b : Bool) (v j a x o : ℕ) (l : Latch) → (b ≡ true → false ≡ true) → afterBytes v j a x o (shownAt b 7) l ≡ afterBytes v j a x o 0 l
   none-shown true v j a x o l h = absurd (true≢false (sym (h refl)))
   none-shown false v j a x o l h = refl
 
   starts-rdsr : (t b : Bool) (v j a x o : ℕ) (l : Latch) → (b ≡ true → t ≡ true)
-      → pick t (St v j a x (status c) 1 l) (St v j a x o (shownAt b 7) l) ≡ St v j (pick t a a) x (pick t (status c) o) (shownAt t 0) l
+      → pick t (afterBytes v j a x (status c) 1 l) (afterBytes v j a x o (shownAt b 7) l) ≡ afterBytes v j (pick t a a) x (pick t (status c) o) (shownAt t 0) l
   unfolding pick
   starts-rdsr true b v j a x o l h = refl
   starts-rdsr false b v j a x o l h = none-shown b v j a x o l h
 
   starts-read : (t b : Bool) (v j a x o : ℕ) (l : Latch) → (b ≡ true → t ≡ true)
-      → pick t (St v j ((a + 1) % P .size) x (getD m a 0) 1 l) (St v j a x o (shownAt b 7) l)
-      ≡ St v j (pick t ((a + 1) % P .size) a) x (pick t (getD m a 0) o) (shownAt t 0) l
+      → pick t (afterBytes v j ((a + 1) % P .size) x (getD m a 0) 1 l) (afterBytes v j a x o (shownAt b 7) l)
+      ≡ afterBytes v j (pick t ((a + 1) % P .size) a) x (pick t (getD m a 0) o) (shownAt t 0) l
   unfolding pick
   starts-read true b v j a x o l h = refl
   starts-read false b v j a x o l h = none-shown b v j a x o l h
 
   starts : (i : Instruction) (b : Bool) (v j a x o : ℕ) (l : Latch) → (b ≡ true → drives i j ≡ true)
-      → pick (drives i j) (loading P m c i (St v j a x o (shownAt b 7) l)) (St v j a x o (shownAt b 7) l) ≡ Go i v j a x o l
+      → pick (drives i j) (loading P m c i (afterBytes v j a x o (shownAt b 7) l)) (afterBytes v j a x o (shownAt b 7) l) ≡ afterFall i v j a x o l
   unfolding pick
   starts Wren b v j a x o l h = none-shown b v j a x o l h
   starts Wrdi b v j a x o l h = none-shown b v j a x o l h
@@ -203,34 +199,34 @@ module _ (P : Part) (G : Good P) (m : List ℕ) (c : Core) where
   starts Silence b v j a x o l h = none-shown b v j a x o l h
 
   -- the edge that follows a whole byte loads, or does nothing
-  fall-as : (i : Instruction) (b : Bool) (v j a x o : ℕ) (l : Latch) → decode v ≡ i
-      → let f = St v j a x o (shownAt b 7) l in
-      pick (outputs P (decode v) (min (P .most) j) (on (bit (running c)))) (loading P m c (decode v) f) f ≡ pick (drives i j) (loading P m c i f) f
+  fall-as : (i : Instruction) (b : Bool) (v j a x o : ℕ) (l : Latch) → decode P v ≡ i
+      → let f = afterBytes v j a x o (shownAt b 7) l in
+      pick (outputs P (decode P v) (min (P .most) j) (on (bit (running c)))) (loading P m c (decode P v) f) f ≡ pick (drives i j) (loading P m c i f) f
   fall-as i b v j a x o l e =
-      let f = St v j a x o (shownAt b 7) l in
+      let f = afterBytes v j a x o (shownAt b 7) l in
       ap (λ k. pick (outputs P k (min (P .most) j) (on (bit (running c)))) (loading P m c k f) f) e
       ∙ ap (λ r. pick (outputs P i (min (P .most) j) r) (loading P m c i f) f) (on-bit (running c))
 
-  fall-starts : (i : Instruction) (b : Bool) (v j a x o : ℕ) (l : Latch) → decode v ≡ i → (b ≡ true → drives i j ≡ true)
-      → fallen P m c (St v j a x o (shownAt b 7) l) ≡ Go i v j a x o l
+  fall-starts : (i : Instruction) (b : Bool) (v j a x o : ℕ) (l : Latch) → decode P v ≡ i → (b ≡ true → drives i j ≡ true)
+      → fallen P m c (afterBytes v j a x o (shownAt b 7) l) ≡ afterFall i v j a x o l
   unfolding fallen pick
   fall-starts i true v j a x o l e h = fall-as i true v j a x o l e ∙ starts i true v j a x o l h
   fall-starts i false v j a x o l e h = fall-as i false v j a x o l e ∙ starts i false v j a x o l h
 
-  pub first-is : (i : Instruction) (v : ℕ) → decode v ≡ i → stepByte false v (noFrame P) ≡ Go i v 1 0 0 0 (noLatch P)
+  pub first-is : (i : Instruction) (v : ℕ) → decode P v ≡ i → stepByte false v (noFrame P) ≡ afterFall i v 1 0 0 0 (noLatch P)
   unfolding stepByte wholeByte pick
   first-is i v e = fall-starts i false v 1 0 0 0 (noLatch P) e (λ q. absurd (true≢false (sym q)))
 
-  pub step-is : (i : Instruction) (u v j a x o z : ℕ) (l : Latch) → decode v ≡ i → 1 ≤ j
+  pub step-is : (i : Instruction) (u v j a x o z : ℕ) (l : Latch) → decode P v ≡ i → 1 ≤ j
       → let n = min (P .most) j in
-      stepByte (drives i j) u (St v j a x o z l) ≡ Go i v (suc j) (addressOf P i n u a) (valueOf i n u x) o (latchOf P i n u a l)
+      stepByte (drives i j) u (afterBytes v j a x o z l) ≡ afterFall i v (suc j) (addressOf P i n u a) (valueOf i n u x) o (latchOf P i n u a l)
   unfolding stepByte wholeByte
   step-is i u v j a x o z l e k =
       let n = min (P .most) j in
       let b = drives i j in
-      let some : eqb n 0 ≡ false = min-eqb (P .most) j 0 (omega (arith, G .room)) ∙ ne-eqb j 0 (λ q. omega arith) in
+      let some : eqb n 0 ≡ false = min-eqb (P .most) j 0 (omega (arith, sound .counted)) ∙ ne-eqb j 0 (λ q. omega arith) in
       ap (fallen P m c) (at-no _ _ some
-      ∙ ap (λ t. taking P (decode v) n u (record { taken = t; bits = 0; part = 0; code = v; ran = bit (running c); value = x; out = o; shown = shownAt b 7; address = a; latch = l })) (min-next (P .most) j)
-      ∙ ap (λ d. taking P d n u (St v (suc j) a x o (shownAt b 7) l)) e
+      ∙ ap (λ t. taking P (decode P v) n u (byteStart t v a x o (shownAt b 7) l)) (min-next (P .most) j)
+      ∙ ap (λ d. taking P d n u (afterBytes v (suc j) a x o (shownAt b 7) l)) e
       ∙ taking-is i n u v (suc j) a x o (shownAt b 7) l)
       ∙ fall-starts i b v (suc j) (addressOf P i n u a) (valueOf i n u x) o (latchOf P i n u a l) e (drives-on i j)

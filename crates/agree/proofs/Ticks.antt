@@ -38,7 +38,7 @@ endOf P m c f (b ∷ bs) = endOf P m c (tick P m c b f) bs
 -- what deselect decides of a frame part, k bits past its whole bytes
 unfoldable pub decidesAt : Part → Core → Bool → ℕ → Frame → Core
 decidesAt P c w k f =
-    let i = decode (f .code) in
+    let i = decode P (f .code) in
     pick (isExecuted (verdict P i (8 * f .taken + k) (on (f .ran)) (on (c .wel)) (on (c .srwd) && not (on (bit w))) (protects P c (f .address)) (on 0)))
     (effect P i (f .value) (f .address / P .page) (f .latch) c) c
 

@@ -1,4 +1,4 @@
--- Any drawing of a list of frames comes to ticks.
+-- Any drawing of a list of frames comes to ticks: by the rule that drew each event, and the events of the pin model.
 use Prim.Native.Nat.{ℕ, _+_, _*_, _/_}
 use mathlib.Core.Bool.{Bool, true, false, not, _&&_, Bool·beq}
 use mathlib.Core.List.{List, [], _∷_, _++_, append-nil, append-assoc}
@@ -19,60 +19,65 @@ use Rattle.codes.specs.declared.Instruction.{Instruction}
 use Rattle.codes.specs.declared.Instruction.the-variants.{Wren, Wrdi, Rdsr, Wrsr, Read, Write, Silence}
 use Rattle.chip.proofs.Within.{Within}
 use Rattle.chip.proofs.Passing.{timed-within, timed-length}
-use Rattle.frames.specs.Answers.{framed, framedOutput}
+use Rattle.frames.specs.After.{after}
+use Rattle.frames.specs.Answers.{framedOutput}
+use Rattle.frames.specs.Play.{Act, frameBench}
 use Rattle.edges.specs.declared.Frame.{Frame}
+use Rattle.pins.specs.declared.Device.{Device}
 use Rattle.pins.specs.declared.Event.{Event}
 use Rattle.pins.specs.declared.Event.the-variants.{S, C, D, W, Hold, Time}
 use Rattle.edges.specs.Frames.{noFrame}
 use Rattle.edges.specs.Rising.{risen}
 use Rattle.edges.specs.Falling.{fallen, loading}
 use Rattle.codes.specs.Output.{outputs}
-use Rattle.pins.specs.Devices.{q}
+use Rattle.pins.specs.Devices.{pinsAt, withPins, withHeld, withFrame, withCore, q}
 use Rattle.pins.specs.Events.{onS, onC, onD, onW, onHold, onTime}
-use Rattle.pins.specs.Answers.{PinBench}
-use Rattle.agree.specs.Drawings.{Act, mode0, mode3, Phase, between, inside, paused, sOf, cOf, holdOf, stays, Sendable, bitsOf, Wave, data′, stay′, end′, clock′, reading′, protect′, select′, rise′, fall′, deselect′, hold′, idle′, resume′}
-use Rattle.agree.specs.Reports.{Report, asOne, watched, framesPlayed}
+use Rattle.pins.specs.Answers.{PinBench, pinBench}
+use Rattle.agree.specs.Drawings.{mode0, mode3, Phase, between, inside, paused, sOf, cOf, holdOf, stays, Sendable, bitsOf, Wave, data′, stay′, end′, clock′, protect′, reading′, select′, rise′, fall′, deselect′, hold′, idle′, resume′}
+use Rattle.agree.specs.Reports.{Report, report, asOne, watched, framesPlayed}
 use Rattle.agree.proofs.Ticks.{tick, shows, seenOf, endOf, decidesAt, decides}
 
-abbrev pub mk : (s c d w h z : Bool) → Frame → Core → List ℕ → PinBench
-mk s c d w h z f k m =
-    record {
-      device = record { pins = record { s = bit s; c = bit c; d = bit d; w = bit w; hold = bit h }; held = bit z; frame = f; core = k };
-      memory = m;
-    }
+-- a bench: the device x but for its pins at these levels, held or not, its frame part and its record
+abbrev pub benchAt : Device → (s c d w hold held : Bool) → Frame → Core → List ℕ → PinBench
+benchAt x s c d w hold held f k m =
+    pinBench (withPins (pinsAt (bit s) (bit c) (bit d) (bit w) (bit hold)) (withHeld held (withFrame f (withCore k x)))) m
 
 -- the bench in a phase: held where HOLD is low
-abbrev pub at : Phase → Bool → Bool → Frame → Core → List ℕ → PinBench
-at p d w f c m = mk (sOf p) (cOf p) d w (holdOf p) (not (holdOf p)) f c m
+abbrev pub benchIn : Device → Phase → Bool → Bool → Frame → Core → List ℕ → PinBench
+benchIn x p d w f k m = benchAt x (sOf p) (cOf p) d w (holdOf p) (not (holdOf p)) f k m
 
-module _ (P : Part) where
+module _ (P : Part) (x : Device) where
   -- a frame's report, and then the acts
-  pub shut : List Act → Bool → List ℕ → List Bool → Core → List Report
-  shut ks w m bits c = record { bits = bits; memory = m; core = c } ∷ framesPlayed P ks w c m
+  pub reportThen : List Act → List ℕ → List Bool → Core → List Report
+  reportThen ks m bits c = report bits (frameBench c m) ∷ framesPlayed P ks (frameBench c m)
 
   -- the ticks' account of a frame with bs still to come, from the frame part f, then the acts
-  pub goes : List Bool → List Act → Bool → Frame → Core → List ℕ → List Bool → List Report
-  goes bs ks w f c m seen = shut ks w m (seen ++ seenOf P m c f bs) (decides P c w (endOf P m c f bs))
+  pub ticksThen : List Bool → List Act → Bool → Frame → Core → List ℕ → List Bool → List Report
+  ticksThen bs ks w f c m seen = reportThen ks m (seen ++ seenOf P m c f bs) (decides P c w (endOf P m c f bs))
 
   -- the frame leaves a record inside the ranges, and the memory has its size
   abbrev pub Kept : List Bool → Bool → Frame → Core → List ℕ → Type 0
   Kept bs w f c m = Within P (decides P c w (endOf P m c f bs)) × (length m ≡ P .size)
 
+  -- what a drawing comes to, from each phase
   abbrev pub Says : Phase → Bool → Bool → List Bool → List Act → List Event → Type 0
   Says (between l) d w bs ks es =
-      (f : Frame) (c : Core) (m : List ℕ) → Within P c → length m ≡ P .size → watched P es [] (at (between l) d w f c m) ≡ framesPlayed P ks w c m
+      (f : Frame) (c : Core) (m : List ℕ) → Within P c → length m ≡ P .size
+      → watched P es [] (benchIn x (between l) d w f c m) ≡ framesPlayed P ks (frameBench c m)
   Says (inside o false) d w bs ks es =
-      (f : Frame) (c : Core) (m : List ℕ) (seen : List Bool) → Kept bs w f c m → watched P es seen (at (inside o false) d w f c m) ≡ goes bs ks w f c m seen
+      (f : Frame) (c : Core) (m : List ℕ) (seen : List Bool) → Kept bs w f c m
+      → watched P es seen (benchIn x (inside o false) d w f c m) ≡ ticksThen bs ks w f c m seen
   Says (inside o true) d w bs ks es =
       (f : Frame) (c : Core) (m : List ℕ) (seen : List Bool) → Kept bs w (fallen P m c f) c m
-      → watched P es seen (at (inside o true) d w f c m) ≡ goes bs ks w (fallen P m c f) c m seen
+      → watched P es seen (benchIn x (inside o true) d w f c m) ≡ ticksThen bs ks w (fallen P m c f) c m seen
   Says (paused o l) d w bs ks es =
-      (f : Frame) (c : Core) (m : List ℕ) (seen : List Bool) → Kept bs w f c m → watched P es seen (at (paused o l) d w f c m) ≡ goes bs ks w f c m seen
+      (f : Frame) (c : Core) (m : List ℕ) (seen : List Bool) → Kept bs w f c m
+      → watched P es seen (benchIn x (paused o l) d w f c m) ≡ ticksThen bs ks w f c m seen
 
   -- ---- setting a pin to the level that it has
 
   stay-s : (b s c d w h z : Bool) (f : Frame) (k : Core) (m : List ℕ) (es : List Event) (seen : List Bool) → T (Bool·beq b s)
-      → watched P (S b ∷ es) seen (mk s c d w h z f k m) ≡ watched P es seen (mk s c d w h z f k m)
+      → watched P (S b ∷ es) seen (benchAt x s c d w h z f k m) ≡ watched P es seen (benchAt x s c d w h z f k m)
   unfolding watched onS pick
   stay-s true true c d w h z f k m es seen t = refl
   stay-s true false c d w h z f k m es seen t = absurd t
@@ -80,7 +85,7 @@ module _ (P : Part) where
   stay-s false false c d w h z f k m es seen t = refl
 
   stay-c : (b s c d w h z : Bool) (f : Frame) (k : Core) (m : List ℕ) (es : List Event) (seen : List Bool) → T (Bool·beq b c)
-      → watched P (C b ∷ es) seen (mk s c d w h z f k m) ≡ watched P es seen (mk s c d w h z f k m)
+      → watched P (C b ∷ es) seen (benchAt x s c d w h z f k m) ≡ watched P es seen (benchAt x s c d w h z f k m)
   unfolding watched onC pick
   stay-c true s true d w h z f k m es seen t = refl
   stay-c true s false d w h z f k m es seen t = absurd t
@@ -88,7 +93,7 @@ module _ (P : Part) where
   stay-c false s false d w h z f k m es seen t = refl
 
   stay-w : (b s c d w h z : Bool) (f : Frame) (k : Core) (m : List ℕ) (es : List Event) (seen : List Bool) → T (Bool·beq b w)
-      → watched P (W b ∷ es) seen (mk s c d w h z f k m) ≡ watched P es seen (mk s c d w h z f k m)
+      → watched P (W b ∷ es) seen (benchAt x s c d w h z f k m) ≡ watched P es seen (benchAt x s c d w h z f k m)
   unfolding watched onW
   stay-w true s c d true h z f k m es seen t = refl
   stay-w true s c d false h z f k m es seen t = absurd t
@@ -97,7 +102,7 @@ module _ (P : Part) where
 
   -- HOLD: held follows it, and does so already
   stay-hold : (p : Phase) (b d w : Bool) (f : Frame) (k : Core) (m : List ℕ) (es : List Event) (seen : List Bool) → T (Bool·beq b (holdOf p))
-      → watched P (Hold b ∷ es) seen (at p d w f k m) ≡ watched P es seen (at p d w f k m)
+      → watched P (Hold b ∷ es) seen (benchIn x p d w f k m) ≡ watched P es seen (benchIn x p d w f k m)
   unfolding watched onHold pick
   stay-hold (between true) true d w f k m es seen t = refl
   stay-hold (between false) true d w f k m es seen t = refl
@@ -110,7 +115,7 @@ module _ (P : Part) where
   stay-hold (paused o false) false d w f k m es seen t = refl
 
   stay : (p : Phase) (w : Bool) (e : Event) → T (stays p w e) → (d : Bool) (f : Frame) (k : Core) (m : List ℕ) (es : List Event) (seen : List Bool)
-      → watched P (e ∷ es) seen (at p d w f k m) ≡ watched P es seen (at p d w f k m)
+      → watched P (e ∷ es) seen (benchIn x p d w f k m) ≡ watched P es seen (benchIn x p d w f k m)
   stay p w (S b) t d f k m es seen = stay-s b (sOf p) (cOf p) d w (holdOf p) (not (holdOf p)) f k m es seen t
   stay p w (C b) t d f k m es seen = stay-c b (sOf p) (cOf p) d w (holdOf p) (not (holdOf p)) f k m es seen t
   stay p w (D b) t d f k m es seen = absurd t
@@ -120,19 +125,19 @@ module _ (P : Part) where
 
   -- ---- a falling edge is nothing to the end of a frame: only a READ moves its address then
 
-  abbrev by : Core → Bool → Instruction → Frame → Core
-  by c w i f =
+  abbrev decidesAs : Core → Bool → Instruction → Frame → Core
+  decidesAs c w i f =
       pick (isExecuted (verdict P i (8 * f .taken + f .bits) (on (f .ran)) (on (c .wel)) (on (c .srwd) && not (on (bit w))) (protects P c (f .address)) (on 0)))
       (effect P i (f .value) (f .address / P .page) (f .latch) c) c
 
-  by-loading : (m : List ℕ) (c : Core) (w : Bool) (i : Instruction) (f : Frame) → by c w i (loading P m c i f) ≡ by c w i f
-  by-loading m c w Wren f = refl
-  by-loading m c w Wrdi f = refl
-  by-loading m c w Rdsr f = refl
-  by-loading m c w Wrsr f = refl
-  by-loading m c w Read f = pick-same _ c ∙ sym (pick-same _ c)
-  by-loading m c w Write f = refl
-  by-loading m c w Silence f = refl
+  decides-loading : (m : List ℕ) (c : Core) (w : Bool) (i : Instruction) (f : Frame) → decidesAs c w i (loading P m c i f) ≡ decidesAs c w i f
+  decides-loading m c w Wren f = refl
+  decides-loading m c w Wrdi f = refl
+  decides-loading m c w Rdsr f = refl
+  decides-loading m c w Wrsr f = refl
+  decides-loading m c w Read f = pick-same _ c ∙ sym (pick-same _ c)
+  decides-loading m c w Write f = refl
+  decides-loading m c w Silence f = refl
 
   same-code : (m : List ℕ) (c : Core) (i : Instruction) (f : Frame) → loading P m c i f .code ≡ f .code
   same-code m c Wren f = refl
@@ -146,11 +151,11 @@ module _ (P : Part) where
   decides-fall : (m : List ℕ) (c : Core) (w : Bool) (f : Frame) → decides P c w (fallen P m c f) ≡ decides P c w f
   unfolding decides decidesAt fallen
   decides-fall m c w f =
-      let i = decode (f .code) in
-      pick-case (λ g. by c w (decode (g .code)) g ≡ by c w i f) (outputs P i (f .taken) (on (f .ran)))
-      (λ e. pick-case (λ g. by c w (decode (g .code)) g ≡ by c w i f) (leb 1 (f .shown) && ltb (f .shown) 8)
+      let i = decode P (f .code) in
+      pick-case (λ g. decidesAs c w (decode P (g .code)) g ≡ decidesAs c w i f) (outputs P i (f .taken) (on (f .ran)))
+      (λ e. pick-case (λ g. decidesAs c w (decode P (g .code)) g ≡ decidesAs c w i f) (leb 1 (f .shown) && ltb (f .shown) 8)
       (λ e. refl)
-      (λ e. ap (λ n. by c w (decode n) (loading P m c i f)) (same-code m c i f) ∙ by-loading m c w i f))
+      (λ e. ap (λ n. decidesAs c w (decode P n) (loading P m c i f)) (same-code m c i f) ∙ decides-loading m c w i f))
       (λ e. refl)
 
   fall-none : (m : List ℕ) (c : Core) → fallen P m c (noFrame P) ≡ noFrame P
@@ -159,16 +164,17 @@ module _ (P : Part) where
 
   -- ---- the drawing
 
-  abbrev pub Frames : Type 0
-  Frames =
+  -- of every frame that is not refused: the ticks see its output bits, deselect leaves what the frame model leaves, and that is inside the ranges
+  abbrev pub EachFrame : Type 0
+  EachFrame =
       (w : Bool) (c : Core) (m : List ℕ) (s : List ℕ) (n : ℕ) → Within P c → length m ≡ P .size → Sendable P s n
       → (seenOf P m c (noFrame P) (bitsOf s n) ≡ bitsOf (framedOutput P c m s n (replicate (length s) 0)) n)
-      × ((decides P c w (endOf P m c (noFrame P) (bitsOf s n)) ≡ framed P c m w s n (length s) .core)
-      × Within P (framed P c m w s n (length s) .core))
+      × ((decides P c w (endOf P m c (noFrame P) (bitsOf s n)) ≡ after P (running c) w c s n)
+      × Within P (after P (running c) w c s n))
 
-  module _ (frames : Frames) where
+  module _ (each-frame : EachFrame) where
     pub says : {p : Phase} {d w : Bool} {bs : List Bool} {ks : List Act} {es : List Event} → Wave P p d w bs ks es → Says p d w bs ks es
-    unfolding watched onS onC onD onW onHold onTime q shows goes shut framesPlayed seenOf endOf decides decidesAt pick
+    unfolding watched onS onC onD onW onHold onTime q shows ticksThen reportThen framesPlayed seenOf endOf decides decidesAt pick
     says (data′ {p = between l} d′ r) = λ f c m k e. says r f c m k e
     says (data′ {p = inside o false} d′ r) = λ f c m seen k. says r f c m seen k
     says (data′ {p = inside o true} d′ r) = λ f c m seen k. says r f c m seen k
@@ -185,24 +191,25 @@ module _ (P : Part) where
     says (reading′ t r) = λ f c m k e. says r f (timed P t c) (timedMemory P t c m) (timed-within P t c k) (timed-length P t c m ∙ e)
     says (protect′ v r) = λ f c m k e. says r f c m k e
     says (select′ {w = w} {ks = ks} mode0 s n h r) = λ f c m k e.
-        let z = frames w c m s n k e h in
-        says r (noFrame P) c m [] (subst (Within P) (sym (z .1 .0)) (z .1 .1), e) ∙ ap₂ (shut ks w m) (z .0) (z .1 .0)
+        let z = each-frame w c m s n k e h in
+        says r (noFrame P) c m [] (subst (Within P) (sym (z .1 .0)) (z .1 .1), e) ∙ ap₂ (reportThen ks m) (z .0) (z .1 .0)
     says (select′ {w = w} {ks = ks} mode3 s n h r) = λ f c m k e.
-        let z = frames w c m s n k e h in
+        let z = each-frame w c m s n k e h in
         says r (noFrame P) c m [] (subst (λ g. Kept (bitsOf s n) w g c m) (sym (fall-none m c)) (subst (Within P) (sym (z .1 .0)) (z .1 .1), e))
-        ∙ ap (λ g. goes (bitsOf s n) ks w g c m []) (fall-none m c)
-        ∙ ap₂ (shut ks w m) (z .0) (z .1 .0)
+        ∙ ap (λ g. ticksThen (bitsOf s n) ks w g c m []) (fall-none m c)
+        ∙ ap₂ (reportThen ks m) (z .0) (z .1 .0)
     says (rise′ {d = d} {w = w} {bs = bs} {ks = ks} r) = λ f c m seen k.
         says r (risen P (running c) (bit d) f) c m (seen ++ (asOne (shows f) ∷ [])) k
-        ∙ ap (λ b. shut ks w m b (decides P c w (endOf P m c (tick P m c d f) bs))) (append-assoc seen (asOne (shows f) ∷ []) (seenOf P m c (tick P m c d f) bs))
+        ∙ ap (λ b. reportThen ks m b (decides P c w (endOf P m c (tick P m c d f) bs)))
+        (append-assoc seen (asOne (shows f) ∷ []) (seenOf P m c (tick P m c d f) bs))
     says (fall′ r) = λ f c m seen k. says r (fallen P m c f) c m seen k
     says (deselect′ {m = mode0} {w = w} {ks = ks} r) = λ f c m seen k.
-        ap (λ l. record { bits = seen; memory = m; core = decides P c w f } ∷ l) (says r (noFrame P) (decides P c w f) m (k .0) (k .1))
-        ∙ ap (λ b. shut ks w m b (decides P c w f)) (sym (append-nil seen))
+        ap (λ l. report seen (frameBench (decides P c w f) m) ∷ l) (says r (noFrame P) (decides P c w f) m (k .0) (k .1))
+        ∙ ap (λ b. reportThen ks m b (decides P c w f)) (sym (append-nil seen))
     says (deselect′ {m = mode3} {w = w} {ks = ks} r) = λ f c m seen k.
-        ap (λ l. record { bits = seen; memory = m; core = decides P c w f } ∷ l)
+        ap (λ l. report seen (frameBench (decides P c w f) m) ∷ l)
         (says r (noFrame P) (decides P c w f) m (subst (Within P) (decides-fall m c w f) (k .0)) (k .1))
-        ∙ ap₂ (shut ks w m) (sym (append-nil seen)) (sym (decides-fall m c w f))
+        ∙ ap₂ (reportThen ks m) (sym (append-nil seen)) (sym (decides-fall m c w f))
     says (hold′ r) = λ f c m seen k. says r f c m seen k
     says (idle′ {l = false} false r) = λ f c m seen k. says r f c m seen k
     says (idle′ {l = false} true r) = λ f c m seen k. says r f c m seen k

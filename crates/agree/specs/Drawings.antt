@@ -1,6 +1,6 @@
--- Drawings of a list of frames, clock readings and levels of Write Protect as pin changes.
+-- Drawings of a list of frames, each with its level of Write Protect, and clock readings as pin changes.
 use Prim.Native.Nat.{ℕ, zero, suc, _<_, _≤_}
-use mathlib.Core.Bool.{Bool, true, false, not, Bool·beq}
+use mathlib.Core.Bool.{Bool, true, false, Bool·beq}
 use mathlib.Core.List.{List, [], _∷_, _++_}
 use mathlib.Core.Path.{_≡_}
 use lib.Dec.{T}
@@ -8,14 +8,9 @@ use lib.ListN.{length, take, getD}
 use Rattle.codes.specs.Part.{Part}
 use Rattle.codes.specs.Status.{on, bitOf}
 use Rattle.frames.specs.Answers.{bitsFit, longestFrame}
+use Rattle.frames.specs.Play.{Act, frame, reading}
 use Rattle.pins.specs.declared.Event.{Event}
 use Rattle.pins.specs.declared.Event.the-variants.{S, C, D, W, Hold, Time}
-
--- what the bench does: frames of so many bits, clock readings and levels of Write Protect
-pub data Act : Type 0 where
-  send : List ℕ → ℕ → Act
-  reading : ℕ → Act
-  protect : Bool → Act
 
 -- bytes and a bit count that the frame model does not refuse
 pub record Sendable (P : Part) (s : List ℕ) (n : ℕ) : Type 0 where
@@ -76,20 +71,28 @@ stays p w (W b) = Bool·beq b w
 stays p w (Hold b) = Bool·beq b (holdOf p)
 stays p w (Time t) = false
 
--- Wave P p d w bs ks es: from phase p, with D at d and W at w, and bs the bits that the frame in hand still has to clock in, the events es draw
--- the rest of that frame and then the acts ks
+-- Wave P p d w bs ks es: from phase p, with D at d and W at w, and bs the bits that the frame in hand still has to
+-- clock in, the events es draw the rest of that frame and then the acts ks. A frame carries its level of Write Protect:
+-- W stands at it at select. A list of frames and readings with levels of Write Protect between them is thus a list of
+-- acts: each frame carries the last level before it, or the level of W at the start.
 pub data Wave (P : Part) : Phase → Bool → Bool → List Bool → List Act → List Event → Type 0 where
   -- D may change at any time
-  data′ : {p : Phase} {d w : Bool} {bs : List Bool} {ks : List Act} {es : List Event} (d′ : Bool) → Wave P p d′ w bs ks es → Wave P p d w bs ks (D d′ ∷ es)
+  data′ : {p : Phase} {d w : Bool} {bs : List Bool} {ks : List Act} {es : List Event} (d′ : Bool)
+      → Wave P p d′ w bs ks es → Wave P p d w bs ks (D d′ ∷ es)
   -- setting a pin to the level that it has changes nothing
-  stay′ : {p : Phase} {d w : Bool} {bs : List Bool} {ks : List Act} {es : List Event} (e : Event) → T (stays p w e) → Wave P p d w bs ks es → Wave P p d w bs ks (e ∷ es)
-  -- between frames: readings, levels of W, moves of C, select
+  stay′ : {p : Phase} {d w : Bool} {bs : List Bool} {ks : List Act} {es : List Event} (e : Event) → T (stays p w e)
+      → Wave P p d w bs ks es → Wave P p d w bs ks (e ∷ es)
+  -- between frames: moves of C and of W, which are no acts; readings; select
   end′ : {l d w : Bool} → Wave P (between l) d w [] [] []
-  clock′ : {l d w : Bool} {ks : List Act} {es : List Event} (l′ : Bool) → Wave P (between l′) d w [] ks es → Wave P (between l) d w [] ks (C l′ ∷ es)
-  reading′ : {l d w : Bool} {ks : List Act} {es : List Event} (t : ℕ) → Wave P (between l) d w [] ks es → Wave P (between l) d w [] (reading t ∷ ks) (Time t ∷ es)
-  protect′ : {l d w : Bool} {ks : List Act} {es : List Event} (w′ : Bool) → Wave P (between l) d w′ [] ks es → Wave P (between l) d w [] (protect w′ ∷ ks) (W w′ ∷ es)
+  clock′ : {l d w : Bool} {ks : List Act} {es : List Event} (l′ : Bool)
+      → Wave P (between l′) d w [] ks es → Wave P (between l) d w [] ks (C l′ ∷ es)
+  protect′ : {l d w : Bool} {ks : List Act} {es : List Event} (w′ : Bool)
+      → Wave P (between l) d w′ [] ks es → Wave P (between l) d w [] ks (W w′ ∷ es)
+  reading′ : {l d w : Bool} {ks : List Act} {es : List Event} (t : ℕ)
+      → Wave P (between l) d w [] ks es → Wave P (between l) d w [] (reading t ∷ ks) (Time t ∷ es)
   select′ : {d w : Bool} {ks : List Act} {es : List Event} (m : Mode) (s : List ℕ) (n : ℕ) → Sendable P s n
-      → Wave P (inside m (rest m)) d w (bitsOf s n) ks es → Wave P (between (rest m)) d w [] (send s n ∷ ks) (S false ∷ es)
+      → Wave P (inside m (rest m)) d w (bitsOf s n) ks es
+      → Wave P (between (rest m)) d w [] (frame w s n ∷ ks) (S false ∷ es)
   -- in a frame: a rising edge takes the bit on D; C is back at rest at deselect
   rise′ : {m : Mode} {d w : Bool} {bs : List Bool} {ks : List Act} {es : List Event}
       → Wave P (inside m true) d w bs ks es → Wave P (inside m false) d w (d ∷ bs) ks (C true ∷ es)

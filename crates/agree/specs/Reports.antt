@@ -6,9 +6,8 @@ use mathlib.Core.Path.{_≡_}
 use lib.ListN.{length, replicate}
 use Rattle.codes.specs.Part.{Part}
 use Rattle.codes.specs.Status.{on}
-use Rattle.chip.specs.Time.{timed, timedMemory}
-use Rattle.chip.specs.declared.Core.{Core}
-use Rattle.frames.specs.Answers.{framed, framedOutput}
+use Rattle.frames.specs.Answers.{framedOutput}
+use Rattle.frames.specs.Play.{Act, frame, reading, FrameBench, frameBench, acted}
 use Rattle.pins.specs.declared.Device.{Device}
 use Rattle.pins.specs.declared.Event.{Event}
 use Rattle.pins.specs.declared.Event.the-variants.{S, C, D, W, Hold, Time}
@@ -17,13 +16,20 @@ use Rattle.edges.specs.declared.Level.the-variants.{Zero, One, Z}
 use Rattle.pins.specs.Devices.{selected, counting, q}
 use Rattle.pins.specs.Ranges.{deviceFits}
 use Rattle.pins.specs.Answers.{PinBench, next}
-use Rattle.agree.specs.Drawings.{Act, send, reading, protect, bitsOf, Wave, between}
+use Rattle.agree.specs.Drawings.{bitsOf, Wave, between}
 
--- after each frame: the output bits at its counted clocks, then the memory and the record (status, time left, what waits)
+-- after each frame: the output bits at its counted clocks, and the bench that it leaves: the record (status, time left,
+-- what waits) and the memory
 pub record Report : Type 0 where
   pub bits : List Bool
-  pub memory : List ℕ
-  pub core : Core
+  pub bench : FrameBench
+
+abbrev pub report : List Bool → FrameBench → Report
+report seen b = record { bits = seen; bench = b }
+
+-- what the two models' benches share
+abbrev pub shared : PinBench → FrameBench
+shared b = frameBench (b .device .core) (b .memory)
 
 -- ---- the pin model, watched over events
 
@@ -57,19 +63,19 @@ watched P [] seen b = []
 watched P (e ∷ es) seen b =
     let x = b .device in
     let y = next P e b in
-    cond (isEnd e x) (record { bits = seen; memory = y .memory; core = y .device .core } ∷ []) []
+    cond (isEnd e x) (report seen (shared y) ∷ []) []
     ++ watched P es (cond (isEnd e x) [] (cond (isCounted e x) (seen ++ (asOne (q x) ∷ [])) seen)) y
 
--- ---- the frame model, played over acts
+-- ---- the frame model, acted over a list
 
--- w: the level of Write Protect
-unfoldable pub framesPlayed : Part → List Act → Bool → Core → List ℕ → List Report
-framesPlayed P [] w c m = []
-framesPlayed P (send s n ∷ ks) w c m =
-    let after = framed P c m w s n (length s) .core in
-    record { bits = bitsOf (framedOutput P c m s n (replicate (length s) 0)) n; memory = m; core = after } ∷ framesPlayed P ks w after m
-framesPlayed P (reading t ∷ ks) w c m = framesPlayed P ks w (timed P t c) (timedMemory P t c m)
-framesPlayed P (protect w′ ∷ ks) w c m = framesPlayed P ks w′ c m
+-- the bits of a frame are those of the public call's output. The bench that it leaves is that of the public call too,
+-- which does not refuse it: `framed-acted`
+unfoldable pub framesPlayed : Part → List Act → FrameBench → List Report
+framesPlayed P [] b = []
+framesPlayed P (frame w s n ∷ ks) b =
+    let y = acted P (frame w s n) b in
+    report (bitsOf (framedOutput P (b .core) (b .memory) s n (replicate (length s) 0)) n) y ∷ framesPlayed P ks y
+framesPlayed P (reading t ∷ ks) b = framesPlayed P ks (acted P (reading t) b)
 
 -- ---- demand 3
 
@@ -85,4 +91,4 @@ unfoldable pub Agreement : Part → Type 0
 Agreement P =
     (b : PinBench) (ks : List Act) (es : List Event) → Unselected P b
     → Wave P (between (on (b .device .pins .c))) (on (b .device .pins .d)) (on (b .device .pins .w)) [] ks es
-    → watched P es [] b ≡ framesPlayed P ks (on (b .device .pins .w)) (b .device .core) (b .memory)
+    → watched P es [] b ≡ framesPlayed P ks (shared b)

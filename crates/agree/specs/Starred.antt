@@ -1,5 +1,5 @@
--- Document 01's cases with a star, a to i, in one statement, of the definitions that the public calls promise. A device as delivered has every
--- cell FFh and cycle length 5,000; its clock read 0.
+-- Document 01's cases with a star, a to i, in one statement, of the definitions that the public calls promise. A device
+-- as delivered has every cell FFh and cycle length 5,000; its clock read 0.
 use Prim.Native.Nat.{ℕ, _+_, _*_}
 use mathlib.Core.Bool.{true, false}
 use mathlib.Core.List.{List, [], _∷_, _++_}
@@ -21,16 +21,16 @@ abbrev pub fresh : Core → FrameBench
 fresh c = frameBench c (deliveredMemory m95512)
 
 -- frames and readings played on such a bench
-abbrev pub after : List Act → Core → FrameBench
-after acts c = actedAll m95512 acts (fresh c)
+abbrev pub benchAfter : List Act → Core → FrameBench
+benchAfter acts c = actedAll m95512 acts (fresh c)
 
 -- WREN, the bytes as a frame of so many bits with W high, then the end of a cycle
 abbrev pub storedCells : List ℕ → ℕ → Core → List ℕ
-storedCells bytes bits c = after (wren ∷ frame true bytes bits ∷ reading 5000 ∷ []) c .memory
+storedCells bytes bits c = benchAfter (wren ∷ frame true bytes bits ∷ reading 5000 ∷ []) c .memory
 
 -- the time left after WREN and the frame: 0 where no cycle began
 abbrev pub timeLeft : List ℕ → ℕ → Core → ℕ
-timeLeft bytes bits c = after (wren ∷ frame true bytes bits ∷ []) c .core .left
+timeLeft bytes bits c = benchAfter (wren ∷ frame true bytes bits ∷ []) c .core .left
 
 abbrev pub cells : List ℕ → List ℕ → List ℕ
 cells m [] = []
@@ -71,8 +71,8 @@ pub record Starred : Type 0 where
   pub d-protected : timeLeft (0x02 ∷ 0xc0 ∷ 0x00 ∷ 0x55 ∷ []) 32 upperQuarter ≡ 0
   -- e: idle 8Ch, with WEL 8Eh, in a cycle 8Fh
   pub e-idle : status allBitsSet ≡ 0x8c
-  pub e-wel : status (after (wren ∷ []) allBitsSet .core) ≡ 0x8e
-  pub e-cycle : status (after (wren ∷ frame true (0x01 ∷ 0x8c ∷ []) 16 ∷ []) allBitsSet .core) ≡ 0x8f
+  pub e-wel : status (benchAfter (wren ∷ []) allBitsSet .core) ≡ 0x8e
+  pub e-cycle : status (benchAfter (wren ∷ frame true (0x01 ∷ 0x8c ∷ []) 16 ∷ []) allBitsSet .core) ≡ 0x8f
   -- f: READ at FFFFh for two bytes, of any memory
   pub f : (m : List ℕ) → length m ≡ m95512 .size
       → framedOutput m95512 (delivered m95512) m (0x03 ∷ 0xff ∷ 0xff ∷ 0x00 ∷ 0x00 ∷ []) 40 (replicate 5 0x00)

@@ -15,8 +15,8 @@ use Rattle.codes.specs.declared.Outcome.the-variants as outcome
 use Rattle.chip.specs.declared.Protection.{Protection}
 use Rattle.chip.specs.declared.Protection.the-variants as protection
 use Rattle.frames.specs.Answers as frames
-use Rattle.frames.specs.declared.Answer as frame-answer
-use Rattle.frames.specs.declared.Answer.the-variants as frame
+use Rattle.frames.specs.declared.FrameReply as frame-answer
+use Rattle.frames.specs.declared.FrameReply.the-variants as frame
 use Rattle.pins.specs.Answers.{qNumber, qValue, statusNumber, statusValue}
 use Rattle.edges.specs.declared.Level.{Level}
 use Rattle.edges.specs.declared.Level.the-variants.{Zero, One, Z}
@@ -25,8 +25,8 @@ use Rattle.pins.specs.declared.QAnswer.the-variants as q
 use Rattle.pins.specs.declared.StatusAnswer.{StatusAnswer}
 use Rattle.pins.specs.declared.StatusAnswer.the-variants as status
 use Rattle.driver.specs.Answers as driver
-use Rattle.driver.specs.declared.Answer as driver-answer
-use Rattle.driver.specs.declared.Answer.the-variants as driven
+use Rattle.driver.specs.declared.RunReply as driver-answer
+use Rattle.driver.specs.declared.RunReply.the-variants as driven
 
 -- ---- a number back to its refusal
 
@@ -84,47 +84,47 @@ outcome-kept outcome.Done = at-yes _ _ refl
 outcome-kept (outcome.Refused r) = at-no _ _ (not-done r) ∙ ap outcome.Refused (refusal-kept r)
 
 abbrev pub protectionOf : ℕ → ℕ → Protection
-protectionOf n v = pick (eqb n 0) (pick (eqb v 1) protection.Protected protection.Open) (protection.Unanswered (refusalOf n))
+protectionOf n v = pick (eqb n 0) (pick (eqb v 1) protection.Protected protection.Open) (protection.Refused (refusalOf n))
 
 pub protection-kept : (x : Protection) → protectionOf (protectionNumber x) (protectionValue x) ≡ x
 protection-kept protection.Open = at-yes _ _ refl ∙ at-no _ _ refl
 protection-kept protection.Protected = at-yes _ _ refl ∙ at-yes _ _ refl
-protection-kept (protection.Unanswered r) = at-no _ _ (not-done r) ∙ ap protection.Unanswered (refusal-kept r)
+protection-kept (protection.Refused r) = at-no _ _ (not-done r) ∙ ap protection.Refused (refusal-kept r)
 
-abbrev pub frameOf : ℕ → ℕ → frame-answer.Answer
-frameOf n u = pick (eqb n 0) (frame.Shown u) (frame.Unshown (refusalOf n))
+abbrev pub frameOf : ℕ → ℕ → frame-answer.FrameReply
+frameOf n u = pick (eqb n 0) (frame.Shown u) (frame.Refused (refusalOf n))
 
-pub frame-kept : (x : frame-answer.Answer) → frameOf (frames.answerNumber x) (frames.answerUndriven x) ≡ x
+pub frame-kept : (x : frame-answer.FrameReply) → frameOf (frames.frameReplyNumber x) (frames.frameReplyUndriven x) ≡ x
 frame-kept (frame.Shown u) = at-yes _ _ refl
-frame-kept (frame.Unshown r) = at-no _ _ (not-done r) ∙ ap frame.Unshown (refusal-kept r)
+frame-kept (frame.Refused r) = at-no _ _ (not-done r) ∙ ap frame.Refused (refusal-kept r)
 
 abbrev pub levelOf : ℕ → Level
 levelOf v = pick (eqb v 0) Zero (pick (eqb v 1) One Z)
 
 abbrev pub qOf : ℕ → ℕ → QAnswer
-qOf n v = pick (eqb n 0) (q.Shows (levelOf v)) (q.Unanswered (refusalOf n))
+qOf n v = pick (eqb n 0) (q.Shows (levelOf v)) (q.Refused (refusalOf n))
 
 pub q-kept : (x : QAnswer) → qOf (qNumber x) (qValue x) ≡ x
 unfolding pick
 q-kept (q.Shows Zero) = refl
 q-kept (q.Shows One) = refl
 q-kept (q.Shows Z) = refl
-q-kept (q.Unanswered r) = at-no _ _ (not-done r) ∙ ap q.Unanswered (refusal-kept r)
+q-kept (q.Refused r) = at-no _ _ (not-done r) ∙ ap q.Refused (refusal-kept r)
 
 abbrev pub statusOf : ℕ → ℕ → StatusAnswer
-statusOf n v = pick (eqb n 0) (status.Byte v) (status.Unanswered (refusalOf n))
+statusOf n v = pick (eqb n 0) (status.Byte v) (status.Refused (refusalOf n))
 
 pub status-kept : (x : StatusAnswer) → statusOf (statusNumber x) (statusValue x) ≡ x
 status-kept (status.Byte v) = at-yes _ _ refl
-status-kept (status.Unanswered r) = at-no _ _ (not-done r) ∙ ap status.Unanswered (refusal-kept r)
+status-kept (status.Refused r) = at-no _ _ (not-done r) ∙ ap status.Refused (refusal-kept r)
 
-abbrev pub runOf : ℕ → ℕ → ℕ → driver-answer.Answer
+abbrev pub runOf : ℕ → ℕ → ℕ → driver-answer.RunReply
 runOf n pages frames =
     pick (eqb n 0) (driven.Done (record { pages = pages; frames = frames }))
     (pick (eqb n 9) (driven.TimedOut (record { pages = pages; frames = frames }))
     (pick (eqb n 10) (driven.NotTaken (record { pages = pages; frames = frames })) (driven.Refused (refusalOf n))))
 
-pub run-kept : (x : driver-answer.Answer) → runOf (driver.answerNumber x) (driver.answerPages x) (driver.answerFrames x) ≡ x
+pub run-kept : (x : driver-answer.RunReply) → runOf (driver.runReplyNumber x) (driver.runReplyPages x) (driver.runReplyFrames x) ≡ x
 run-kept (driven.Done s) = at-yes _ _ refl
 run-kept (driven.TimedOut s) = at-no _ _ refl ∙ at-yes _ _ refl
 run-kept (driven.NotTaken s) = at-no _ _ refl ∙ at-no _ _ refl ∙ at-yes _ _ refl

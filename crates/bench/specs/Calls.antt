@@ -14,7 +14,7 @@ use Rattle.chip.specs.Power.{delivered, poweredUp, powerUpNumber}
 use Rattle.chip.specs.Time.{readingNumber, clockReading}
 use Rattle.chip.specs.declared.Core.{Core}
 use Rattle.bench.specs.declared.CoreAnswer.{CoreAnswer}
-use Rattle.frames.specs.Answers.{framed, framedOutput, answerNumber, answerUndriven}
+use Rattle.frames.specs.Answers.{framed, framedOutput, frameReplyNumber, frameReplyUndriven}
 use Rattle.pins.specs.declared.Device.{Device}
 use Rattle.pins.specs.Devices.{resting}
 use Rattle.pins.specs.Ranges.{deviceFits}
@@ -64,7 +64,7 @@ abbrev pub frameCall : Part → Core → List ℕ → ℕ → List ℕ → ℕ �
 frameCall P c m w s n room =
     let r = framed P c m (on w) s n room in
     pick (leb w 1)
-    (frameAnswer (answerNumber (r .answer)) (answerUndriven (r .answer)) (r .core))
+    (frameAnswer (frameReplyNumber (r .answer)) (frameReplyUndriven (r .answer)) (r .core))
     (frameAnswer (pick (eqb (length m) (P .size)) 2 1) 0 c)
 
 abbrev pub frameCallOutput : Part → Core → List ℕ → ℕ → List ℕ → ℕ → List ℕ → List ℕ
@@ -116,4 +116,4 @@ driverAnswer n p f c = record { number = n; pages = p; frames = f; core = c }
 abbrev pub writeCall : Part → Core → List ℕ → ℕ → List ℕ → ℕ → ℕ → DriverAnswer
 writeCall P c m a bytes interval limit =
     let r = driver.driven P c m a bytes interval limit in
-    driverAnswer (driver.answerNumber (r .answer)) (driver.answerPages (r .answer)) (driver.answerFrames (r .answer)) (r .core)
+    driverAnswer (driver.runReplyNumber (r .answer)) (driver.runReplyPages (r .answer)) (driver.runReplyFrames (r .answer)) (r .core)

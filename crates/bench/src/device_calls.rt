@@ -14,6 +14,7 @@ ghost use Rattle.bench.specs.Calls.{deviceAnswer, devicePowerUpCall, pin
 use crate::DeviceAnswer;
 use crate::Value;
 use chip::Core;
+use codes::SIZE;
 use pins::Device;
 use pins::Stepped;
 
@@ -101,9 +102,9 @@ pub extern "C" fn cartvesper_device_set_hold(device: Device, level: u8) -> Devic
 
 // What a memory of this length and a level of 2 get.
 pub(crate) fn bad_level(size: usize) -> u32
-    ensures { λ r. ⌜ r ≡ pick (eqb size 65536) 2 1 ⌝ }
+    ensures { λ r. ⌜ r ≡ pick (eqb size (m95512 .size)) 2 1 ⌝ }
 {
-    if size == 65536 {
+    if size == SIZE {
         return 2;
     }
     1

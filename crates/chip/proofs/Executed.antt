@@ -3,20 +3,19 @@ use mathlib.Core.Path.{_≡_, refl, sym, _∙_}
 use mathlib.Core.Bool.{Bool, true, false, not, _&&_, _||_, true≢false}
 use Prim.Native.Nat.{ℕ, _+_, _*_, _<_, _≤_}
 use native.Mathlib.Nat.{mod-lt}
-use native.Mathlib.Decide.{ℕ-discrete}
 use native.Mathlib.Omega.{arith}
 use lib.ListN.{length, getD, getD-replicate}
-use lib.Seq.{getD-set-same, getD-set-other}
 use lib.Dec.{leb, eqb}
 use borrow.Author.Tests.{le-leb, leb-true, lt-ltb, eq-eqb, not-false}
 use Rattle.laws.specs.Pick.{pick, at-yes, at-no, and-left, and-right, and-both}
 use Rattle.laws.specs.Each.{each-at, each-of}
-use Rattle.codes.specs.Part.{Part, m95512, pages}
+use Rattle.codes.specs.Part.{Part, pages}
 use Rattle.codes.specs.Status.{on, bitOf, writable}
 use Rattle.latch.specs.Latches.{zeros, noLatch, latched, cellFits, latchFits}
 use Rattle.chip.specs.Records.{running, nothing, statusWaits, pageWaits, waitsStatus, waitsPage, withWel, withCycle}
 use Rattle.chip.specs.Ranges.{valueFits, pageFits, waitFits}
-use Rattle.codes.specs.Verdicts.{verdict, isExecuted, needsNoCycle, needsWel}
+use Rattle.codes.specs.Verdicts.{verdict, isExecuted}
+use Rattle.codes.specs.Instructions.{row}
 use Rattle.chip.specs.Effects.{effect}
 use Rattle.latch.specs.declared.Latch.{Latch}
 use Rattle.chip.specs.declared.Waiting.{Waiting}
@@ -25,15 +24,6 @@ use Rattle.codes.specs.declared.Instruction.{Instruction}
 use Rattle.codes.specs.declared.Instruction.the-variants.{Wren, Wrdi, Rdsr, Wrsr, Read, Write, Silence}
 use Rattle.chip.proofs.Within.{Within, nothing-fits}
 use Rattle.codes.proofs.Judged.{passed}
-
--- what is asked of a part: its memory is a whole number of pages, and there is one
-pub record Paged (P : Part) : Type 0 where
-  pub page : 0 < P .page
-  pub size : 0 < P .size
-  pub whole : pages P * P .page ≡ P .size
-
-pub m95512-paged : Paged m95512
-m95512-paged = record { page = omega arith; size = omega arith; whole = refl }
 
 -- ---- what waits
 
@@ -97,7 +87,7 @@ module _ (P : Part) (c : Core) where
 
 -- the record, by the instruction: no cycle runs where there must be none, WEL is on where it must be
 module _ (P : Part) (v p : ℕ) (l : Latch) (c : Core) (below : p < pages P) (fits : latchFits P true l ≡ true) where
-  pub effect-within : (i : Instruction) → (needsNoCycle i && running c) ≡ false → (needsWel i && not (on (c .wel))) ≡ false → Within P c
+  pub effect-within : (i : Instruction) → (row P i .idle && running c) ≡ false → (row P i .wel && not (on (c .wel))) ≡ false → Within P c
       → Within P (effect P i v p l c)
   effect-within Wren free wel w = wel-within P c 1 (omega arith) free w
   effect-within Wrdi free wel w = wel-within P c 0 (omega arith) free w
@@ -119,4 +109,4 @@ pub executed-within : (P : Part) (i : Instruction) (n : ℕ) (ran locked protect
     → p < pages P → latchFits P true l ≡ true → Within P c → Within P (effect P i v p l c)
 executed-within P i n ran locked protected held v p l c e h below fits w =
     let t = passed P i n ran (on (c .wel)) locked protected held e in
-    effect-within P v p l c below fits i (still-free (needsNoCycle i) ran (running c) h (t .free)) (t .enabled) w
+    effect-within P v p l c below fits i (still-free (row P i .idle) ran (running c) h (t .free)) (t .enabled) w

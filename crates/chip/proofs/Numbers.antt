@@ -16,7 +16,7 @@ use Rattle.chip.specs.declared.Core.{Core}
 use Rattle.codes.specs.declared.Outcome.{Outcome}
 use Rattle.chip.specs.declared.PoweredUp.{PoweredUp}
 use Rattle.chip.specs.declared.Protection.{Protection}
-use Rattle.chip.specs.declared.Protection.the-variants.{Open, Protected, Unanswered}
+use Rattle.chip.specs.declared.Protection.the-variants.{Open, Protected, Refused}
 use Rattle.codes.specs.declared.Refusal.the-variants.{RecordRange, AddressRange}
 use Rattle.codes.proofs.Bits.{pick-bit}
 
@@ -35,11 +35,11 @@ module _ (P : Part) (c : Core) (m : List ℕ) where
 module _ (P : Part) (c : Core) (a : ℕ) where
   -- a function of the answer, taken through its two refusals
   through : (f : Protection → ℕ) {n : ℕ} → (pick (protects P c a) (f Protected) (f Open) ≡ n)
-      → f (protection P c a) ≡ pick (inRanges P c) (pick (ltb a (P .size)) n (f (Unanswered AddressRange))) (f (Unanswered RecordRange))
+      → f (protection P c a) ≡ pick (inRanges P c) (pick (ltb a (P .size)) n (f (Refused AddressRange))) (f (Refused RecordRange))
   through f e =
       pick-ap f (inRanges P c) _ _
-      ∙ pick-cong (inRanges P c) (f (Unanswered RecordRange)) (λ q. pick-ap f (ltb a (P .size)) _ _
-      ∙ pick-cong (ltb a (P .size)) (f (Unanswered AddressRange)) (λ r. pick-ap f (protects P c a) _ _ ∙ e))
+      ∙ pick-cong (inRanges P c) (f (Refused RecordRange)) (λ q. pick-ap f (ltb a (P .size)) _ _
+      ∙ pick-cong (ltb a (P .size)) (f (Refused AddressRange)) (λ r. pick-ap f (protects P c a) _ _ ∙ e))
 
   pub question-number : protectionNumber (protection P c a) ≡ questionNumber P c a
   question-number = through protectionNumber (pick-same _ _)

@@ -18,29 +18,29 @@ pub record Within (P : Part) (c : Core) : Type 0 where
   pub flags : flagsFit c ≡ true
   pub cycle : cycleFits P (c .cycle) ≡ true
   pub left : c .left ≤ c .cycle
-  pub tie : tied c ≡ true
+  pub tie : tied P c ≡ true
   pub waits : waitFits P (c .waits) ≡ true
 
 module _ (P : Part) (c : Core) where
   pub within : inRanges P c ≡ true → Within P c
   unfolding inRanges
   within e =
-      let fts = and-left (flagsFit c && timeFits P c && tied c) (waitFits P (c .waits)) e in
-      let ft = and-left (flagsFit c && timeFits P c) (tied c) fts in
+      let fts = and-left (flagsFit c && timeFits P c && tied P c) (waitFits P (c .waits)) e in
+      let ft = and-left (flagsFit c && timeFits P c) (tied P c) fts in
       let t = and-right (flagsFit c) (timeFits P c) ft in
       record {
         flags = and-left (flagsFit c) (timeFits P c) ft;
         cycle = and-left (cycleFits P (c .cycle)) (leb (c .left) (c .cycle)) t;
         left = leb-true _ _ (and-right (cycleFits P (c .cycle)) (leb (c .left) (c .cycle)) t);
-        tie = and-right (flagsFit c && timeFits P c) (tied c) fts;
-        waits = and-right (flagsFit c && timeFits P c && tied c) (waitFits P (c .waits)) e;
+        tie = and-right (flagsFit c && timeFits P c) (tied P c) fts;
+        waits = and-right (flagsFit c && timeFits P c && tied P c) (waitFits P (c .waits)) e;
       }
 
   pub in-ranges : Within P c → inRanges P c ≡ true
   unfolding inRanges
   in-ranges w =
-      and-both (flagsFit c && timeFits P c && tied c) (waitFits P (c .waits))
-      (and-both (flagsFit c && timeFits P c) (tied c)
+      and-both (flagsFit c && timeFits P c && tied P c) (waitFits P (c .waits))
+      (and-both (flagsFit c && timeFits P c) (tied P c)
       (and-both (flagsFit c) (timeFits P c) (w .flags) (and-both (cycleFits P (c .cycle)) (leb (c .left) (c .cycle)) (w .cycle) (le-leb _ _ (w .left)))) (w .tie)) (w .waits)
 
 -- ---- nothing waits
@@ -54,8 +54,8 @@ unfolding pick
 nothing-fits P = each-of (cellFits false (noLatch P)) (P .page) (zero-cell P)
 
 -- the tie of a device with no time left
-pub quiet-tie : (c : Core) → c .left ≡ 0 → c .waits .kind ≡ 0 → tied c ≡ true
-quiet-tie c l k = at-no _ _ (le-ltb 0 (c .left) (omega arith)) ∙ eq-eqb _ _ k
+pub quiet-tie : (P : Part) (c : Core) → c .left ≡ 0 → c .waits .kind ≡ 0 → tied P c ≡ true
+quiet-tie P c l k = at-no _ _ (le-ltb 0 (c .left) (omega arith)) ∙ eq-eqb _ _ k
 
 -- a device with no cycle and nothing that waits
 pub quiet-within : (P : Part) (c : Core) → flagsFit c ≡ true → cycleFits P (c .cycle) ≡ true → c .left ≡ 0 → c .waits ≡ nothing P → Within P c
@@ -64,7 +64,7 @@ quiet-within P c f y l w =
       flags = f;
       cycle = y;
       left = omega arith;
-      tie = quiet-tie c l (ap (λ x. x .kind) w);
+      tie = quiet-tie P c l (ap (λ x. x .kind) w);
       waits = ap (waitFits P) w ∙ nothing-fits P;
     }
 

@@ -11,7 +11,7 @@ use Rattle.chip.specs.Ranges.{inRanges}
 use Rattle.chip.specs.declared.Core.{Core}
 use Rattle.codes.specs.declared.Refusal.the-variants.{RecordRange, AddressRange}
 use Rattle.chip.specs.declared.Protection.{Protection}
-use Rattle.chip.specs.declared.Protection.the-variants.{Open, Protected, Unanswered}
+use Rattle.chip.specs.declared.Protection.the-variants.{Open, Protected, Refused}
 
 -- the lowest protected address is at most this one
 abbrev pub protects : Part → Core → ℕ → Bool
@@ -24,18 +24,18 @@ abbrev pub questionChoice : {A : Type 0} → Part → Core → ℕ → A → A �
 questionChoice P c a two seven done = pick (inRanges P c) (pick (ltb a (P .size)) done seven) two
 
 abbrev pub protection : Part → Core → ℕ → Protection
-protection P c a = questionChoice P c a (Unanswered RecordRange) (Unanswered AddressRange) (pick (protects P c a) Protected Open)
+protection P c a = questionChoice P c a (Refused RecordRange) (Refused AddressRange) (pick (protects P c a) Protected Open)
 
 -- the number of an answer in document 01, and its value: 1 for a protected address
 abbrev pub protectionNumber : Protection → ℕ
 protectionNumber Open = 0
 protectionNumber Protected = 0
-protectionNumber (Unanswered r) = refusalNumber r
+protectionNumber (Refused r) = refusalNumber r
 
 abbrev pub protectionValue : Protection → ℕ
 protectionValue Open = 0
 protectionValue Protected = 1
-protectionValue (Unanswered r) = 0
+protectionValue (Refused r) = 0
 
 -- the number and the value, by the input
 abbrev pub questionNumber : Part → Core → ℕ → ℕ

@@ -19,8 +19,8 @@ abbrev pub cycleFits : Part → ℕ → Bool
 cycleFits P n = leb 1 n && leb n (P .longest)
 
 -- a device with time left has WEL 1 and one thing waiting; with none left, nothing waits
-abbrev pub tied : Core → Bool
-tied c = pick (running c) (on (c .wel) && (waitsStatus (c .waits) || waitsPage (c .waits))) (waitsNothing (c .waits))
+abbrev pub tied : Part → Core → Bool
+tied P c = pick (running c) (on (c .wel) && (waitsStatus (c .waits) || waitsPage (c .waits))) (waitsNothing (c .waits))
 
 -- a status value that waits has bits 6, 5, 4, 1 and 0 at 0; one that does not reads 0
 abbrev pub valueFits : Waiting → Bool
@@ -39,4 +39,4 @@ abbrev pub timeFits : Part → Core → Bool
 timeFits P c = cycleFits P (c .cycle) && leb (c .left) (c .cycle)
 
 unfoldable pub inRanges : Part → Core → Bool
-inRanges P c = flagsFit c && timeFits P c && tied c && waitFits P (c .waits)
+inRanges P c = flagsFit c && timeFits P c && tied P c && waitFits P (c .waits)

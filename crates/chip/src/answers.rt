@@ -11,7 +11,7 @@ impl Protection {
         match self {
             Protection::Open => 0,
             Protection::Protected => 0,
-            Protection::Unanswered(r) => r.number(),
+            Protection::Refused(r) => r.number(),
         }
     }
 
@@ -22,7 +22,7 @@ impl Protection {
         match self {
             Protection::Open => 0,
             Protection::Protected => 1,
-            Protection::Unanswered(_) => 0,
+            Protection::Refused(_) => 0,
         }
     }
 }

@@ -48,7 +48,7 @@ pub struct Core {
 pub enum Protection {
     Open,
     Protected,
-    Unanswered(Refusal),
+    Refused(Refusal),
 }
 
 // What power-up hands back.

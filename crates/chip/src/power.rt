@@ -8,6 +8,7 @@ use crate::Core;
 use crate::PoweredUp;
 use crate::Waiting;
 use crate::ranges::cycle_fits;
+use codes::LONGEST_CYCLE;
 use codes::Outcome;
 use codes::Refusal;
 
@@ -28,15 +29,15 @@ impl Core {
         }
     }
 
-    // The record as delivered: status bits 0, cycle length 5,000, reading 0.
+    // The record as delivered: status bits 0, the longest cycle, reading 0.
     pub fn delivered() -> Core
         ensures { λ r. ⌜ r ≡ delivered m95512 ⌝ }
     {
-        Core::idle(false, false, false, 5000, 0)
+        Core::idle(false, false, false, LONGEST_CYCLE, 0)
     }
 }
 
-// Power-up, for every input: 6 and the delivered record for a cycle length that is not 1 to 5,000.
+// Power-up, for every input: 6 and the delivered record for a cycle length that is not 1 to the longest.
 pub fn power_up(cycle: u32, srwd: bool, bp1: bool, bp0: bool, reading: u32) -> PoweredUp
     ensures { λ r. ⌜ r ≡ poweredUp m95512 cycle srwd bp1 bp0 reading ⌝ }
     ensures { λ r. ⌜ number (r .outcome) ≡ powerUpNumber m95512 cycle ⌝ }

@@ -7,6 +7,9 @@ use crate::Protection;
 use codes::Refusal;
 use codes::lowest_protected;
 
+// Addresses are u32.
+const SIZE: u32 = codes::SIZE as u32;
+
 impl Core {
     // The lowest protected address is at most this one.
     pub fn protects(self, address: u32) -> bool
@@ -22,14 +25,14 @@ impl Core {
         ensures { λ r. ⌜ protectionValue r ≡ questionValue m95512 self address ⌝ }
     {
         if self.in_ranges() {
-            if address < 0x10000 {
+            if address < SIZE {
                 if self.protects(address) {
                     return Protection::Protected;
                 }
                 return Protection::Open;
             }
-            return Protection::Unanswered(Refusal::AddressRange);
+            return Protection::Refused(Refusal::AddressRange);
         }
-        Protection::Unanswered(Refusal::RecordRange)
+        Protection::Refused(Refusal::RecordRange)
     }
 }

@@ -4,12 +4,14 @@ ghost use Rattle.codes.specs.Part.{m95512};
 ghost use Rattle.chip.specs.Ranges.{flagsFit, cycleFits, timeFits, tied, valueFits, pageFits, waitFits, inRanges};
 use crate::Core;
 use crate::Waiting;
+use codes::LONGEST_CYCLE;
+use codes::PAGES;
 
-// The cycle length, 1 to 5,000.
+// The cycle length, 1 to the longest.
 pub fn cycle_fits(cycle: u32) -> bool
     ensures { λ r. ⌜ r ≡ cycleFits m95512 cycle ⌝ }
 {
-    (1 <= cycle) & (cycle <= 5000)
+    (1 <= cycle) & (cycle <= LONGEST_CYCLE)
 }
 
 impl Waiting {
@@ -27,7 +29,7 @@ impl Waiting {
         ensures { λ r. ⌜ r ≡ pageFits m95512 self ⌝ }
     {
         if self.kind == 2 {
-            return self.page < 512;
+            return self.page < PAGES;
         }
         self.page == 0
     }
@@ -54,7 +56,7 @@ impl Core {
     }
 
     fn tied(self) -> bool
-        ensures { λ r. ⌜ r ≡ tied self ⌝ }
+        ensures { λ r. ⌜ r ≡ tied m95512 self ⌝ }
     {
         let kind = self.waits.kind;
         if 0 < self.left {

@@ -12,6 +12,7 @@ use crate::Timed;
 use crate::Waiting;
 use codes::Outcome;
 use codes::Refusal;
+use codes::SIZE;
 use codes::bp0_of;
 use codes::bp1_of;
 use codes::srwd_of;
@@ -126,7 +127,7 @@ pub fn clock_reading(core: Core, reading: u32, memory: &mut [u8]) -> Timed
     ensures { λ r. ⌜ number (r .outcome) ≡ readingNumber m95512 core (now (memory .entry)) ⌝ }
     ensures { λ _. ⌜ now (memory .exit) ≡ clockMemory m95512 reading core (now (memory .entry)) ⌝ }
 {
-    if memory.len() != 65536 {
+    if memory.len() != SIZE {
         return Timed {
             outcome: Outcome::Refused(Refusal::MemoryLength),
             core: core,

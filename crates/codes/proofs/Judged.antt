@@ -6,19 +6,20 @@ use lib.Dec.{ltb}
 use borrow.Author.Tests.{not-false}
 use Rattle.laws.specs.Pick.{pick}
 use Rattle.codes.specs.Part.{Part}
-use Rattle.codes.specs.Verdicts.{verdict, isExecuted, needsNoCycle, needsWel, countFits, guarded, isUnknown}
+use Rattle.codes.specs.Instructions.{row, countFits, guarded}
+use Rattle.codes.specs.Verdicts.{verdict, verdictBy, isExecuted}
 use Rattle.codes.specs.declared.Instruction.{Instruction}
 use Rattle.codes.specs.declared.Verdict.{Verdict}
-use Rattle.codes.specs.declared.Verdict.the-variants.{CycleRan, WelOff, WrongCount, Guarded, OnHold, UnknownCode}
+use Rattle.codes.specs.declared.Verdict.the-variants.{Executed, CycleRan, WelOff, WrongCount, Guarded, OnHold, UnknownCode}
 
 pub record Passed (P : Part) (i : Instruction) (n : ℕ) (ran wel locked protected held : Bool) : Type 0 where
   pub whole : ltb n 8 ≡ false
-  pub free : (needsNoCycle i && ran) ≡ false
-  pub enabled : (needsWel i && not wel) ≡ false
-  pub counted : countFits P i n ≡ true
-  pub unguarded : guarded i locked protected ≡ false
+  pub free : (row P i .idle && ran) ≡ false
+  pub enabled : (row P i .wel && not wel) ≡ false
+  pub counted : countFits (row P i .count) n ≡ true
+  pub unguarded : guarded (row P i .guard) locked protected ≡ false
   pub unheld : held ≡ false
-  pub known : isUnknown i ≡ false
+  pub known : row P i .known ≡ true
 
 -- a choice between failing a test and going on
 passes : (t : Bool) (v o : Verdict) → isExecuted v ≡ false → isExecuted (pick t v o) ≡ true → (t ≡ false) × (isExecuted o ≡ true)
@@ -26,9 +27,14 @@ unfolding pick
 passes true v o n e = absurd (true≢false (sym e ∙ n))
 passes false v o n e = (refl, e)
 
+known-executed : (t : Bool) → isExecuted (pick t Executed UnknownCode) ≡ true → t ≡ true
+unfolding pick
+known-executed true e = refl
+known-executed false e = e
+
 pub passed : (P : Part) (i : Instruction) (n : ℕ) (ran wel locked protected held : Bool)
     → isExecuted (verdict P i n ran wel locked protected held) ≡ true → Passed P i n ran wel locked protected held
-unfolding verdict
+unfolding verdictBy
 passed P i n ran wel locked protected held e =
     let eight = passes _ WrongCount _ refl e in
     let cycle = passes _ CycleRan _ refl (eight .1) in
@@ -36,7 +42,6 @@ passed P i n ran wel locked protected held e =
     let count = passes _ WrongCount _ refl (enable .1) in
     let guard = passes _ Guarded _ refl (count .1) in
     let hold = passes _ OnHold _ refl (guard .1) in
-    let code = passes _ UnknownCode _ refl (hold .1) in
     record {
       whole = eight .0;
       free = cycle .0;
@@ -44,5 +49,5 @@ passed P i n ran wel locked protected held e =
       counted = not-false _ (count .0);
       unguarded = guard .0;
       unheld = hold .0;
-      known = code .0;
+      known = known-executed (row P i .known) (hold .1);
     }

@@ -18,6 +18,8 @@ pub use instructions::WRSR;
 pub use instructions::decode;
 pub use protect::lowest_protected;
 pub use sizes::ADDRESS_BYTES;
+pub use sizes::HEAD;
+pub use sizes::HEAD_BITS;
 pub use sizes::LONGEST_CYCLE;
 pub use sizes::LONGEST_FRAME;
 pub use sizes::MOST;
@@ -59,6 +61,29 @@ pub enum Instruction {
     Read,
     Write,
     Silence,
+}
+
+// Bits at deselect: exactly so many, any number, or so many and more in whole bytes.
+pub enum Count {
+    Exactly(usize),
+    AnyBits,
+    WholeBytes(usize),
+}
+
+// What stops an instruction beside a cycle, WEL and its count: SRWD 1 with W low, or a protected address.
+pub enum Guard {
+    Nothing,
+    StatusLock,
+    AddressLock,
+}
+
+// A row of the table of instructions; specs/Instructions.antt has the table.
+pub struct Row {
+    pub count: Count,
+    pub idle: bool,
+    pub wel: bool,
+    pub guard: Guard,
+    pub known: bool,
 }
 
 // What a deselect decides: the frame is executed, or the first test that failed.

@@ -5,16 +5,23 @@ pub const SIZE: usize = 65536;
 
 pub const PAGE: usize = 128;
 
-pub const PAGES: usize = 512;
+pub const PAGES: u32 = 512;
 
-// Address bytes after the code.
-pub const ADDRESS_BYTES: u8 = 2;
+// Address bytes, and with the code before them what stands before the data of a READ or a WRITE.
+pub const ADDRESS_BYTES: usize = 2;
 
-// Where the count of whole bytes taken stays.
+pub const HEAD: usize = 1 + ADDRESS_BYTES;
+
+pub const HEAD_BITS: usize = 8 * HEAD;
+
+// Where the count of whole bytes taken stays: a WRITE with a data byte.
 pub const MOST: u8 = 4;
 
-// Microseconds of the longest write cycle.
-pub const LONGEST_CYCLE: u32 = 5000;
+// Bits of a WRITE's code, address and first data byte.
+pub const WRITE_BITS: usize = HEAD_BITS + 8;
 
 // Bytes of the longest frame.
 pub const LONGEST_FRAME: usize = 65540;
+
+// Microseconds of the longest write cycle.
+pub const LONGEST_CYCLE: u32 = 5000;

@@ -1,86 +1,90 @@
-// Is a frame executed at its deselect: the table of instructions, column by column, and the verdict over it.
+// Is a frame executed at its deselect: the tests of the instruction's row, one after the other.
 ghost use mathlib.Core.Path.{_≡_};
-ghost use mathlib.Core.Bool.{not, _&&_};
+ghost use mathlib.Core.Bool.{not};
 ghost use Rattle.codes.specs.Part.{m95512};
-ghost use Rattle.codes.specs.Verdicts.{needsNoCycle, needsWel, countFits, guarded, isUnknown, verdict, isExecuted};
+ghost use Rattle.codes.specs.Instructions.{countFits, guarded};
+ghost use Rattle.codes.specs.Verdicts.{letThrough, verdict, verdictBy, isExecuted};
+use crate::Count;
+use crate::Guard;
 use crate::Instruction;
+use crate::Row;
 use crate::Verdict;
+use crate::instructions::row;
 
-// A cycle ran at the eighth edge and the instruction needs none.
-fn cycle_stops(i: Instruction, ran: bool) -> bool
-    ensures { λ r. ⌜ r ≡ (needsNoCycle i && ran) ⌝ }
-{
-    match i {
-        Instruction::Wren => ran,
-        Instruction::Wrdi => ran,
-        Instruction::Rdsr => false,
-        Instruction::Wrsr => ran,
-        Instruction::Read => ran,
-        Instruction::Write => ran,
-        Instruction::Silence => false,
+impl Count {
+    // The count of bits at deselect is not the instruction's.
+    fn stops(self, bits: usize) -> bool
+        ensures { λ r. ⌜ r ≡ not (countFits self bits) ⌝ }
+    {
+        match self {
+            Count::Exactly(count) => bits != count,
+            Count::AnyBits => false,
+            Count::WholeBytes(least) => !((least <= bits) & (bits % 8 == 0)),
+        }
     }
 }
 
-// WEL is 0 and the instruction needs it.
-fn wel_stops(i: Instruction, wel: bool) -> bool
-    ensures { λ r. ⌜ r ≡ (needsWel i && not wel) ⌝ }
-{
-    match i {
-        Instruction::Wren => false,
-        Instruction::Wrdi => false,
-        Instruction::Rdsr => false,
-        Instruction::Wrsr => !wel,
-        Instruction::Read => false,
-        Instruction::Write => !wel,
-        Instruction::Silence => false,
+impl Guard {
+    // What stops a WRSR, and what stops a WRITE.
+    fn stops(self, locked: bool, protected: bool) -> bool
+        ensures { λ r. ⌜ r ≡ guarded self locked protected ⌝ }
+    {
+        match self {
+            Guard::Nothing => false,
+            Guard::StatusLock => locked,
+            Guard::AddressLock => protected,
+        }
     }
 }
 
-// The count of bits at deselect is not the instruction's.
-fn count_stops(i: Instruction, bits: usize) -> bool
-    ensures { λ r. ⌜ r ≡ not (countFits m95512 i bits) ⌝ }
-{
-    match i {
-        Instruction::Wren => bits != 8,
-        Instruction::Wrdi => bits != 8,
-        Instruction::Rdsr => false,
-        Instruction::Wrsr => bits != 16,
-        Instruction::Read => false,
-        Instruction::Write => !((32 <= bits) & (bits % 8 == 0)),
-        Instruction::Silence => false,
+impl Row {
+    // A frame that no cycle, WEL, count or protection stopped.
+    fn let_through(self, held: bool) -> Verdict
+        ensures { λ r. ⌜ r ≡ letThrough self held ⌝ }
+    {
+        if held {
+            return Verdict::OnHold;
+        }
+        if self.known {
+            return Verdict::Executed;
+        }
+        Verdict::UnknownCode
+    }
+
+    // The first test that fails: cycle, WEL, count, protection, hold, unknown code. Fewer than eight bits are no instruction.
+    fn judge(
+        self,
+        bits: usize,
+        ran: bool,
+        wel: bool,
+        locked: bool,
+        protected: bool,
+        held: bool,
+    ) -> Verdict
+        ensures { λ r. ⌜ r ≡ verdictBy self bits ran wel locked protected held ⌝ }
+    {
+        let count = self.count;
+        let guard = self.guard;
+        if bits < 8 {
+            return Verdict::WrongCount;
+        }
+        if self.idle & ran {
+            return Verdict::CycleRan;
+        }
+        if self.wel & !wel {
+            return Verdict::WelOff;
+        }
+        if count.stops(bits) {
+            return Verdict::WrongCount;
+        }
+        if guard.stops(locked, protected) {
+            return Verdict::Guarded;
+        }
+        self.let_through(held)
     }
 }
 
-// What stops a WRSR, and what stops a WRITE.
-fn guarded(i: Instruction, locked: bool, protected: bool) -> bool
-    ensures { λ r. ⌜ r ≡ guarded i locked protected ⌝ }
-{
-    match i {
-        Instruction::Wren => false,
-        Instruction::Wrdi => false,
-        Instruction::Rdsr => false,
-        Instruction::Wrsr => locked,
-        Instruction::Read => false,
-        Instruction::Write => protected,
-        Instruction::Silence => false,
-    }
-}
-
-fn is_unknown(i: Instruction) -> bool
-    ensures { λ r. ⌜ r ≡ isUnknown i ⌝ }
-{
-    match i {
-        Instruction::Wren => false,
-        Instruction::Wrdi => false,
-        Instruction::Rdsr => false,
-        Instruction::Wrsr => false,
-        Instruction::Read => false,
-        Instruction::Write => false,
-        Instruction::Silence => true,
-    }
-}
-
-// The first test that fails: cycle, WEL, count, protection, hold, unknown code. Fewer than eight bits are no instruction.
+// What a deselect decides of a frame with this instruction.
 pub fn judge(
     i: Instruction,
     bits: usize,
@@ -92,28 +96,7 @@ pub fn judge(
 ) -> Verdict
     ensures { λ r. ⌜ r ≡ verdict m95512 i bits ran wel locked protected held ⌝ }
 {
-    if bits < 8 {
-        return Verdict::WrongCount;
-    }
-    if cycle_stops(i, ran) {
-        return Verdict::CycleRan;
-    }
-    if wel_stops(i, wel) {
-        return Verdict::WelOff;
-    }
-    if count_stops(i, bits) {
-        return Verdict::WrongCount;
-    }
-    if guarded(i, locked, protected) {
-        return Verdict::Guarded;
-    }
-    if held {
-        return Verdict::OnHold;
-    }
-    if is_unknown(i) {
-        return Verdict::UnknownCode;
-    }
-    Verdict::Executed
+    row(i).judge(bits, ran, wel, locked, protected, held)
 }
 
 impl Verdict {

@@ -10,10 +10,10 @@ use Rattle.codes.specs.Part.{Part}
 use Rattle.chip.specs.Records.{running}
 use Rattle.frames.specs.Play.{Act, FrameBench, actedAll}
 use Rattle.driver.specs.declared.Driven.{Driven}
-use Rattle.driver.specs.declared.Answer.{Answer}
+use Rattle.driver.specs.declared.RunReply.{RunReply}
 use Rattle.driver.specs.Sequence.{sent, firstWait, Ending, allDone, timedOut, Run, stopped, begun, allParts, run}
 use Rattle.driver.specs.Answers.{endingAnswer, countedAnswer, partsAnswer, runAnswer}
-use Rattle.driver.proofs.Playing.{played-append, sent-append}
+use Rattle.driver.proofs.Playing.{acted-all-append, sent-append}
 
 module _ (P : Part) (i limit a : ℕ) (bytes : List ℕ) (d : FrameBench) where
   abbrev pub first : List Act
@@ -63,12 +63,12 @@ module _ (P : Part) (i limit a : ℕ) (bytes : List ℕ) (d : FrameBench) where
       let parts = allParts P i limit a bytes rested in
       let there : whole ≡ begun first parts = run-parts some (sym (ap (λ (x : FrameBench). running (x .core)) e) ∙ idle) in
       let after : actedAll P (parts .acts) rested ≡ actedAll P (whole .acts) d =
-      sym (ap (λ (x : Run). actedAll P (x .acts) d) there ∙ played-append P first (parts .acts) d) in
+      sym (ap (λ (x : Run). actedAll P (x .acts) d) there ∙ acted-all-append P first (parts .acts) d) in
       let answer : partsAnswer (sent first) parts ≡ runAnswer whole =
       ap (λ (k : ℕ). countedAnswer k parts) (sym (sent-append first (parts .acts))) ∙ ap runAnswer (sym there) in (
         p
             ∙ rw (e, counted)
-            (ap (λ (x : Answer). record { answer = x; core = actedAll P (parts .acts) rested .core }) answer
+            (ap (λ (x : RunReply). record { answer = x; core = actedAll P (parts .acts) rested .core }) answer
             ∙ ap (λ (x : FrameBench). record { answer = runAnswer whole; core = x .core }) after),
         q ∙ rw e (ap (λ (x : FrameBench). x .memory) after),
       )

@@ -4,13 +4,13 @@ use mathlib.Core.Path.{_≡_, ap, sym, _∙_}
 use mathlib.Core.List.{List, [], _∷_, _++_}
 use Prim.Native.Nat.{ℕ, _+_, _-_, _≤_}
 use native.Mathlib.Omega.{arith}
-use Rattle.codes.specs.Part.{Part, m95512}
+use Rattle.codes.specs.Part.{Part}
 use Rattle.chip.specs.Records.{status}
 use Rattle.chip.specs.declared.Core.{Core}
 use Rattle.frames.specs.Play.{Act, FrameBench, acted, actedAll, frameBench}
 use Rattle.driver.specs.Sequence.{sent, rdsr, latePoll, pollsOn, firstWait, pageWait, wrenAndWrite, pageActs}
 use Rattle.driver.specs.declared.waiting.Waited.{Waited}
-use Rattle.driver.proofs.Playing.{played-append, sent-append}
+use Rattle.driver.proofs.Playing.{acted-all-append, sent-append}
 use Rattle.driver.proofs.Frames.{poll-leaves}
 use Rattle.driver.proofs.Waits.{sent-most}
 
@@ -23,7 +23,7 @@ pub follows : (P : Part) (first : List Act) (rest : FrameBench → List Act) (d 
     → Follows P (first ++ rest (actedAll P first d)) d (rest x) x (sent first)
 follows P first rest d x e =
     record {
-      leaves = rw e (sym (played-append P first (rest (actedAll P first d)) d));
+      leaves = rw e (sym (acted-all-append P first (rest (actedAll P first d)) d));
       counts = rw e (omega (arith, sent-append first (rest (actedAll P first d))));
     }
 
@@ -35,25 +35,27 @@ Told P acts d r m =
 pub told : (P : Part) (all : List Act) (d : FrameBench) (rest : List Act) (x : FrameBench) (n : ℕ) → Follows P all d rest x n
     → (w r : Waited) (m : List ℕ) → Told P rest x w m → r ≡ record { status = w .status; core = w .core; frames = w .frames + n } → Told P all d r m
 told P all d rest x n f w r m t e =
-    rw e (t .0 ∙ ap (λ (y : FrameBench). y .core) (f .leaves), (t .1 .0, (ap (λ (k : ℕ). k + n) (t .1 .1 .0) ∙ f .counts, t .1 .1 .1 ∙ ap (λ (y : FrameBench). y .memory) (f .leaves))))
+    let core = t .0 ∙ ap (λ (y : FrameBench). y .core) (f .leaves) in
+    let frames = ap (λ (k : ℕ). k + n) (t .1 .1 .0) ∙ f .counts in
+    rw e (core, (t .1 .0, (frames, t .1 .1 .1 ∙ ap (λ (y : FrameBench). y .memory) (f .leaves))))
 
 -- a poll leaves the device as it was
-pub rdsr-leaves : (d : FrameBench) → acted m95512 rdsr d ≡ d
-rdsr-leaves d = ap (λ (c : Core). frameBench c (d .memory)) (poll-leaves (d .core))
+pub rdsr-leaves : (P : Part) (d : FrameBench) → acted P rdsr d ≡ d
+rdsr-leaves P d = ap (λ (c : Core). frameBench c (d .memory)) (poll-leaves P (d .core))
 
-module _ (i limit : ℕ) (d x : FrameBench) where
-  pub first-wait : x ≡ d → Follows m95512 (firstWait m95512 i limit d) d (pollsOn m95512 i (limit - 1) x) x 1
+module _ (P : Part) (i limit : ℕ) (d x : FrameBench) where
+  pub first-wait : x ≡ d → Follows P (firstWait P i limit d) d (pollsOn P i (limit - 1) x) x 1
   unfolding firstWait
-  first-wait e = follows m95512 (rdsr ∷ []) (pollsOn m95512 i (limit - 1)) d x (e ∙ sym (rdsr-leaves d))
+  first-wait e = follows P (rdsr ∷ []) (pollsOn P i (limit - 1)) d x (e ∙ sym (rdsr-leaves P d))
 
-  pub page-wait : x ≡ actedAll m95512 (latePoll i d) d → Follows m95512 (pageWait m95512 i limit d) d (pollsOn m95512 i (limit - 1) x) x 1
+  pub page-wait : x ≡ actedAll P (latePoll i d) d → Follows P (pageWait P i limit d) d (pollsOn P i (limit - 1) x) x 1
   unfolding pageWait
-  page-wait e = follows m95512 (latePoll i d) (pollsOn m95512 i (limit - 1)) d x e
+  page-wait e = follows P (latePoll i d) (pollsOn P i (limit - 1)) d x e
 
-  pub page-acts : (a : ℕ) (bytes : List ℕ) → x ≡ actedAll m95512 (wrenAndWrite m95512 a bytes) d
-      → Follows m95512 (pageActs m95512 i limit a bytes d) d (pageWait m95512 i limit x) x 2
+  pub page-acts : (a : ℕ) (bytes : List ℕ) → x ≡ actedAll P (wrenAndWrite P a bytes) d
+      → Follows P (pageActs P i limit a bytes d) d (pageWait P i limit x) x 2
   unfolding pageActs
-  page-acts a bytes e = follows m95512 (wrenAndWrite m95512 a bytes) (pageWait m95512 i limit) d x e
+  page-acts a bytes e = follows P (wrenAndWrite P a bytes) (pageWait P i limit) d x e
 
 -- ---- a wait ends within its limit
 
@@ -71,4 +73,5 @@ module _ (P : Part) (i limit : ℕ) (d : FrameBench) (some : 1 ≤ limit) where
 pub acts-most : (P : Part) (i limit a : ℕ) (bytes : List ℕ) (d : FrameBench) → 1 ≤ limit → sent (pageActs P i limit a bytes d) ≤ limit + 2
 unfolding pageActs
 acts-most P i limit a bytes d h =
-    omega (arith, sent-append (wrenAndWrite P a bytes) (pageWait P i limit (actedAll P (wrenAndWrite P a bytes) d)), page-most P i limit (actedAll P (wrenAndWrite P a bytes) d) h)
+    let begun = actedAll P (wrenAndWrite P a bytes) d in
+    omega (arith, sent-append (wrenAndWrite P a bytes) (pageWait P i limit begun), page-most P i limit begun h)

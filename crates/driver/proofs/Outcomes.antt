@@ -10,7 +10,7 @@ use lib.ListN.{length}
 use borrow.Author.Tests.{eqb-true, leb-true, le-leb, lt-leb}
 use Rattle.laws.specs.Pick.{pick, pick-ap, pick-cong}
 use Rattle.laws.specs.And.{and-4-out}
-use Rattle.codes.specs.Part.{Part, m95512}
+use Rattle.codes.specs.Part.{Part}
 use Rattle.chip.specs.Ranges.{inRanges}
 use Rattle.chip.specs.declared.Core.{Core}
 use Rattle.codes.specs.declared.Refusal.{Refusal}
@@ -20,11 +20,11 @@ use Rattle.codes.specs.declared.Outcome.the-variants as outcome
 use Rattle.frames.proofs.Outcomes.{not-refused}
 use Rattle.frames.specs.Play.{FrameBench, actedAll, frameBench}
 use Rattle.driver.specs.declared.Sent.{Sent}
-use Rattle.driver.specs.declared.Answer.{Answer}
-use Rattle.driver.specs.declared.Answer.the-variants.{Refused}
+use Rattle.driver.specs.declared.RunReply.{RunReply}
+use Rattle.driver.specs.declared.RunReply.the-variants.{Refused}
 use Rattle.driver.specs.declared.Driven.{Driven}
 use Rattle.driver.specs.Sequence.{Ending, allDone, timedOut, notTaken, Run, run}
-use Rattle.driver.specs.Answers.{answerNumber, answerPages, answerFrames, endingAnswer, runAnswer, pollsFit, driveChoice, driveOutcome, endingNumber, driveNumber, drivePages, driveFrames, answered, driven, drivenMemory}
+use Rattle.driver.specs.Answers.{runReplyNumber, runReplyPages, runReplyFrames, endingAnswer, runAnswer, pollsFit, driveChoice, driveOutcome, endingNumber, driveNumber, drivePages, driveFrames, runReply, driven, drivenMemory}
 
 -- the test that makes no sum
 pub fits-either : (a n m : ℕ) → n ≤ m → leb a (m - n) ≡ leb (a + n) m
@@ -33,22 +33,22 @@ fits-either a n m h = elim (decLe (a + n) m) [
   | no f ↦ lt-leb a (m - n) (omega arith) ∙ sym (lt-leb (a + n) m (omega arith))
 ]
 
-pub record Taken (c : Core) (size a len interval limit : ℕ) : Type 0 where
-  pub whole : size ≡ 65536
-  pub ranges : inRanges m95512 c ≡ true
-  pub inside : a + len ≤ 65536
+pub record Taken (P : Part) (c : Core) (size a len interval limit : ℕ) : Type 0 where
+  pub whole : size ≡ P .size
+  pub ranges : inRanges P c ≡ true
+  pub inside : a + len ≤ P .size
   pub interval-some : 1 ≤ interval
-  pub interval-most : interval ≤ 5000
-  pub limits : (1 ≤ limit) × (limit ≤ 5001)
+  pub interval-most : interval ≤ P .longest
+  pub limits : (1 ≤ limit) × (limit ≤ P .longest + 1)
 
-module _ (c : Core) (size a len interval limit : ℕ) where
-  pub taken : {o : Outcome} → o ≡ driveOutcome m95512 c size a len interval limit → o ≡ outcome.Done → Taken c size a len interval limit
+module _ (P : Part) (c : Core) (size a len interval limit : ℕ) where
+  pub taken : {o : Outcome} → o ≡ driveOutcome P c size a len interval limit → o ≡ outcome.Done → Taken P c size a len interval limit
   taken found done =
       let memory = not-refused _ _ MemoryLength (sym found ∙ done) in
       let ranges = not-refused _ _ RecordRange (memory .1) in
       let address = not-refused _ _ AddressRange (ranges .1) in
       let polls = not-refused _ _ PollRange (address .1) in
-      let four = and-4-out (leb 1 interval) (leb interval 5000) (leb 1 limit) (leb limit 5001) (polls .0) in
+      let four = and-4-out (leb 1 interval) (leb interval (P .longest)) (leb 1 limit) (leb limit (P .longest + 1)) (polls .0) in
       record {
         whole = eqb-true _ _ (memory .0);
         ranges = ranges .0;
@@ -60,28 +60,28 @@ module _ (c : Core) (size a len interval limit : ℕ) where
 
 -- ---- the number and the counts
 
-ending-number : (e : Ending) (s : Sent) → answerNumber (endingAnswer e s) ≡ endingNumber e
+ending-number : (e : Ending) (s : Sent) → runReplyNumber (endingAnswer e s) ≡ endingNumber e
 ending-number allDone s = refl
 ending-number timedOut s = refl
 ending-number notTaken s = refl
 
-ending-pages : (e : Ending) (s : Sent) → answerPages (endingAnswer e s) ≡ s .pages
+ending-pages : (e : Ending) (s : Sent) → runReplyPages (endingAnswer e s) ≡ s .pages
 ending-pages allDone s = refl
 ending-pages timedOut s = refl
 ending-pages notTaken s = refl
 
-ending-frames : (e : Ending) (s : Sent) → answerFrames (endingAnswer e s) ≡ s .frames
+ending-frames : (e : Ending) (s : Sent) → runReplyFrames (endingAnswer e s) ≡ s .frames
 ending-frames allDone s = refl
 ending-frames timedOut s = refl
 ending-frames notTaken s = refl
 
 module _ (P : Part) (c : Core) (size a len interval limit : ℕ) (r : Run) where
   -- a function of the answer, taken past its four refusals
-  pub drive-by : (f : Answer → ℕ) {n : ℕ} → f (runAnswer r) ≡ n
-      → f (answered (driveOutcome P c size a len interval limit) r)
+  pub drive-by : (f : RunReply → ℕ) {n : ℕ} → f (runAnswer r) ≡ n
+      → f (runReply (driveOutcome P c size a len interval limit) r)
       ≡ driveChoice P c size a len interval limit (f (Refused MemoryLength)) (f (Refused RecordRange)) (f (Refused AddressRange)) (f (Refused PollRange)) n
   drive-by f e =
-      let of : Outcome → ℕ = λ o. f (answered o r) in
+      let of : Outcome → ℕ = λ o. f (runReply o r) in
       pick-ap of (eqb size (P .size)) _ _
       ∙ pick-cong (eqb size (P .size)) (f (Refused MemoryLength)) (λ m. pick-ap of (inRanges P c) _ _
       ∙ pick-cong (inRanges P c) (f (Refused RecordRange)) (λ n. pick-ap of (leb (a + len) (P .size)) _ _
@@ -100,27 +100,28 @@ module _ (P : Part) (c : Core) (m : List ℕ) (a : ℕ) (bytes : List ℕ) (inte
   abbrev pub HandsBack : Driven → List ℕ → Type 0
   HandsBack r m′ =
       (r ≡ driven P c m a bytes interval limit)
-      × ((answerNumber (r .answer) ≡ driveNumber P c (length m) a (length bytes) interval limit (whole .ending))
-      × ((answerPages (r .answer) ≡ drivePages P c m a bytes interval limit)
-      × ((answerFrames (r .answer) ≡ driveFrames P c m a bytes interval limit)
+      × ((runReplyNumber (r .answer) ≡ driveNumber P c (length m) a (length bytes) interval limit (whole .ending))
+      × ((runReplyPages (r .answer) ≡ drivePages P c m a bytes interval limit)
+      × ((runReplyFrames (r .answer) ≡ driveFrames P c m a bytes interval limit)
       × (m′ ≡ drivenMemory P c m a bytes interval limit))))
 
-  by : (f : Answer → ℕ) {n : ℕ} (o : Outcome) → driveOutcome P c (length m) a (length bytes) interval limit ≡ o → f (runAnswer whole) ≡ n
-      → f (answered o whole)
-      ≡ driveChoice P c (length m) a (length bytes) interval limit (f (Refused MemoryLength)) (f (Refused RecordRange)) (f (Refused AddressRange)) (f (Refused PollRange)) n
-  by f o e h = ap (λ (x : Outcome). f (answered x whole)) (sym e) ∙ drive-by P c (length m) a (length bytes) interval limit whole f h
+  by : (f : RunReply → ℕ) {n : ℕ} (o : Outcome) → driveOutcome P c (length m) a (length bytes) interval limit ≡ o → f (runAnswer whole) ≡ n
+      → f (runReply o whole)
+      ≡ driveChoice P c (length m) a (length bytes) interval limit
+      (f (Refused MemoryLength)) (f (Refused RecordRange)) (f (Refused AddressRange)) (f (Refused PollRange)) n
+  by f o e h = ap (λ (x : Outcome). f (runReply x whole)) (sym e) ∙ drive-by P c (length m) a (length bytes) interval limit whole f h
 
   numbers : (o : Outcome) → driveOutcome P c (length m) a (length bytes) interval limit ≡ o
-      → answerNumber (answered o whole) ≡ driveNumber P c (length m) a (length bytes) interval limit (whole .ending)
-  numbers o e = by answerNumber o e (ending-number (whole .ending) _)
+      → runReplyNumber (runReply o whole) ≡ driveNumber P c (length m) a (length bytes) interval limit (whole .ending)
+  numbers o e = by runReplyNumber o e (ending-number (whole .ending) _)
 
   pages : (o : Outcome) → driveOutcome P c (length m) a (length bytes) interval limit ≡ o
-      → answerPages (answered o whole) ≡ drivePages P c m a bytes interval limit
-  pages o e = by answerPages o e (ending-pages (whole .ending) _)
+      → runReplyPages (runReply o whole) ≡ drivePages P c m a bytes interval limit
+  pages o e = by runReplyPages o e (ending-pages (whole .ending) _)
 
   frames : (o : Outcome) → driveOutcome P c (length m) a (length bytes) interval limit ≡ o
-      → answerFrames (answered o whole) ≡ driveFrames P c m a bytes interval limit
-  frames o e = by answerFrames o e (ending-frames (whole .ending) _)
+      → runReplyFrames (runReply o whole) ≡ driveFrames P c m a bytes interval limit
+  frames o e = by runReplyFrames o e (ending-frames (whole .ending) _)
 
   pub drove : (r : Driven) (m′ : List ℕ) {o : Outcome} → o ≡ driveOutcome P c (length m) a (length bytes) interval limit → o ≡ outcome.Done
       → r ≡ record { answer = runAnswer whole; core = actedAll P (whole .acts) began .core } → m′ ≡ actedAll P (whole .acts) began .memory → HandsBack r m′

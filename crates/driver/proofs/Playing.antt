@@ -7,9 +7,9 @@ use Rattle.codes.specs.Part.{Part}
 use Rattle.frames.specs.Play.{Act, frame, reading, FrameBench, acted, actedAll}
 use Rattle.driver.specs.Sequence.{sent}
 
-pub played-append : (P : Part) (xs ys : List Act) (d : FrameBench) → actedAll P (xs ++ ys) d ≡ actedAll P ys (actedAll P xs d)
-played-append P [] ys d = refl
-played-append P (x ∷ xs) ys d = played-append P xs ys (acted P x d)
+pub acted-all-append : (P : Part) (xs ys : List Act) (d : FrameBench) → actedAll P (xs ++ ys) d ≡ actedAll P ys (actedAll P xs d)
+acted-all-append P [] ys d = refl
+acted-all-append P (x ∷ xs) ys d = acted-all-append P xs ys (acted P x d)
 
 pub sent-append : (xs ys : List Act) → sent (xs ++ ys) ≡ sent xs + sent ys
 sent-append [] ys = omega arith

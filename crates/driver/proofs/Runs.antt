@@ -7,19 +7,21 @@ use native.Mathlib.Decide.{decLe}
 use native.Mathlib.Omega.{arith}
 use lib.ListN.{length}
 use Rattle.laws.specs.Pick.{at-yes, at-no}
-use Rattle.codes.specs.Part.{Part}
+use Rattle.codes.specs.Part.{Part, pages}
 use Rattle.codes.specs.Status.{on}
 use Rattle.chip.specs.Records.{running}
+use Rattle.codes.proofs.Sound.{Sound}
+use Rattle.codes.proofs.Starts.{page-of-memory}
 use Rattle.split.specs.Split.{count, splitAddress}
 use Rattle.split.specs.Pieces.{piece}
 use Rattle.split.proofs.Parts.{there}
 use Rattle.split.proofs.Numbers.{count-formula}
 use Rattle.frames.specs.Play.{Act, FrameBench, acted, actedAll}
-use Rattle.driver.specs.declared.Answer.the-variants.{Done, TimedOut, NotTaken}
+use Rattle.driver.specs.declared.RunReply.the-variants.{Done, TimedOut, NotTaken}
 use Rattle.driver.specs.declared.Driven.{Driven}
 use Rattle.driver.specs.Sequence.{sent, wrdi, pageActs, Ending, allDone, timedOut, notTaken, Run, stopped, pageDone, pagesFrom}
 use Rattle.driver.specs.Answers.{endingAnswer, partsAnswer}
-use Rattle.driver.proofs.Playing.{played-append, sent-append}
+use Rattle.driver.proofs.Playing.{acted-all-append, sent-append}
 
 module _ (P : Part) (i limit a : ℕ) (bytes : List ℕ) where
   -- part k's acts, and the device after them
@@ -90,7 +92,7 @@ module _ (P : Part) (i limit a : ℕ) (bytes : List ℕ) where
         record {
           leaves =
               ap (λ (y : FrameBench). actedAll P (rest (k + 1) x .acts) y) e
-              ∙ sym (played-append P (partActs k d) (rest (k + 1) x .acts) d)
+              ∙ sym (acted-all-append P (partActs k d) (rest (k + 1) x .acts) d)
               ∙ sym (ap (λ (q : Run). actedAll P (q .acts) d) there)
               ∙ o .leaves;
           pages = omega (arith, ap (λ (q : Run). q .pages) there, o .pages);
@@ -125,7 +127,8 @@ module _ (P : Part) (i limit a : ℕ) (bytes : List ℕ) where
     rest-late k frames f d x h e g r o =
         let one : parts - k ≡ suc (parts - (k + 1)) = omega arith in
         rest-ends k frames (frames + f) d x (partActs k d) timedOut
-        (ap (λ (n : ℕ). pagesFrom P i limit a bytes n k d) one ∙ pages-late (parts - (k + 1)) k d (sym (ap (λ (y : FrameBench). running (y .core)) e) ∙ r)) e (ap (λ (n : ℕ). frames + n) g) o
+        (ap (λ (n : ℕ). pagesFrom P i limit a bytes n k d) one
+        ∙ pages-late (parts - (k + 1)) k d (sym (ap (λ (y : FrameBench). running (y .core)) e) ∙ r)) e (ap (λ (n : ℕ). frames + n) g) o
 
     pub rest-untaken : (k frames f : ℕ) (d x y : FrameBench) → k < parts → x ≡ afterPart k d → f ≡ sent (partActs k d)
         → running (x .core) ≡ false → on (x .core .wel) ≡ true → y ≡ acted P wrdi x → Rest k frames d
@@ -136,7 +139,7 @@ module _ (P : Part) (i limit a : ℕ) (bytes : List ℕ) where
         rest-ends k frames (frames + f + 1) d y (partActs k d ++ (wrdi ∷ [])) notTaken
         (ap (λ (n : ℕ). pagesFrom P i limit a bytes n k d) one
         ∙ pages-untaken (parts - (k + 1)) k d (sym (ap (λ (z : FrameBench). running (z .core)) e) ∙ r) (sym (ap (λ (z : FrameBench). on (z .core .wel)) e) ∙ w))
-        (last ∙ ap (acted P wrdi) e ∙ sym (played-append P (partActs k d) (wrdi ∷ []) d)) counted o
+        (last ∙ ap (acted P wrdi) e ∙ sym (acted-all-append P (partActs k d) (wrdi ∷ []) d)) counted o
 
     pub rest-done : (k frames : ℕ) (d : FrameBench) → parts ≤ k → Rest k frames d
         → Ended (record { answer = Done (record { pages = k; frames = frames }); core = d .core }) (d .memory)
@@ -146,11 +149,12 @@ module _ (P : Part) (i limit a : ℕ) (bytes : List ℕ) where
   pub ended-of : {r : Driven} {m : List ℕ} (parts n before : ℕ) (d₀ : FrameBench) → parts ≡ n → Ended parts before d₀ r m → Ended n before d₀ r m
   ended-of {r} {m} parts n before d₀ e t = subst (λ (k : ℕ). Ended k before d₀ r m) e t
 
--- a run has at most 512 parts
-pub parts-few : (a n : ℕ) → count 65536 128 a n ≤ 512
-parts-few a n = elim (decLe 1 (count 65536 128 a n)) [
+-- a run has at most as many parts as the memory has pages
+pub parts-few : (P : Part) (sound : Sound P) (a n : ℕ) → count (P .size) (P .page) a n ≤ pages P
+parts-few P sound a n = elim (decLe 1 (count (P .size) (P .page) a n)) [
   | yes h ↦
-      let t = there 65536 128 a n h in
-      omega (arith, t .inside, t .some, count-formula 65536 128 a n (t .inside) (t .some))
+      let t = there (P .size) (P .page) a n h in
+      let last = page-of-memory sound (a + n - 1) (omega (arith, t .inside, t .some)) in
+      omega (arith, count-formula (P .size) (P .page) a n (t .inside) (t .some))
   | no h ↦ omega arith
 ]

@@ -17,7 +17,7 @@ use Rattle.chip.specs.declared.Core.{Core}
 use Rattle.chip.proofs.Cases.{wip}
 use Rattle.frames.specs.Play.{Act, FrameBench, actedAll}
 use Rattle.driver.specs.Sequence.{sent, latePoll, pollsOn}
-use Rattle.driver.proofs.Playing.{played-append, sent-append}
+use Rattle.driver.proofs.Playing.{acted-all-append, sent-append}
 
 module _ (P : Part) (i : ℕ) (d : FrameBench) where
   -- the device after a poll
@@ -39,11 +39,11 @@ module _ (P : Part) (i : ℕ) (d : FrameBench) where
   polls-on-none k e = rw e refl
 
   -- what a poll leaves to be played, and to be counted
-  pub played-busy : (j k : ℕ) → j ≡ suc k → running (d .core) ≡ true → actedAll P (pollsOn P i j d) d ≡ actedAll P (pollsOn P i k polled) polled
-  played-busy j k e r =
+  pub acted-all-busy : (j k : ℕ) → j ≡ suc k → running (d .core) ≡ true → actedAll P (pollsOn P i j d) d ≡ actedAll P (pollsOn P i k polled) polled
+  acted-all-busy j k e r =
       ap (λ (n : ℕ). actedAll P (pollsOn P i n d) d) e
       ∙ ap (λ (acts : List Act). actedAll P acts d) (polls-on-busy k r)
-      ∙ played-append P (latePoll i d) (pollsOn P i k polled) d
+      ∙ acted-all-append P (latePoll i d) (pollsOn P i k polled) d
 
   pub sent-busy : (j k : ℕ) → j ≡ suc k → running (d .core) ≡ true → sent (pollsOn P i j d) ≡ 1 + sent (pollsOn P i k polled)
   sent-busy j k e r =
@@ -75,7 +75,8 @@ other-so false e = refl
 -- it goes on where a poll is left and WIP is 1 ..
 pub goes-on : (n left s : ℕ) (c : Core) → s ≡ status c → (ltb n left && eqb (bitAnd s 1) 1) ≡ true → (n < left) × (running c ≡ true)
 goes-on n left s c e t =
-    (ltb-true n left (and-left (ltb n left) (eqb (bitAnd s 1) 1) t), one-so (running c) (sym (seen s c e) ∙ eqb-true (bitAnd s 1) 1 (and-right (ltb n left) (eqb (bitAnd s 1) 1) t)))
+    let wip = and-right (ltb n left) (eqb (bitAnd s 1) 1) t in
+    (ltb-true n left (and-left (ltb n left) (eqb (bitAnd s 1) 1) t), one-so (running c) (sym (seen s c e) ∙ eqb-true (bitAnd s 1) 1 wip))
 
 -- .. and else nothing is left to do
 pub is-over : (P : Part) (i n left s : ℕ) (d : FrameBench) → s ≡ status (d .core) → (ltb n left && eqb (bitAnd s 1) 1) ≡ false → pollsOn P i (left - n) d ≡ []
@@ -97,14 +98,16 @@ module _ (P : Part) (i left : ℕ) (d₀ : FrameBench) where
       let all : left - 0 ≡ left = omega arith in
       record { leaves = ap (λ (k : ℕ). actedAll P (pollsOn P i k d₀) d₀) all; counts = rw all (omega arith) }
 
-  pub onward-next : (n : ℕ) (d d′ : FrameBench) → d′ ≡ actedAll P (latePoll i d) d → n < left → running (d .core) ≡ true → Onward P i left d₀ n d → Onward P i left d₀ (n + 1) d′
+  pub onward-next : (n : ℕ) (d d′ : FrameBench) → d′ ≡ actedAll P (latePoll i d) d → n < left → running (d .core) ≡ true
+      → Onward P i left d₀ n d → Onward P i left d₀ (n + 1) d′
   onward-next n d d′ e h r o =
       let one : left - n ≡ suc (left - (n + 1)) = omega arith in
       record {
-        leaves = rw e (sym (played-busy P i d (left - n) (left - (n + 1)) one r) ∙ o .leaves);
+        leaves = rw e (sym (acted-all-busy P i d (left - n) (left - (n + 1)) one r) ∙ o .leaves);
         counts = rw e (omega (arith, sent-busy P i d (left - n) (left - (n + 1)) one r, o .counts));
       }
 
-  pub onward-last : (n : ℕ) (d : FrameBench) → pollsOn P i (left - n) d ≡ [] → Onward P i left d₀ n d → (d ≡ actedAll P (pollsOn P i left d₀) d₀) × (n ≡ sent (pollsOn P i left d₀))
+  pub onward-last : (n : ℕ) (d : FrameBench) → pollsOn P i (left - n) d ≡ [] → Onward P i left d₀ n d
+      → (d ≡ actedAll P (pollsOn P i left d₀) d₀) × (n ≡ sent (pollsOn P i left d₀))
   onward-last n d e o =
       (sym (ap (λ (acts : List Act). actedAll P acts d) e) ∙ o .leaves, omega (arith, ap sent e, o .counts))

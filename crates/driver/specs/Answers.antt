@@ -14,48 +14,48 @@ use Rattle.codes.specs.declared.Outcome.{Outcome}
 use Rattle.codes.specs.declared.Outcome.the-variants as outcome
 use Rattle.frames.specs.Play.{FrameBench, actedAll, frameBench}
 use Rattle.driver.specs.declared.Sent.{Sent}
-use Rattle.driver.specs.declared.Answer.{Answer}
-use Rattle.driver.specs.declared.Answer.the-variants.{Done, TimedOut, NotTaken, Refused}
+use Rattle.driver.specs.declared.RunReply.{RunReply}
+use Rattle.driver.specs.declared.RunReply.the-variants.{Done, TimedOut, NotTaken, Refused}
 use Rattle.driver.specs.declared.Driven.{Driven}
 use Rattle.driver.specs.Sequence.{sent, Ending, allDone, timedOut, notTaken, Run, run}
 
 -- ---- the answer
 
 -- its number in document 01
-abbrev pub answerNumber : Answer → ℕ
-answerNumber (Done s) = 0
-answerNumber (TimedOut s) = 9
-answerNumber (NotTaken s) = 10
-answerNumber (Refused r) = refusalNumber r
+abbrev pub runReplyNumber : RunReply → ℕ
+runReplyNumber (Done s) = 0
+runReplyNumber (TimedOut s) = 9
+runReplyNumber (NotTaken s) = 10
+runReplyNumber (Refused r) = refusalNumber r
 
 -- pages done, and frames sent: every count is 0 in a refusal
-abbrev pub answerPages : Answer → ℕ
-answerPages (Done s) = s .pages
-answerPages (TimedOut s) = s .pages
-answerPages (NotTaken s) = s .pages
-answerPages (Refused r) = 0
+abbrev pub runReplyPages : RunReply → ℕ
+runReplyPages (Done s) = s .pages
+runReplyPages (TimedOut s) = s .pages
+runReplyPages (NotTaken s) = s .pages
+runReplyPages (Refused r) = 0
 
-abbrev pub answerFrames : Answer → ℕ
-answerFrames (Done s) = s .frames
-answerFrames (TimedOut s) = s .frames
-answerFrames (NotTaken s) = s .frames
-answerFrames (Refused r) = 0
+abbrev pub runReplyFrames : RunReply → ℕ
+runReplyFrames (Done s) = s .frames
+runReplyFrames (TimedOut s) = s .frames
+runReplyFrames (NotTaken s) = s .frames
+runReplyFrames (Refused r) = 0
 
 -- by the ending of a run
-abbrev pub endingAnswer : Ending → Sent → Answer
+abbrev pub endingAnswer : Ending → Sent → RunReply
 endingAnswer allDone s = Done s
 endingAnswer timedOut s = TimedOut s
 endingAnswer notTaken s = NotTaken s
 
 -- of a run in which so many frames were sent ..
-abbrev pub countedAnswer : ℕ → Run → Answer
+abbrev pub countedAnswer : ℕ → Run → RunReply
 countedAnswer frames r = endingAnswer (r .ending) (record { pages = r .pages; frames = frames })
 
 -- .. its own, and, for its page parts, some before them
-abbrev pub runAnswer : Run → Answer
+abbrev pub runAnswer : Run → RunReply
 runAnswer r = countedAnswer (sent (r .acts)) r
 
-abbrev pub partsAnswer : ℕ → Run → Answer
+abbrev pub partsAnswer : ℕ → Run → RunReply
 partsAnswer before r = countedAnswer (before + sent (r .acts)) r
 
 -- ---- the refusals: 1, 2, 7, 8 in that order, also with no data
@@ -98,9 +98,9 @@ driveFrames P c m a bytes interval limit =
 
 -- ---- what is handed back, and what is left in the memory
 
-abbrev pub answered : Outcome → Run → Answer
-answered outcome.Done r = runAnswer r
-answered (outcome.Refused e) r = Refused e
+abbrev pub runReply : Outcome → Run → RunReply
+runReply outcome.Done r = runAnswer r
+runReply (outcome.Refused e) r = Refused e
 
 abbrev pub leaves : Part → Run → Core → List ℕ → FrameBench
 leaves P r c m = actedAll P (r .acts) (frameBench c m)
@@ -109,7 +109,7 @@ unfoldable pub driven : Part → Core → List ℕ → ℕ → List ℕ → ℕ 
 driven P c m a bytes interval limit =
     let o = driveOutcome P c (length m) a (length bytes) interval limit in
     let r = run P interval limit a bytes (frameBench c m) in
-    record { answer = answered o r; core = pick (isDone o) (leaves P r c m .core) c }
+    record { answer = runReply o r; core = pick (isDone o) (leaves P r c m .core) c }
 
 unfoldable pub drivenMemory : Part → Core → List ℕ → ℕ → List ℕ → ℕ → ℕ → List ℕ
 drivenMemory P c m a bytes interval limit =

@@ -1,41 +1,41 @@
 // Document 01's number of an answer, and its values.
 ghost use mathlib.Core.Path.{_≡_};
-ghost use Rattle.driver.specs.Answers.{answerNumber, answerPages, answerFrames};
-use crate::Answer;
+ghost use Rattle.driver.specs.Answers.{runReplyNumber, runReplyPages, runReplyFrames};
+use crate::RunReply;
 
-impl Answer {
+impl RunReply {
     pub fn number(self) -> u32
-        ensures { λ r. ⌜ r ≡ answerNumber self ⌝ }
+        ensures { λ r. ⌜ r ≡ runReplyNumber self ⌝ }
     {
         match self {
-            Answer::Done(_) => 0,
-            Answer::TimedOut(_) => 9,
-            Answer::NotTaken(_) => 10,
-            Answer::Refused(r) => r.number(),
+            RunReply::Done(_) => 0,
+            RunReply::TimedOut(_) => 9,
+            RunReply::NotTaken(_) => 10,
+            RunReply::Refused(r) => r.number(),
         }
     }
 
     // Pages done; 0 in a refusal.
     pub fn pages(self) -> u32
-        ensures { λ r. ⌜ r ≡ answerPages self ⌝ }
+        ensures { λ r. ⌜ r ≡ runReplyPages self ⌝ }
     {
         match self {
-            Answer::Done(s) => s.pages,
-            Answer::TimedOut(s) => s.pages,
-            Answer::NotTaken(s) => s.pages,
-            Answer::Refused(_) => 0,
+            RunReply::Done(s) => s.pages,
+            RunReply::TimedOut(s) => s.pages,
+            RunReply::NotTaken(s) => s.pages,
+            RunReply::Refused(_) => 0,
         }
     }
 
     // Frames sent; 0 in a refusal.
     pub fn frames(self) -> u32
-        ensures { λ r. ⌜ r ≡ answerFrames self ⌝ }
+        ensures { λ r. ⌜ r ≡ runReplyFrames self ⌝ }
     {
         match self {
-            Answer::Done(s) => s.frames,
-            Answer::TimedOut(s) => s.frames,
-            Answer::NotTaken(s) => s.frames,
-            Answer::Refused(_) => 0,
+            RunReply::Done(s) => s.frames,
+            RunReply::TimedOut(s) => s.frames,
+            RunReply::NotTaken(s) => s.frames,
+            RunReply::Refused(_) => 0,
         }
     }
 }

@@ -1,16 +1,16 @@
-// The driver: writes any run of bytes as page writes, over the quick model and by its promises alone.
+// The driver: writes any run of bytes as page writes, over the frame model and by its promises alone.
 //
 // It waits until no cycle runs, then sends WREN and WRITE for each page part and waits for the end of its cycle; it sees a page that was not
 // taken, and says exactly what it did. Public call, for every input: write.
 ghost use mathlib.Core.Path.{_≡_};
 ghost use mathlib.Core.Bool.{true};
-ghost use Prim.Native.Nat.{_≤_};
+ghost use Prim.Native.Nat.{_+_, _≤_};
 ghost use lib.ListN.{length};
 ghost use Rattle.codes.specs.Part.{m95512};
 ghost use Rattle.chip.specs.Ranges.{inRanges};
 ghost use Rattle.frames.specs.Play.{frameBench};
 ghost use Rattle.driver.specs.Sequence.{playedFrom, run};
-ghost use Rattle.driver.specs.Answers.{answerNumber, answerPages, answerFrames, runAnswer, driveNumber, drivePages, driveFrames, driven, drivenMemory};
+ghost use Rattle.driver.specs.Answers.{runReplyNumber, runReplyPages, runReplyFrames, runAnswer, driveNumber, drivePages, driveFrames, driven, drivenMemory};
 use chip::Core;
 use codes::Outcome;
 use codes::Refusal;
@@ -28,7 +28,7 @@ pub struct Sent {
 }
 
 // How a run ended, with its counts, or the refusal.
-pub enum Answer {
+pub enum RunReply {
     Done(Sent),
     TimedOut(Sent),
     NotTaken(Sent),
@@ -37,7 +37,7 @@ pub enum Answer {
 
 // What a run hands back: its answer, and the record that follows or, in a refusal, the record as given.
 pub struct Driven {
-    pub answer: Answer,
+    pub answer: RunReply,
     pub core: Core,
 }
 
@@ -50,15 +50,15 @@ fn drive(
     interval: u32,
     limit: u32,
 ) -> Driven
-    requires { ⌜ length (now memory) ≡ 65536 ⌝ }
+    requires { ⌜ length (now memory) ≡ m95512 .size ⌝ }
     requires { ⌜ inRanges m95512 core ≡ true ⌝ }
-    requires { ⌜ (1 ≤ limit) × (limit ≤ 5001) ⌝ }
+    requires { ⌜ (1 ≤ limit) × (limit ≤ m95512 .longest + 1) ⌝ }
     ensures { λ r. ⌜ r ≡ record { answer = runAnswer (run m95512 interval limit address (now (bytes .entry)) (frameBench core (now (memory .entry)))); core = playedFrom m95512 (λ d. run m95512 interval limit address (now (bytes .entry)) d .acts) core (now (memory .entry)) .core } ⌝ }
     ensures { λ _. ⌜ now (memory .exit) ≡ playedFrom m95512 (λ d. run m95512 interval limit address (now (bytes .entry)) d .acts) core (now (memory .entry)) .memory ⌝ }
 {
     if bytes.len() == 0 {
         return Driven {
-            answer: Answer::Done(Sent {
+            answer: RunReply::Done(Sent {
                 pages: 0,
                 frames: 0,
             }),
@@ -70,7 +70,7 @@ fn drive(
     let frames = first.frames;
     if pages::wip(first.status) {
         return Driven {
-            answer: Answer::TimedOut(Sent {
+            answer: RunReply::TimedOut(Sent {
                 pages: 0,
                 frames: frames,
             }),
@@ -92,15 +92,15 @@ pub fn write(
     limit: u32,
 ) -> Driven
     ensures { λ r. ⌜ r ≡ driven m95512 core (now (memory .entry)) address (now (bytes .entry)) interval limit ⌝ }
-    ensures { λ r. ⌜ answerNumber (r .answer) ≡ driveNumber m95512 core (length (now (memory .entry))) address (length (now (bytes .entry))) interval limit (run m95512 interval limit address (now (bytes .entry)) (frameBench core (now (memory .entry))) .ending) ⌝ }
-    ensures { λ r. ⌜ answerPages (r .answer) ≡ drivePages m95512 core (now (memory .entry)) address (now (bytes .entry)) interval limit ⌝ }
-    ensures { λ r. ⌜ answerFrames (r .answer) ≡ driveFrames m95512 core (now (memory .entry)) address (now (bytes .entry)) interval limit ⌝ }
+    ensures { λ r. ⌜ runReplyNumber (r .answer) ≡ driveNumber m95512 core (length (now (memory .entry))) address (length (now (bytes .entry))) interval limit (run m95512 interval limit address (now (bytes .entry)) (frameBench core (now (memory .entry))) .ending) ⌝ }
+    ensures { λ r. ⌜ runReplyPages (r .answer) ≡ drivePages m95512 core (now (memory .entry)) address (now (bytes .entry)) interval limit ⌝ }
+    ensures { λ r. ⌜ runReplyFrames (r .answer) ≡ driveFrames m95512 core (now (memory .entry)) address (now (bytes .entry)) interval limit ⌝ }
     ensures { λ _. ⌜ now (memory .exit) ≡ drivenMemory m95512 core (now (memory .entry)) address (now (bytes .entry)) interval limit ⌝ }
 {
     match refused::outcome(core, memory.len(), address, bytes.len(), interval, limit) {
         Outcome::Done => drive(core, memory, address, bytes, interval, limit),
         Outcome::Refused(r) => Driven {
-            answer: Answer::Refused(r),
+            answer: RunReply::Refused(r),
             core: core,
         },
     }

@@ -12,8 +12,8 @@ ghost use Rattle.split.specs.Pieces.{piece};
 ghost use Rattle.frames.specs.Play.{frameBench};
 ghost use Rattle.driver.specs.Sequence.{sent, playedFrom, pageActs, allParts};
 ghost use Rattle.driver.specs.Answers.{partsAnswer};
-use crate::Answer;
 use crate::Driven;
+use crate::RunReply;
 use crate::Sent;
 use crate::sending::send;
 use crate::sending::send_write;
@@ -35,11 +35,11 @@ fn write_page(
     interval: u32,
     limit: u32,
 ) -> Waited
-    requires { ⌜ length (now memory) ≡ 65536 ⌝ }
+    requires { ⌜ length (now memory) ≡ m95512 .size ⌝ }
     requires { ⌜ inRanges m95512 core ≡ true ⌝ }
-    requires { ⌜ address < 65536 ⌝ }
-    requires { ⌜ length (now bytes) ≤ 128 ⌝ }
-    requires { ⌜ (1 ≤ limit) × (limit ≤ 5001) ⌝ }
+    requires { ⌜ address < m95512 .size ⌝ }
+    requires { ⌜ length (now bytes) ≤ m95512 .page ⌝ }
+    requires { ⌜ (1 ≤ limit) × (limit ≤ m95512 .longest + 1) ⌝ }
     ensures { λ r. ⌜ r .core ≡ playedFrom m95512 (pageActs m95512 interval limit address (now (bytes .entry))) core (now (memory .entry)) .core ⌝ }
     ensures { λ r. ⌜ r .status ≡ status (r .core) ⌝ }
     ensures { λ r. ⌜ r .frames ≡ sent (pageActs m95512 interval limit address (now (bytes .entry)) (frameBench core (now (memory .entry)))) ⌝ }
@@ -61,14 +61,14 @@ fn write_part(
     interval: u32,
     limit: u32,
 ) -> Waited
-    requires { ⌜ length (now memory) ≡ 65536 ⌝ }
+    requires { ⌜ length (now memory) ≡ m95512 .size ⌝ }
     requires { ⌜ inRanges m95512 core ≡ true ⌝ }
-    requires { ⌜ (1 ≤ limit) × (limit ≤ 5001) ⌝ }
-    requires { ⌜ k < count 65536 128 address (length (now bytes)) ⌝ }
-    ensures { λ r. ⌜ r .core ≡ playedFrom m95512 (pageActs m95512 interval limit (splitAddress 65536 128 address (length (now (bytes .entry))) k) (piece 65536 128 address (now (bytes .entry)) k)) core (now (memory .entry)) .core ⌝ }
+    requires { ⌜ (1 ≤ limit) × (limit ≤ m95512 .longest + 1) ⌝ }
+    requires { ⌜ k < count (m95512 .size) (m95512 .page) address (length (now bytes)) ⌝ }
+    ensures { λ r. ⌜ r .core ≡ playedFrom m95512 (pageActs m95512 interval limit (splitAddress (m95512 .size) (m95512 .page) address (length (now (bytes .entry))) k) (piece (m95512 .size) (m95512 .page) address (now (bytes .entry)) k)) core (now (memory .entry)) .core ⌝ }
     ensures { λ r. ⌜ r .status ≡ status (r .core) ⌝ }
-    ensures { λ r. ⌜ r .frames ≡ sent (pageActs m95512 interval limit (splitAddress 65536 128 address (length (now (bytes .entry))) k) (piece 65536 128 address (now (bytes .entry)) k) (frameBench core (now (memory .entry)))) ⌝ }
-    ensures { λ _. ⌜ now (memory .exit) ≡ playedFrom m95512 (pageActs m95512 interval limit (splitAddress 65536 128 address (length (now (bytes .entry))) k) (piece 65536 128 address (now (bytes .entry)) k)) core (now (memory .entry)) .memory ⌝ }
+    ensures { λ r. ⌜ r .frames ≡ sent (pageActs m95512 interval limit (splitAddress (m95512 .size) (m95512 .page) address (length (now (bytes .entry))) k) (piece (m95512 .size) (m95512 .page) address (now (bytes .entry)) k) (frameBench core (now (memory .entry)))) ⌝ }
+    ensures { λ _. ⌜ now (memory .exit) ≡ playedFrom m95512 (pageActs m95512 interval limit (splitAddress (m95512 .size) (m95512 .page) address (length (now (bytes .entry))) k) (piece (m95512 .size) (m95512 .page) address (now (bytes .entry)) k)) core (now (memory .entry)) .memory ⌝ }
 {
     let n = bytes.len() as u64;
     let start = cartvesper_split_address(address, n, k);
@@ -107,10 +107,10 @@ pub(crate) fn write_parts(
     limit: u32,
     sent: u32,
 ) -> Driven
-    requires { ⌜ length (now memory) ≡ 65536 ⌝ }
+    requires { ⌜ length (now memory) ≡ m95512 .size ⌝ }
     requires { ⌜ inRanges m95512 core ≡ true ⌝ }
-    requires { ⌜ (1 ≤ limit) × (limit ≤ 5001) ⌝ }
-    requires { ⌜ sent ≤ 5001 ⌝ }
+    requires { ⌜ (1 ≤ limit) × (limit ≤ m95512 .longest + 1) ⌝ }
+    requires { ⌜ sent ≤ m95512 .longest + 1 ⌝ }
     ensures { λ r. ⌜ r ≡ record { answer = partsAnswer sent (allParts m95512 interval limit address (now (bytes .entry)) (frameBench core (now (memory .entry)))); core = playedFrom m95512 (λ d. allParts m95512 interval limit address (now (bytes .entry)) d .acts) core (now (memory .entry)) .core } ⌝ }
     ensures { λ _. ⌜ now (memory .exit) ≡ playedFrom m95512 (λ d. allParts m95512 interval limit address (now (bytes .entry)) d .acts) core (now (memory .entry)) .memory ⌝ }
 {
@@ -124,7 +124,7 @@ pub(crate) fn write_parts(
         frames += page.frames;
         if wip(page.status) {
             return Driven {
-                answer: Answer::TimedOut(Sent {
+                answer: RunReply::TimedOut(Sent {
                     pages: k as u32,
                     frames: frames,
                 }),
@@ -134,7 +134,7 @@ pub(crate) fn write_parts(
         if wel(page.status) {
             let wrdi = [WRDI];
             return Driven {
-                answer: Answer::NotTaken(Sent {
+                answer: RunReply::NotTaken(Sent {
                     pages: k as u32,
                     frames: frames + 1,
                 }),
@@ -144,7 +144,7 @@ pub(crate) fn write_parts(
         k += 1;
     }
     Driven {
-        answer: Answer::Done(Sent {
+        answer: RunReply::Done(Sent {
             pages: k as u32,
             frames: frames,
         }),

@@ -5,15 +5,23 @@ ghost use lib.Dec.{leb};
 ghost use Rattle.codes.specs.Part.{m95512};
 ghost use Rattle.driver.specs.Answers.{pollsFit, driveOutcome};
 use chip::Core;
+use codes::LONGEST_CYCLE;
 use codes::Outcome;
 use codes::Refusal;
+use codes::SIZE;
+
+// The size as an address is compared with it.
+const ADDRESSES: u64 = SIZE as u64;
+
+// The longest wait: every microsecond of the longest cycle, and one poll more.
+const MOST_POLLS: u32 = LONGEST_CYCLE + 1;
 
 // The run lies in the memory. The sum of address and length is never made before it is known to fit.
 fn run_fits(address: u64, len: usize) -> bool
-    ensures { λ r. ⌜ r ≡ leb (address + len) 65536 ⌝ }
+    ensures { λ r. ⌜ r ≡ leb (address + len) (m95512 .size) ⌝ }
 {
-    if len <= 65536 {
-        return address <= 65536 - len as u64;
+    if len <= SIZE {
+        return address <= ADDRESSES - len as u64;
     }
     false
 }
@@ -21,7 +29,7 @@ fn run_fits(address: u64, len: usize) -> bool
 fn polls_fit(interval: u32, limit: u32) -> bool
     ensures { λ r. ⌜ r ≡ pollsFit m95512 interval limit ⌝ }
 {
-    (1 <= interval) & (interval <= 5000) & (1 <= limit) & (limit <= 5001)
+    (1 <= interval) & (interval <= LONGEST_CYCLE) & (1 <= limit) & (limit <= MOST_POLLS)
 }
 
 pub(crate) fn outcome(
@@ -34,7 +42,7 @@ pub(crate) fn outcome(
 ) -> Outcome
     ensures { λ r. ⌜ r ≡ driveOutcome m95512 core size address len interval limit ⌝ }
 {
-    if size == 65536 {
+    if size == SIZE {
         if core.in_ranges() {
             if run_fits(address, len) {
                 if polls_fit(interval, limit) {

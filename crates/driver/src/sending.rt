@@ -1,7 +1,7 @@
-// Frames sent through the quick model's public call: whole bytes, W high. A frame of these lengths, from a record inside its ranges, is not refused.
+// Frames sent through the frame model's public call: whole bytes, W high. A frame of these lengths, from a record inside its ranges, is not refused.
 ghost use mathlib.Core.Path.{_≡_};
 ghost use mathlib.Core.Bool.{true};
-ghost use Prim.Native.Nat.{_*_, _≤_, _<_};
+ghost use Prim.Native.Nat.{_+_, _*_, _≤_, _<_};
 ghost use lib.ListN.{length};
 ghost use Rattle.codes.specs.Part.{m95512};
 ghost use Rattle.chip.specs.Ranges.{inRanges};
@@ -9,11 +9,13 @@ ghost use Rattle.chip.specs.Records.{running, status};
 ghost use Rattle.frames.specs.After.{after};
 ghost use Rattle.driver.specs.Sequence.{writeBytes};
 use chip::Core;
+use codes::HEAD;
+use codes::PAGE;
 use codes::RDSR;
 use codes::WRITE;
 
-// The longest frame sent: the code, two address bytes and a page.
-const LONGEST: usize = 131;
+// The longest frame sent: the code, the address and a page.
+const LONGEST: usize = HEAD + PAGE;
 
 // What a poll sees, and the record that the frame hands back.
 pub(crate) struct Polled {
@@ -22,9 +24,9 @@ pub(crate) struct Polled {
 }
 
 pub(crate) fn send(core: Core, memory: &[u8], bytes: &[u8]) -> Core
-    requires { ⌜ length (now memory) ≡ 65536 ⌝ }
+    requires { ⌜ length (now memory) ≡ m95512 .size ⌝ }
     requires { ⌜ inRanges m95512 core ≡ true ⌝ }
-    requires { ⌜ length (now bytes) ≤ 131 ⌝ }
+    requires { ⌜ length (now bytes) ≤ m95512 .addressBytes + 1 + m95512 .page ⌝ }
     ensures { λ r. ⌜ r ≡ after m95512 (running core) true core (now (bytes .entry)) (8 * length (now (bytes .entry))) ⌝ }
 {
     let mut out = room();
@@ -35,7 +37,7 @@ pub(crate) fn send(core: Core, memory: &[u8], bytes: &[u8]) -> Core
 
 // RDSR, and the status byte that it shows.
 pub(crate) fn poll(core: Core, memory: &[u8]) -> Polled
-    requires { ⌜ length (now memory) ≡ 65536 ⌝ }
+    requires { ⌜ length (now memory) ≡ m95512 .size ⌝ }
     requires { ⌜ inRanges m95512 core ≡ true ⌝ }
     ensures { λ r. ⌜ (r .status ≡ status core) × (r .core ≡ core) ⌝ }
 {
@@ -51,24 +53,24 @@ pub(crate) fn poll(core: Core, memory: &[u8]) -> Polled
 
 // Room for the longest frame.
 fn room() -> [u8; LONGEST]
-    ensures { λ r. ⌜ length r ≡ 131 ⌝ }
+    ensures { λ r. ⌜ length r ≡ m95512 .addressBytes + 1 + m95512 .page ⌝ }
 {
     [0; LONGEST]
 }
 
 // WRITE of a page part: the code, the address, high byte first, and the bytes.
 pub(crate) fn send_write(core: Core, memory: &[u8], address: usize, bytes: &[u8]) -> Core
-    requires { ⌜ length (now memory) ≡ 65536 ⌝ }
+    requires { ⌜ length (now memory) ≡ m95512 .size ⌝ }
     requires { ⌜ inRanges m95512 core ≡ true ⌝ }
-    requires { ⌜ address < 65536 ⌝ }
-    requires { ⌜ length (now bytes) ≤ 128 ⌝ }
+    requires { ⌜ address < m95512 .size ⌝ }
+    requires { ⌜ length (now bytes) ≤ m95512 .page ⌝ }
     ensures { λ r. ⌜ r ≡ after m95512 (running core) true core (writeBytes m95512 address (now (bytes .entry))) (8 * length (writeBytes m95512 address (now (bytes .entry)))) ⌝ }
 {
     let mut frame = room();
-    let end = bytes.len() + 3;
+    let end = bytes.len() + HEAD;
     frame[0] = WRITE;
     frame[1] = (address / 256) as u8;
     frame[2] = (address % 256) as u8;
-    bytes::copy(bytes, &mut frame[3..end]);
+    bytes::copy(bytes, &mut frame[HEAD..end]);
     send(core, memory, &frame[0..end])
 }

@@ -32,7 +32,7 @@ impl Waited {
 
 // A poll after moving the clock by the interval. The counter wraps.
 fn late_poll(core: Core, memory: &mut [u8], interval: u32) -> Polled
-    requires { ⌜ length (now memory) ≡ 65536 ⌝ }
+    requires { ⌜ length (now memory) ≡ m95512 .size ⌝ }
     requires { ⌜ inRanges m95512 core ≡ true ⌝ }
     ensures { λ r. ⌜ r .core ≡ playedFrom m95512 (latePoll interval) core (now (memory .entry)) .core ⌝ }
     ensures { λ r. ⌜ r .status ≡ status (r .core) ⌝ }
@@ -46,7 +46,7 @@ fn late_poll(core: Core, memory: &mut [u8], interval: u32) -> Polled
 
 // Polls while WIP is 1 and some are left.
 fn poll_on(seen: Polled, memory: &mut [u8], interval: u32, left: u32) -> Waited
-    requires { ⌜ length (now memory) ≡ 65536 ⌝ }
+    requires { ⌜ length (now memory) ≡ m95512 .size ⌝ }
     requires { ⌜ inRanges m95512 (seen .core) ≡ true ⌝ }
     requires { ⌜ seen .status ≡ status (seen .core) ⌝ }
     ensures { λ r. ⌜ r .core ≡ playedFrom m95512 (pollsOn m95512 interval left) (seen .core) (now (memory .entry)) .core ⌝ }
@@ -71,9 +71,9 @@ fn poll_on(seen: Polled, memory: &mut [u8], interval: u32, left: u32) -> Waited
 
 // The first wait: its first poll is made without moving the clock.
 pub(crate) fn first_wait(core: Core, memory: &mut [u8], interval: u32, limit: u32) -> Waited
-    requires { ⌜ length (now memory) ≡ 65536 ⌝ }
+    requires { ⌜ length (now memory) ≡ m95512 .size ⌝ }
     requires { ⌜ inRanges m95512 core ≡ true ⌝ }
-    requires { ⌜ (1 ≤ limit) × (limit ≤ 5001) ⌝ }
+    requires { ⌜ (1 ≤ limit) × (limit ≤ m95512 .longest + 1) ⌝ }
     ensures { λ r. ⌜ r .core ≡ playedFrom m95512 (firstWait m95512 interval limit) core (now (memory .entry)) .core ⌝ }
     ensures { λ r. ⌜ r .status ≡ status (r .core) ⌝ }
     ensures { λ r. ⌜ r .frames ≡ sent (firstWait m95512 interval limit (frameBench core (now (memory .entry)))) ⌝ }
@@ -85,9 +85,9 @@ pub(crate) fn first_wait(core: Core, memory: &mut [u8], interval: u32, limit: u3
 
 // The wait of a page: each poll after moving the clock.
 pub(crate) fn page_wait(core: Core, memory: &mut [u8], interval: u32, limit: u32) -> Waited
-    requires { ⌜ length (now memory) ≡ 65536 ⌝ }
+    requires { ⌜ length (now memory) ≡ m95512 .size ⌝ }
     requires { ⌜ inRanges m95512 core ≡ true ⌝ }
-    requires { ⌜ (1 ≤ limit) × (limit ≤ 5001) ⌝ }
+    requires { ⌜ (1 ≤ limit) × (limit ≤ m95512 .longest + 1) ⌝ }
     ensures { λ r. ⌜ r .core ≡ playedFrom m95512 (pageWait m95512 interval limit) core (now (memory .entry)) .core ⌝ }
     ensures { λ r. ⌜ r .status ≡ status (r .core) ⌝ }
     ensures { λ r. ⌜ r .frames ≡ sent (pageWait m95512 interval limit (frameBench core (now (memory .entry)))) ⌝ }

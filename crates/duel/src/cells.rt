@@ -24,10 +24,10 @@ pub fn fill(memory: &mut Memory, patterned: bool) {
 }
 
 // The whole memories.
-pub fn memories(quick: &mut Memory, slow: &mut Memory, run: &mut Run) {
+pub fn memories(frame_side: &mut Memory, pin_side: &mut Memory, run: &mut Run) {
     let mut i: usize = 0;
     while i < 65536 {
-        same_at(b"cell", i, quick[i], slow[i], run);
+        same_at(b"cell", i, frame_side[i], pin_side[i], run);
         i += 1;
     }
 }

@@ -26,7 +26,7 @@ fn as_bit(q: u32) -> u8 {
     if q == 0 { 0 } else { 1 }
 }
 
-// Just before counted clock k: Q at the pins, 0, 1 or 2 for Z, against the bit that the quick model has there.
+// Just before counted clock k: Q at the pins, 0, 1 or 2 for Z, against the bit that the frame model has there.
 pub fn clock(q: u32, bit: u8, k: usize, run: &mut Run) {
     let drives = (run[UNDRIVEN] <= k as u64) as u8;
     same_at(b"Q at clock", k, bit, as_bit(q), run);
@@ -55,41 +55,53 @@ pub fn padding(out: &[u8], bits: usize, run: &mut Run) {
     }
 }
 
-fn latches(quick: Latch, slow: Latch, run: &mut Run) {
+fn latches(frame_side: Latch, pin_side: Latch, run: &mut Run) {
     let mut i: usize = 0;
     while i < 128 {
-        same_at(b"latched byte", i, quick.bytes[i], slow.bytes[i], run);
-        same_at(b"mark", i, quick.marks[i], slow.marks[i], run);
+        same_at(
+            b"latched byte",
+            i,
+            frame_side.bytes[i],
+            pin_side.bytes[i],
+            run,
+        );
+        same_at(b"mark", i, frame_side.marks[i], pin_side.marks[i], run);
         i += 1;
     }
 }
 
-fn waits(quick: Waiting, slow: Waiting, run: &mut Run) {
-    let a = quick.latch;
-    let b = slow.latch;
-    same_at(b"what waits", 0, quick.kind, slow.kind, run);
-    same_at(b"status that waits", 0, quick.status, slow.status, run);
-    same(b"page that waits", quick.page, slow.page, run);
+fn waits(frame_side: Waiting, pin_side: Waiting, run: &mut Run) {
+    let a = frame_side.latch;
+    let b = pin_side.latch;
+    same_at(b"what waits", 0, frame_side.kind, pin_side.kind, run);
+    same_at(
+        b"status that waits",
+        0,
+        frame_side.status,
+        pin_side.status,
+        run,
+    );
+    same(b"page that waits", frame_side.page, pin_side.page, run);
     latches(a, b, run);
 }
 
-fn times(quick: Core, slow: Core, run: &mut Run) {
-    same(b"cycle length", quick.cycle, slow.cycle, run);
-    same(b"time left", quick.left, slow.left, run);
-    same(b"last reading", quick.last, slow.last, run);
+fn times(frame_side: Core, pin_side: Core, run: &mut Run) {
+    same(b"cycle length", frame_side.cycle, pin_side.cycle, run);
+    same(b"time left", frame_side.left, pin_side.left, run);
+    same(b"last reading", frame_side.last, pin_side.last, run);
 }
 
 // The whole core records: SRWD, BP1, BP0, WEL and WIP are the bits of the status byte.
-pub fn records(quick: Core, slow: Device, run: &mut Run) {
-    let core = slow.core;
-    let a = quick.waits;
+pub fn records(frame_side: Core, pin_side: Device, run: &mut Run) {
+    let core = pin_side.core;
+    let a = frame_side.waits;
     let b = core.waits;
     same(
         b"status byte",
-        wide(quick.status()),
-        slow.status().value(),
+        wide(frame_side.status()),
+        pin_side.status().value(),
         run,
     );
-    times(quick, core, run);
+    times(frame_side, core, run);
     waits(a, b, run);
 }

@@ -1,5 +1,5 @@
-// The two proved models against each other on random lists of frames, clock readings and levels of Write Protect: the quick one takes whole
-// frames, the slow one the same frames drawn as single pin changes. The gate compares the summary with the file stdout; the first difference
+// The two proved models against each other on random lists of frames, clock readings and levels of Write Protect: the frame_side one takes whole
+// frames, the pin_side one the same frames drawn as single pin changes. The gate compares the summary with the file stdout; the first difference
 // would stand before it, with its round and act, and end the run.
 use crate::cells::Memory;
 use crate::cells::changed;
@@ -23,41 +23,41 @@ mod rounds;
 mod run;
 
 // Acts one after another.
-fn acts(start: Pair, quick: &mut Memory, slow: &mut Memory, run: &mut Run) {
+fn acts(start: Pair, frame_side: &mut Memory, pin_side: &mut Memory, run: &mut Run) {
     let mut pair = start;
     let mut left: u64 = 48;
     while left > 0 {
-        pair = act(pair, quick, slow, run);
+        pair = act(pair, frame_side, pin_side, run);
         left -= 1;
     }
 }
 
 // A round: one start for both models, then its acts, then the whole memories. None after a difference.
-fn round(quick: &mut Memory, slow: &mut Memory, run: &mut Run) {
+fn round(frame_side: &mut Memory, pin_side: &mut Memory, run: &mut Run) {
     if run[DIFFERENCES] > 0 {
         return;
     }
     count(ROUNDS, run);
     let patterned = percent(75, run);
-    fill(quick, patterned);
-    fill(slow, patterned);
-    acts(powered(run), quick, slow, run);
-    memories(quick, slow, run);
-    changed(quick, patterned, run);
+    fill(frame_side, patterned);
+    fill(pin_side, patterned);
+    acts(powered(run), frame_side, pin_side, run);
+    memories(frame_side, pin_side, run);
+    changed(frame_side, patterned, run);
 }
 
-fn duel(quick: &mut Memory, slow: &mut Memory, run: &mut Run) {
+fn duel(frame_side: &mut Memory, pin_side: &mut Memory, run: &mut Run) {
     let mut left: u64 = 160;
     while left > 0 {
-        round(quick, slow, run);
+        round(frame_side, pin_side, run);
         left -= 1;
     }
 }
 
 fn main() {
-    let mut quick = io::large_buffer();
-    let mut slow = io::large_buffer();
+    let mut frame_side = io::large_buffer();
+    let mut pin_side = io::large_buffer();
     let mut run = run::begun();
-    duel(&mut quick, &mut slow, &mut run);
+    duel(&mut frame_side, &mut pin_side, &mut run);
     run::summary(&run);
 }

@@ -34,7 +34,7 @@ use frames::frame;
 use pins::Device;
 use pins::Stepped;
 
-// Both models: the quick one's record with its level of W, the slow one's device.
+// Both models: the frame model's record with its level of W, the pin model's device.
 pub struct Pair {
     pub core: Core,
     pub w: bool,
@@ -88,11 +88,11 @@ fn passing(cycle: u32, left: u32, run: &mut Run) -> u32 {
 }
 
 // The answers to one reading.
-fn met(quick: Timed, slow: Stepped, w: bool, run: &mut Run) -> Pair {
-    let core = quick.core;
-    let device = slow.device;
-    let a = quick.outcome;
-    let b = slow.outcome;
+fn met(frame_side: Timed, pin_side: Stepped, w: bool, run: &mut Run) -> Pair {
+    let core = frame_side.core;
+    let device = pin_side.device;
+    let a = frame_side.outcome;
+    let b = pin_side.outcome;
     same(b"number of a reading", a.number(), b.number(), run);
     records(core, device, run);
     Pair {
@@ -102,35 +102,41 @@ fn met(quick: Timed, slow: Stepped, w: bool, run: &mut Run) -> Pair {
     }
 }
 
-fn pass(pair: Pair, reading: u32, quick: &mut Memory, slow: &mut Memory, run: &mut Run) -> Pair {
-    let timed = chip::clock_reading(pair.core, reading, quick);
-    let stepped = pair.device.read_clock(reading, slow);
+fn pass(
+    pair: Pair,
+    reading: u32,
+    frame_side: &mut Memory,
+    pin_side: &mut Memory,
+    run: &mut Run,
+) -> Pair {
+    let timed = chip::clock_reading(pair.core, reading, frame_side);
+    let stepped = pair.device.read_clock(reading, pin_side);
     met(timed, stepped, pair.w, run)
 }
 
 // A clock reading for both; where it ends a cycle the memories are compared whole.
-fn read(pair: Pair, quick: &mut Memory, slow: &mut Memory, run: &mut Run) -> Pair {
+fn read(pair: Pair, frame_side: &mut Memory, pin_side: &mut Memory, run: &mut Run) -> Pair {
     let core = pair.core;
     let reading = std::num::wrapping_add_u32(core.last, passing(core.cycle, core.left, run));
-    let next = pass(pair, reading, quick, slow, run);
+    let next = pass(pair, reading, frame_side, pin_side, run);
     count(READINGS, run);
     if (core.left > 0) & (next.core.left == 0) {
         count(ENDED, run);
-        memories(quick, slow, run);
+        memories(frame_side, pin_side, run);
     }
     next
 }
 
 // ---- levels of W
 
-fn protect(pair: Pair, slow: &mut Memory, run: &mut Run) -> Pair {
+fn protect(pair: Pair, pin_side: &mut Memory, run: &mut Run) -> Pair {
     let high = percent(60, run);
     count(LEVELS, run);
     let core = pair.core;
     Pair {
         core: core,
         w: high,
-        device: set(pair.device, W, high, slow, run),
+        device: set(pair.device, W, high, pin_side, run),
     }
 }
 
@@ -179,30 +185,30 @@ fn begin(bits: usize, mode3: bool, undriven: usize, run: &mut Run) {
     count_frame(bits, mode3, run);
 }
 
-// The quick model's answer to the first n bytes; bytes or an output too few are refused.
+// The frame model's answer to the first n bytes; bytes or an output too few are refused.
 fn ask(
     core: Core,
     w: bool,
-    quick: &Memory,
+    frame_side: &Memory,
     bytes: &[u8],
     n: usize,
     bits: usize,
     out: &mut [u8],
 ) -> Framed {
     if n > bytes.len() {
-        return frame(core, quick, w, bytes, bits, out);
+        return frame(core, frame_side, w, bytes, bits, out);
     }
     if n > out.len() {
-        return frame(core, quick, w, bytes, bits, out);
+        return frame(core, frame_side, w, bytes, bits, out);
     }
-    frame(core, quick, w, &bytes[..n], bits, &mut out[..n])
+    frame(core, frame_side, w, &bytes[..n], bits, &mut out[..n])
 }
 
-// The slow model's frame against the quick model's answer and output.
+// The pin model's frame against the frame model's answer and output.
 fn meet(
     pair: Pair,
     framed: Framed,
-    slow: &Memory,
+    pin_side: &Memory,
     bytes: &[u8],
     bits: usize,
     out: &[u8],
@@ -214,7 +220,7 @@ fn meet(
     same(b"number of a frame", answer.number(), 0, run);
     begin(bits, mode3, answer.undriven(), run);
     padding(out, bits, run);
-    let device = draw(pair.device, bytes, out, bits, mode3, slow, run);
+    let device = draw(pair.device, bytes, out, bits, mode3, pin_side, run);
     records(core, device, run);
     Pair {
         core: core,
@@ -226,8 +232,8 @@ fn meet(
 // A frame of n bytes for both.
 fn send_bytes(
     pair: Pair,
-    quick: &Memory,
-    slow: &Memory,
+    frame_side: &Memory,
+    pin_side: &Memory,
     bytes: &Memory,
     n: usize,
     out: &mut Memory,
@@ -237,18 +243,18 @@ fn send_bytes(
 {
     let core = pair.core;
     let bits = made::bits(n, run);
-    let framed = ask(core, pair.w, quick, bytes, n, bits, out);
+    let framed = ask(core, pair.w, frame_side, bytes, n, bits, out);
     let next = framed.core;
     count_begun(core, next, run);
-    meet(pair, framed, slow, bytes, bits, out, run)
+    meet(pair, framed, pin_side, bytes, bits, out, run)
 }
 
 // A random frame.
-fn send(pair: Pair, quick: &mut Memory, slow: &mut Memory, run: &mut Run) -> Pair {
+fn send(pair: Pair, frame_side: &mut Memory, pin_side: &mut Memory, run: &mut Run) -> Pair {
     let mut bytes = io::large_buffer();
     let mut out = io::large_buffer();
     let n = made::compose(pair.core.wel == 1, &mut bytes, run);
-    send_bytes(pair, quick, slow, &bytes, n, &mut out, run)
+    send_bytes(pair, frame_side, pin_side, &bytes, n, &mut out, run)
 }
 
 // What comes next: a clock reading, every second time where a cycle runs; seldom a level of W; else a frame. Nothing after a difference.
@@ -267,11 +273,11 @@ fn kind(running: bool, run: &mut Run) -> u64 {
     if r < 95 { 2 } else { 1 }
 }
 
-pub fn act(pair: Pair, quick: &mut Memory, slow: &mut Memory, run: &mut Run) -> Pair {
+pub fn act(pair: Pair, frame_side: &mut Memory, pin_side: &mut Memory, run: &mut Run) -> Pair {
     match kind(pair.core.left > 0, run) {
-        0 => read(pair, quick, slow, run),
-        1 => protect(pair, slow, run),
-        2 => send(pair, quick, slow, run),
+        0 => read(pair, frame_side, pin_side, run),
+        1 => protect(pair, pin_side, run),
+        2 => send(pair, frame_side, pin_side, run),
         _ => pair,
     }
 }

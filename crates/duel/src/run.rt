@@ -40,7 +40,7 @@ pub const DIFFERENCES: usize = 16;
 // the generator's state
 pub const CHANCE: usize = 17;
 
-// of the frame in hand: in how many of a hundred places pin changes stray, and how many leading bits the quick model left undriven
+// of the frame in hand: in how many of a hundred places pin changes stray, and how many leading bits the frame model left undriven
 pub const LIVELY: usize = 18;
 
 pub const UNDRIVEN: usize = 19;
@@ -71,32 +71,32 @@ fn say_where(round: u64, act: u64) {
     say(b"act", act);
 }
 
-fn say_what(what: &[u8], at: u64, quick: u64, slow: u64) {
+fn say_what(what: &[u8], at: u64, frame_side: u64, pin_side: u64) {
     say(what, at);
-    say(b"the quick model's", quick);
-    say(b"the slow model's", slow);
+    say(b"the frame model's", frame_side);
+    say(b"the pin model's", pin_side);
 }
 
 // The first difference is printed.
-fn differ(what: &[u8], at: u64, quick: u64, slow: u64, run: &mut Run) {
+fn differ(what: &[u8], at: u64, frame_side: u64, pin_side: u64, run: &mut Run) {
     if run[DIFFERENCES] == 0 {
         say_where(run[ROUNDS], run[ACTS]);
-        say_what(what, at, quick, slow);
+        say_what(what, at, frame_side, pin_side);
     }
     count(DIFFERENCES, run);
 }
 
 // A bit or a byte of each model; `at` says which clock or cell it is.
-pub fn same_at(what: &[u8], at: usize, quick: u8, slow: u8, run: &mut Run) {
-    if quick != slow {
-        differ(what, at as u64, quick as u64, slow as u64, run);
+pub fn same_at(what: &[u8], at: usize, frame_side: u8, pin_side: u8, run: &mut Run) {
+    if frame_side != pin_side {
+        differ(what, at as u64, frame_side as u64, pin_side as u64, run);
     }
 }
 
 // A number of each model.
-pub fn same(what: &[u8], quick: u32, slow: u32, run: &mut Run) {
-    if quick != slow {
-        differ(what, 0, quick as u64, slow as u64, run);
+pub fn same(what: &[u8], frame_side: u32, pin_side: u32, run: &mut Run) {
+    if frame_side != pin_side {
+        differ(what, 0, frame_side as u64, pin_side as u64, run);
     }
 }
 

@@ -31,8 +31,8 @@ loading P m c Silence f = f
 -- 1 to 7 bits shown: the next one; none or all eight: the next byte
 unfoldable pub fallen : Part → List ℕ → Core → Frame → Frame
 fallen P m c f =
-    pick (outputs P (decode (f .code)) (f .taken) (on (f .ran)))
-    (pick (leb 1 (f .shown) && ltb (f .shown) 8) (withOut (f .out) (f .shown + 1) f) (loading P m c (decode (f .code)) f))
+    pick (outputs P (decode P (f .code)) (f .taken) (on (f .ran)))
+    (pick (leb 1 (f .shown) && ltb (f .shown) 8) (withOut (f .out) (f .shown + 1) f) (loading P m c (decode P (f .code)) f))
     f
 
 -- ---- Q

@@ -63,4 +63,4 @@ fieldsFit P i f =
     addressFits P i (f .taken) (f .address) && (valued i (f .taken) || eqb (f .value) 0) && outFits P i f && latchFits P (latches P i (f .taken)) (f .latch)
 
 abbrev pub frameFits : Part → Frame → Bool
-frameFits P f = countsFit P f && codeFits f && fieldsFit P (decode (f .code)) f
+frameFits P f = countsFit P f && codeFits f && fieldsFit P (decode P (f .code)) f

@@ -39,7 +39,7 @@ taking P Silence n v f = f
 -- the first whole byte is the code, and "no cycle" is judged with it; every later one is the instruction's
 unfoldable pub wholeByte : Part → Bool → ℕ → Frame → Frame
 wholeByte P running v f =
-    pick (eqb (f .taken) 0) (withCode v running (withByte P f)) (taking P (decode (f .code)) (f .taken) v (withByte P f))
+    pick (eqb (f .taken) 0) (withCode v running (withByte P f)) (taking P (decode P (f .code)) (f .taken) v (withByte P f))
 
 -- ---- the edge
 

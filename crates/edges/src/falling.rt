@@ -8,7 +8,9 @@ ghost use Rattle.codes.specs.declared.Instruction.the-variants.{Read};
 ghost use Rattle.codes.specs.Output.{outputs};
 ghost use Rattle.edges.specs.Falling.{loading, levelShown, levelNumber};
 use crate::Frame;
+use crate::HEAD;
 use crate::Level;
+use crate::SIZE;
 use chip::Core;
 use codes::Instruction;
 
@@ -21,7 +23,7 @@ pub fn outputs(i: Instruction, taken: u8, ran: bool) -> bool
         Instruction::Wrdi => false,
         Instruction::Rdsr => 1 <= taken,
         Instruction::Wrsr => false,
-        Instruction::Read => (3 <= taken) & !ran,
+        Instruction::Read => (HEAD <= taken) & !ran,
         Instruction::Write => false,
         Instruction::Silence => false,
     }
@@ -40,9 +42,9 @@ pub fn cell(memory: &[u8], address: u32) -> u8
 
 // The next address, from the last one back to the first.
 pub fn one_up(address: u32) -> u32
-    ensures { λ r. ⌜ r ≡ (address + 1) % 65536 ⌝ }
+    ensures { λ r. ⌜ r ≡ (address + 1) % m95512 .size ⌝ }
 {
-    (address % 65536 + 1) % 65536
+    (address % SIZE + 1) % SIZE
 }
 
 impl Frame {

@@ -1,4 +1,4 @@
-// The frame in hand of the slow model, by the edges of its clock: what a counted rising edge takes, what an unheld falling edge shows, and the
+// The frame in hand of the pin model, by the edges of its clock: what a counted rising edge takes, what an unheld falling edge shows, and the
 // ranges of its fields. Its calls are inner ones, each total; the public ones, with their refusals, are those of pins and lists.
 use latch::Latch;
 
@@ -14,6 +14,15 @@ pub use falling::outputs;
 pub use records::bit;
 pub use records::one_more;
 pub use rising::shifted_in;
+
+// Addresses are u32, the count of whole bytes is u8.
+const SIZE: u32 = codes::SIZE as u32;
+
+const PAGE: u32 = codes::PAGE as u32;
+
+const ADDRESS_BYTES: u8 = codes::ADDRESS_BYTES as u8;
+
+const HEAD: u8 = codes::HEAD as u8;
 
 // The frame in hand. Fields that it has not reached are 0.
 #[repr(C)]

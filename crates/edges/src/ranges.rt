@@ -1,14 +1,16 @@
 // Is the frame in hand inside its ranges. Each part of the test has a definition of its own.
 ghost use mathlib.Core.Path.{_≡_};
 ghost use mathlib.Core.Bool.{_&&_};
-ghost use Prim.Native.Nat.{_-_, _%_, _^_, _<_};
+ghost use Prim.Native.Nat.{_+_, _-_, _%_, _^_, _<_};
 ghost use lib.Dec.{eqb, ltb};
 ghost use Rattle.codes.specs.Part.{m95512};
 ghost use Rattle.codes.specs.Instructions.{decode};
 ghost use Rattle.edges.specs.Ranges.{partFits, countsFit, codeFits, addressFits, valued, latches, outFits, fieldsFit, frameFits};
 use crate::Frame;
+use crate::SIZE;
 use crate::falling::outputs;
 use codes::Instruction;
+use codes::MOST;
 
 // 2 to the number of bits taken, for one byte.
 fn two_to(bits: u8) -> u32
@@ -30,7 +32,7 @@ fn part_fits(bits: u8, part: u8) -> bool
 
 // The place of the last address byte taken: what lies below it is 0.
 fn place(taken: u8) -> u32
-    ensures { λ r. ⌜ r ≡ 256 ^ (3 - taken) ⌝ }
+    ensures { λ r. ⌜ r ≡ 256 ^ (m95512 .addressBytes + 1 - taken) ⌝ }
     ensures { λ r. ⌜ 0 < r ⌝ }
 {
     if taken == 0 {
@@ -46,9 +48,9 @@ fn place(taken: u8) -> u32
 }
 
 fn taken_so_far(taken: u8, address: u32) -> bool
-    ensures { λ r. ⌜ r ≡ (ltb address 65536 && eqb (address % 256 ^ (3 - taken)) 0) ⌝ }
+    ensures { λ r. ⌜ r ≡ (ltb address (m95512 .size) && eqb (address % 256 ^ (m95512 .addressBytes + 1 - taken)) 0) ⌝ }
 {
-    (address < 65536) & (left_over(address, place(taken)) == 0)
+    (address < SIZE) & (left_over(address, place(taken)) == 0)
 }
 
 fn left_over(address: u32, place: u32) -> u32
@@ -95,7 +97,7 @@ fn latches(i: Instruction, taken: u8) -> bool
         Instruction::Rdsr => false,
         Instruction::Wrsr => false,
         Instruction::Read => false,
-        Instruction::Write => 4 <= taken,
+        Instruction::Write => MOST <= taken,
         Instruction::Silence => false,
     }
 }
@@ -104,7 +106,7 @@ impl Frame {
     fn counts_fit(self) -> bool
         ensures { λ r. ⌜ r ≡ countsFit m95512 self ⌝ }
     {
-        (self.taken <= 4) & part_fits(self.bits, self.part)
+        (self.taken <= MOST) & part_fits(self.bits, self.part)
     }
 
     fn code_fits(self) -> bool

@@ -2,12 +2,14 @@
 ghost use mathlib.Core.Path.{_≡_};
 ghost use Prim.Native.Nat.{_+_, _*_, _-_, _/_, _%_, _^_, _<_};
 ghost use Rattle.codes.specs.Part.{m95512};
-ghost use Rattle.latch.specs.Latches.{latched, nextCell};
+ghost use Rattle.latch.specs.Latches.{nextCell};
 ghost use Rattle.codes.specs.declared.Instruction.the-variants.{Wrsr, Read, Write};
 ghost use Rattle.edges.specs.Rising.{shiftedIn, addressByte, latchByte, taking, wholeByte};
+use crate::ADDRESS_BYTES;
 use crate::Frame;
+use crate::PAGE;
+use crate::SIZE;
 use codes::Instruction;
-use latch::Latch;
 
 // A byte with one more bit at its low end.
 pub fn shifted_in(part: u8, d: u8) -> u8
@@ -21,34 +23,24 @@ pub fn shifted_in(part: u8, d: u8) -> u8
 
 // One more address byte goes to its place, by the whole bytes before it: the first one is the high byte.
 fn joined(address: u32, before: u8, byte: u8) -> u32
-    ensures { λ r. ⌜ r ≡ (address + byte * 256 ^ (2 - before)) % 65536 ⌝ }
+    ensures { λ r. ⌜ r ≡ (address + byte * 256 ^ (m95512 .addressBytes - before)) % m95512 .size ⌝ }
 {
-    let low = address % 65536;
+    let low = address % SIZE;
     let value = byte as u32;
     if before == 0 {
         return low;
     }
     if before == 1 {
-        return (low + value * 256) % 65536;
+        return (low + value * 256) % SIZE;
     }
-    (low + value) % 65536
+    (low + value) % SIZE
 }
 
 // The next cell of the page that an address is in.
 fn next_address(address: u32) -> u32
-    ensures { λ r. ⌜ r ≡ address / 128 * 128 + nextCell m95512 address ⌝ }
+    ensures { λ r. ⌜ r ≡ address / m95512 .page * m95512 .page + nextCell m95512 address ⌝ }
 {
-    address / 128 * 128 + latch::next_cell(address as usize) as u32
-}
-
-fn latched(latch: Latch, cell: usize, byte: u8) -> Latch
-    requires { ⌜ cell < 128 ⌝ }
-    ensures { λ r. ⌜ r ≡ latched cell byte latch ⌝ }
-{
-    let mut next = latch;
-    next.bytes[cell] = byte;
-    next.marks[cell] = 1;
-    next
+    address / PAGE * PAGE + latch::next_cell(address as usize) as u32
 }
 
 impl Frame {
@@ -63,14 +55,15 @@ impl Frame {
         ensures { λ r. ⌜ r ≡ latchByte m95512 byte self ⌝ }
     {
         let address = self.address;
-        let latch = latched(self.latch, (address % 128) as usize, byte);
-        self.with_latch(latch).with_address(next_address(address))
+        let latch = self.latch;
+        self.with_latch(latch.with(address as usize, byte))
+            .with_address(next_address(address))
     }
 
     fn write_byte(self, before: u8, byte: u8) -> Frame
         ensures { λ r. ⌜ r ≡ taking m95512 Write before byte self ⌝ }
     {
-        if before <= 2 {
+        if before <= ADDRESS_BYTES {
             return self.address_byte(before, byte);
         }
         self.latch_byte(byte)
@@ -79,7 +72,7 @@ impl Frame {
     fn read_byte(self, before: u8, byte: u8) -> Frame
         ensures { λ r. ⌜ r ≡ taking m95512 Read before byte self ⌝ }
     {
-        if before <= 2 {
+        if before <= ADDRESS_BYTES {
             return self.address_byte(before, byte);
         }
         self

@@ -24,7 +24,7 @@ use Rattle.chip.proofs.Passing.{timed-within, timed-length, cell-rule}
 use Rattle.frames.specs.Bytes.{instruction, address, written}
 use Rattle.frames.specs.After.{judged, after}
 use Rattle.frames.specs.Play.{Act, frame, reading, FrameBench, acted, actedAll, addresses, addressed}
-use Rattle.chip.proofs.Executed.{Paged}
+use Rattle.codes.proofs.Sound.{Sound}
 use Rattle.frames.proofs.Kept.{after-within}
 
 -- ---- which cells wait after an act
@@ -45,7 +45,7 @@ module _ (P : Part) (i : ℕ) where
       → awaited P (after P (running c) w c s n) i ≡ false
   frame-awaits w s n c e f =
       pick-case (λ x. awaited P x i ≡ false) (isExecuted (judged P (running c) w c s n))
-      (λ x. effect-awaits (getD s 1 0) (address P s / P .page) (written P s) c (instruction s) e (rw x at f))
+      (λ x. effect-awaits (getD s 1 0) (address P s / P .page) (written P s) c (instruction P s) e (rw x at f))
       (λ x. e)
 
   time-awaits : (t : ℕ) (c : Core) → awaited P c i ≡ false → awaited P (timed P t c) i ≡ false
@@ -58,29 +58,29 @@ pub no-cell : (P : Part) (w : Bool) (s : List ℕ) (n : ℕ) (d : FrameBench) �
 no-cell P w s n d = refl
 
 -- the memory keeps its size, and the record its ranges, whatever is played
-pub played-length : (P : Part) (acts : List Act) (d : FrameBench) → length (actedAll P acts d .memory) ≡ length (d .memory)
-played-length P [] d = refl
-played-length P (frame w s n ∷ acts) d = played-length P acts (acted P (frame w s n) d)
-played-length P (reading t ∷ acts) d = played-length P acts (acted P (reading t) d) ∙ timed-length P t (d .core) (d .memory)
+pub acted-all-length : (P : Part) (acts : List Act) (d : FrameBench) → length (actedAll P acts d .memory) ≡ length (d .memory)
+acted-all-length P [] d = refl
+acted-all-length P (frame w s n ∷ acts) d = acted-all-length P acts (acted P (frame w s n) d)
+acted-all-length P (reading t ∷ acts) d = acted-all-length P acts (acted P (reading t) d) ∙ timed-length P t (d .core) (d .memory)
 
-pub played-within : (P : Part) → Paged P → (acts : List Act) (d : FrameBench) → Within P (d .core) → Within P (actedAll P acts d .core)
-played-within P h [] d k = k
-played-within P h (frame w s n ∷ acts) d k =
-    played-within P h acts (acted P (frame w s n) d) (after-within P h w (d .core) s n (running (d .core)) (λ r. r) k)
-played-within P h (reading t ∷ acts) d k = played-within P h acts (acted P (reading t) d) (timed-within P t (d .core) k)
+pub acted-all-within : (P : Part) → Sound P → (acts : List Act) (d : FrameBench) → Within P (d .core) → Within P (actedAll P acts d .core)
+acted-all-within P h [] d k = k
+acted-all-within P h (frame w s n ∷ acts) d k =
+    acted-all-within P h acts (acted P (frame w s n) d) (after-within P h w (d .core) s n (running (d .core)) (λ r. r) k)
+acted-all-within P h (reading t ∷ acts) d k = acted-all-within P h acts (acted P (reading t) d) (timed-within P t (d .core) k)
 
-module _ (P : Part) (h : Paged P) (i : ℕ) (below : i < P .size) where
-  pub played-cell : (acts : List Act) (d : FrameBench) → length (d .memory) ≡ P .size → Within P (d .core) → awaited P (d .core) i ≡ false
+module _ (P : Part) (h : Sound P) (i : ℕ) (below : i < P .size) where
+  pub acted-all-cell : (acts : List Act) (d : FrameBench) → length (d .memory) ≡ P .size → Within P (d .core) → awaited P (d .core) i ≡ false
       → addressed P acts d i ≡ false → getD (actedAll P acts d .memory) i 0 ≡ getD (d .memory) i 0
-  played-cell [] d size k e f = refl
-  played-cell (frame w s n ∷ acts) d size k e f =
+  acted-all-cell [] d size k e f = refl
+  acted-all-cell (frame w s n ∷ acts) d size k e f =
       let next = acted P (frame w s n) d in
       let two = or-none-out (addresses P (frame w s n) (d .core) i) (addressed P acts next i) f in
-      played-cell acts next size (after-within P h w (d .core) s n (running (d .core)) (λ r. r) k)
+      acted-all-cell acts next size (after-within P h w (d .core) s n (running (d .core)) (λ r. r) k)
       (frame-awaits P i w s n (d .core) e (two .0))
       (two .1)
-  played-cell (reading t ∷ acts) d size k e f =
+  acted-all-cell (reading t ∷ acts) d size k e f =
       let next = acted P (reading t) d in
-      played-cell acts next (timed-length P t (d .core) (d .memory) ∙ size) (timed-within P t (d .core) k) (time-awaits P i t (d .core) e) f
+      acted-all-cell acts next (timed-length P t (d .core) (d .memory) ∙ size) (timed-within P t (d .core) k) (time-awaits P i t (d .core) e) f
       ∙ cell-rule P t (d .core) (d .memory) size k i below
       ∙ at-no _ _ (and-no-right (ends t (d .core)) (awaited P (d .core) i) e)

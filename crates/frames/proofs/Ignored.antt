@@ -11,7 +11,8 @@ use Rattle.codes.specs.Status.{on}
 use Rattle.chip.specs.Questions.{protects}
 use Rattle.chip.specs.Records.{running}
 use Rattle.codes.specs.Refusals.{isDone}
-use Rattle.codes.specs.Verdicts.{isExecuted, needsNoCycle, needsWel, countFits, guarded, isUnknown}
+use Rattle.codes.specs.Verdicts.{isExecuted}
+use Rattle.codes.specs.Instructions.{row, countFits, guarded}
 use Rattle.chip.specs.declared.Core.{Core}
 use Rattle.codes.specs.declared.Instruction.the-variants.{Write}
 use Rattle.frames.specs.Bytes.{instruction, address}
@@ -27,7 +28,7 @@ failed false h = refl
 module _ (P : Part) (ran w : Bool) (c : Core) (s : List ℕ) (n : ℕ) where
   -- the tests that it passed, were it executed
   abbrev Tests : Type 0
-  Tests = Passed P (instruction s) n ran (on (c .wel)) (on (c .srwd) && not w) (protects P c (address P s)) false
+  Tests = Passed P (instruction P s) n ran (on (c .wel)) (on (c .srwd) && not w) (protects P c (address P s)) false
 
   pub ignored : isExecuted (judged P ran w c s n) ≡ false → after P ran w c s n ≡ c
   ignored e = at-no _ _ e
@@ -36,27 +37,27 @@ module _ (P : Part) (ran w : Bool) (c : Core) (s : List ℕ) (n : ℕ) where
   ignored-wel e = ap (λ (x : Core). x .wel) (ignored e)
 
   unpassed : (Tests → ⊥) → after P ran w c s n ≡ c
-  unpassed h = ignored (failed (isExecuted (judged P ran w c s n)) (λ e. h (passed P (instruction s) n ran (on (c .wel)) (on (c .srwd) && not w) (protects P c (address P s)) false e)))
+  unpassed h = ignored (failed (isExecuted (judged P ran w c s n)) (λ e. h (passed P (instruction P s) n ran (on (c .wel)) (on (c .srwd) && not w) (protects P c (address P s)) false e)))
 
   -- by the test that fails: a cycle ran, WEL is off, the count is wrong, W or the protection stops it, the code is none
-  pub while-cycle : needsNoCycle (instruction s) ≡ true → ran ≡ true → after P ran w c s n ≡ c
+  pub while-cycle : row P (instruction P s) .idle ≡ true → ran ≡ true → after P ran w c s n ≡ c
   while-cycle p q = unpassed (λ t. true≢false (sym (and-both _ _ p q) ∙ t .free))
 
-  pub while-wel-off : needsWel (instruction s) ≡ true → on (c .wel) ≡ false → after P ran w c s n ≡ c
+  pub while-wel-off : row P (instruction P s) .wel ≡ true → on (c .wel) ≡ false → after P ran w c s n ≡ c
   while-wel-off p q = unpassed (λ t. true≢false (sym (and-both _ _ p (ap not q)) ∙ t .enabled))
 
-  pub miscounted : countFits P (instruction s) n ≡ false → after P ran w c s n ≡ c
+  pub miscounted : countFits (row P (instruction P s) .count) n ≡ false → after P ran w c s n ≡ c
   miscounted p = unpassed (λ t. true≢false (sym (t .counted) ∙ p))
 
-  pub stopped : guarded (instruction s) (on (c .srwd) && not w) (protects P c (address P s)) ≡ true → after P ran w c s n ≡ c
+  pub stopped : guarded (row P (instruction P s) .guard) (on (c .srwd) && not w) (protects P c (address P s)) ≡ true → after P ran w c s n ≡ c
   stopped p = unpassed (λ t. true≢false (sym p ∙ t .unguarded))
 
-  pub silent : isUnknown (instruction s) ≡ true → after P ran w c s n ≡ c
-  silent p = unpassed (λ t. true≢false (sym p ∙ t .known))
+  pub silent : row P (instruction P s) .known ≡ false → after P ran w c s n ≡ c
+  silent p = unpassed (λ t. true≢false (sym (t .known) ∙ p))
 
   -- a WRITE while a cycle ran leaves what waits alone
-  pub write-while-cycle : instruction s ≡ Write → ran ≡ true → after P ran w c s n .waits ≡ c .waits
-  write-while-cycle i q = ap (λ (x : Core). x .waits) (while-cycle (ap needsNoCycle i) q)
+  pub write-while-cycle : instruction P s ≡ Write → ran ≡ true → after P ran w c s n .waits ≡ c .waits
+  write-while-cycle i q = ap (λ (x : Core). x .waits) (while-cycle (ap (λ j. row P j .idle) i) q)
 
 -- the public call: a refused frame leaves the record and the output as they were, and one that is not executed the record
 module _ (P : Part) (c : Core) (m : List ℕ) (w : Bool) (s : List ℕ) (n : ℕ) (out : List ℕ) where

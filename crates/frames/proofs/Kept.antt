@@ -3,7 +3,7 @@ use mathlib.Core.Path.{_≡_, _∙_}
 use mathlib.Core.Bool.{Bool, true, false, not, _&&_}
 use mathlib.Core.List.{List, [], _∷_}
 use Prim.Native.Nat.{ℕ, zero, suc, _+_, _*_, _-_, _/_, _%_, _^_, _<_}
-use native.Mathlib.Nat.{mod-lt, div-lt-iff-lt-mul}
+use native.Mathlib.Nat.{mod-lt}
 use lib.ListN.{length, getD, length-set, length-replicate}
 use Rattle.laws.specs.Pick.{pick-case}
 use Rattle.codes.specs.Part.{Part, pages}
@@ -16,8 +16,10 @@ use Rattle.codes.specs.Refusals.{isDone}
 use Rattle.latch.specs.declared.Latch.{Latch}
 use Rattle.chip.specs.declared.Core.{Core}
 use Rattle.chip.proofs.Within.{Within}
-use Rattle.chip.proofs.Executed.{Paged, executed-within}
+use Rattle.codes.proofs.Sound.{Sound}
+use Rattle.codes.proofs.Starts.{page-of-memory}
 use Rattle.latch.proofs.Fitting.{none-latched, one-latched}
+use Rattle.chip.proofs.Executed.{executed-within}
 use Rattle.frames.specs.Bytes.{instruction, address, addressTo, payload, latchedFrom, written}
 use Rattle.frames.specs.After.{judged, after}
 use Rattle.frames.specs.Answers.{frameOutcome, framed}
@@ -28,8 +30,8 @@ pub address-below : (P : Part) (s : List ℕ) → 0 < P .size → (k : ℕ) → 
 address-below P s h zero = h
 address-below P s h (suc k) = mod-lt (addressTo P s k + getD s (suc k) 0 * 256 ^ (P .addressBytes - suc k)) h
 
-pub page-below : (P : Part) (s : List ℕ) → Paged P → address P s / P .page < pages P
-page-below P s h = div-lt-iff-lt-mul (h .page) .1 (rw (h .whole) (address-below P s (h .size) (P .addressBytes)))
+pub page-below : (P : Part) (s : List ℕ) → Sound P → address P s / P .page < pages P
+page-below P s h = page-of-memory h (address P s) (address-below P s (h .size-some) (P .addressBytes))
 
 all-latched : (P : Part) (i : ℕ) (vs : List ℕ) (l : Latch) → 0 < P .page → length (l .marks) ≡ P .page → latchFits P true l ≡ true
     → latchFits P true (latchedFrom P i vs l) ≡ true
@@ -43,12 +45,12 @@ pub written-fits : (P : Part) (s : List ℕ) → 0 < P .page → latchFits P tru
 unfolding zeros
 written-fits P s h = all-latched P _ (payload P s) (noLatch P) h (length-replicate (P .page) 0) (none-latched P)
 
-module _ (P : Part) (sized : Paged P) (w : Bool) (c : Core) (s : List ℕ) (n : ℕ) where
+module _ (P : Part) (sound : Sound P) (w : Bool) (c : Core) (s : List ℕ) (n : ℕ) where
   pub after-within : (ran : Bool) → (running c ≡ true → ran ≡ true) → Within P c → Within P (after P ran w c s n)
   after-within ran h k =
       pick-case (Within P) (isExecuted (judged P ran w c s n))
-      (λ e. executed-within P (instruction s) n ran (on (c .srwd) && not w) (protects P c (address P s)) false
-      (getD s 1 0) (address P s / P .page) (written P s) c e h (page-below P s sized) (written-fits P s (sized .page)) k)
+      (λ e. executed-within P (instruction P s) n ran (on (c .srwd) && not w) (protects P c (address P s)) false
+      (getD s 1 0) (address P s / P .page) (written P s) c e h (page-below P s sound) (written-fits P s (sound .page-some)) k)
       (λ e. k)
 
   -- the public call: what it hands back of a record inside the ranges

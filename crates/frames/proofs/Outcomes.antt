@@ -21,7 +21,7 @@ use Rattle.frames.specs.Answers.{bitsFit, longestFrame, frameOutcome, fr
 use Rattle.frames.specs.Bytes.{instruction}
 use Rattle.frames.specs.After.{after}
 use Rattle.frames.specs.Shown.{output, undriven}
-use Rattle.frames.specs.declared.Answer.the-variants.{Shown, Unshown}
+use Rattle.frames.specs.declared.FrameReply.the-variants as reply
 use Rattle.frames.specs.declared.Framed.{Framed}
 
 -- a choice between going on and a refusal
@@ -74,14 +74,14 @@ module _ (P : Part) (c : Core) (m : List ℕ) (w : Bool) (s : List ℕ) (n : ℕ
       × ((u ≡ frameUndriven P c (length m) s n (length out)) × (o ≡ framedOutput P c m s n out)))
 
   pub shown-frame : {o : Outcome} → o ≡ frameOutcome P c (length m) (length s) n (length out) → o ≡ Done
-      → HandsBack (record { answer = Shown (undriven P (instruction s) (running c) n); core = after P (running c) w c s n }) 0 (undriven P (instruction s) (running c) n) (output P (running c) (λ j. status c) m s n)
+      → HandsBack (record { answer = reply.Shown (undriven P (instruction P s) (running c) n); core = after P (running c) w c s n }) 0 (undriven P (instruction P s) (running c) n) (output P (running c) (λ j. status c) m s n)
   unfolding framed framedOutput pick
   shown-frame found done =
       let e = sym found ∙ done in
       (rw e, (frame-number P c (length m) (length s) n (length out) e, (rw e, rw e)))
 
   pub refused-frame : (r : Refusal) {o : Outcome} → o ≡ frameOutcome P c (length m) (length s) n (length out) → o ≡ Refused r
-      → HandsBack (record { answer = Unshown r; core = c }) (refusalNumber r) 0 out
+      → HandsBack (record { answer = reply.Refused r; core = c }) (refusalNumber r) 0 out
   unfolding framed framedOutput pick
   refused-frame r found refused =
       let e = sym found ∙ refused in

@@ -16,11 +16,11 @@ use Rattle.frames.specs.Bytes.{instruction, address, written}
 -- HOLD is high throughout, so the frame is never held
 abbrev pub judged : Part → Bool → Bool → Core → List ℕ → ℕ → Verdict
 judged P ran w c s n =
-    verdict P (instruction s) n ran (on (c .wel)) (on (c .srwd) && not w) (protects P c (address P s)) false
+    verdict P (instruction P s) n ran (on (c .wel)) (on (c .srwd) && not w) (protects P c (address P s)) false
 
 -- what the instruction does where it is executed
 abbrev pub executed : Part → Core → List ℕ → Core
-executed P c s = effect P (instruction s) (getD s 1 0) (address P s / P .page) (written P s) c
+executed P c s = effect P (instruction P s) (getD s 1 0) (address P s / P .page) (written P s) c
 
 -- a frame that is not executed leaves the record as it was
 abbrev pub after : Part → Bool → Bool → Core → List ℕ → ℕ → Core

@@ -13,8 +13,8 @@ use Rattle.chip.specs.declared.Core.{Core}
 use Rattle.codes.specs.declared.Refusal.the-variants.{MemoryLength, RecordRange, FrameLength, BitCount, OutputLength}
 use Rattle.codes.specs.declared.Outcome.{Outcome}
 use Rattle.codes.specs.declared.Outcome.the-variants.{Done, Refused}
-use Rattle.frames.specs.declared.Answer.{Answer}
-use Rattle.frames.specs.declared.Answer.the-variants.{Shown, Unshown}
+use Rattle.frames.specs.declared.FrameReply.{FrameReply}
+use Rattle.frames.specs.declared.FrameReply.the-variants as reply
 use Rattle.frames.specs.declared.Framed.{Framed}
 use Rattle.frames.specs.Bytes.{instruction}
 use Rattle.frames.specs.After.{after}
@@ -43,25 +43,25 @@ frameOutcome P c size len n room =
     frameChoice P c size len n room (Refused MemoryLength) (Refused RecordRange) (Refused FrameLength) (Refused BitCount) (Refused OutputLength) Done
 
 -- the answer of a frame: how many leading bits were undriven, or the refusal
-abbrev pub answered : Outcome → ℕ → Answer
-answered Done u = Shown u
-answered (Refused r) u = Unshown r
+abbrev pub frameReply : Outcome → ℕ → FrameReply
+frameReply Done u = reply.Shown u
+frameReply (Refused r) u = reply.Refused r
 
 -- its number in document 01, and its value: every count is 0 in a refusal
-abbrev pub answerNumber : Answer → ℕ
-answerNumber (Shown u) = 0
-answerNumber (Unshown r) = refusalNumber r
+abbrev pub frameReplyNumber : FrameReply → ℕ
+frameReplyNumber (reply.Shown u) = 0
+frameReplyNumber (reply.Refused r) = refusalNumber r
 
-abbrev pub answerUndriven : Answer → ℕ
-answerUndriven (Shown u) = u
-answerUndriven (Unshown r) = 0
+abbrev pub frameReplyUndriven : FrameReply → ℕ
+frameReplyUndriven (reply.Shown u) = u
+frameReplyUndriven (reply.Refused r) = 0
 
 -- no time passes inside a frame: "no cycle" and the status are those of the record
 unfoldable pub framed : Part → Core → List ℕ → Bool → List ℕ → ℕ → ℕ → Framed
 framed P c m w s n room =
     let o = frameOutcome P c (length m) (length s) n room in
     record {
-      answer = answered o (undriven P (instruction s) (running c) n);
+      answer = frameReply o (undriven P (instruction P s) (running c) n);
       core = pick (isDone o) (after P (running c) w c s n) c;
     }
 
@@ -75,4 +75,4 @@ frameNumber P c size len n room = frameChoice P c size len n room 1 2 3 4 5 0
 
 abbrev pub frameUndriven : Part → Core → ℕ → List ℕ → ℕ → ℕ → ℕ
 frameUndriven P c size s n room =
-    pick (isDone (frameOutcome P c size (length s) n room)) (undriven P (instruction s) (running c) n) 0
+    pick (isDone (frameOutcome P c size (length s) n room)) (undriven P (instruction P s) (running c) n) 0

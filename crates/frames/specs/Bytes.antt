@@ -8,8 +8,8 @@ use Rattle.latch.specs.Latches.{latched, noLatch}
 use Rattle.latch.specs.declared.Latch.{Latch}
 use Rattle.codes.specs.declared.Instruction.{Instruction}
 
-abbrev pub instruction : List ℕ → Instruction
-instruction s = decode (getD s 0 0)
+abbrev pub instruction : Part → List ℕ → Instruction
+instruction P s = decode P (getD s 0 0)
 
 -- the first k address bytes, high byte first, each in its place
 abbrev pub addressTo : Part → List ℕ → ℕ → ℕ

@@ -1,4 +1,4 @@
--- Any list of frames and clock readings, played over a record and a memory; and which cells its executed WRITEs address.
+-- Any list of frames and clock readings, acted over a record and a memory; and which cells its executed WRITEs address.
 use Prim.Native.Nat.{ℕ, _*_, _-_, _/_}
 use mathlib.Core.Bool.{Bool, false, _&&_, _||_}
 use mathlib.Core.List.{List, [], _∷_}
@@ -40,7 +40,7 @@ actedAll P (a ∷ acts) d = actedAll P acts (acted P a d)
 abbrev pub addresses : Part → Act → Core → ℕ → Bool
 addresses P (frame w s n) c i =
     isExecuted (judged P (running c) w c s n)
-    && isWrite (instruction s)
+    && isWrite (instruction P s)
     && inPage P (address P s / P .page) i
     && marked (written P s) (i - address P s / P .page * P .page)
 addresses P (reading t) c i = false

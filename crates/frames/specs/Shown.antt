@@ -34,7 +34,7 @@ paddedAt len n j v = pick (eqb (j + 1) len) (padded (8 * len - n) v) v
 -- the output of a frame of n bits
 unfoldable pub output : Part → Bool → (ℕ → ℕ) → List ℕ → List ℕ → ℕ → List ℕ
 output P ran status m s n =
-    table (length s) (λ j. paddedAt (length s) n j (byteOut P (instruction s) ran status m (address P s) j))
+    table (length s) (λ j. paddedAt (length s) n j (byteOut P (instruction P s) ran status m (address P s) j))
 
 -- how many leading bits of n were undriven
 abbrev pub undriven : Part → Instruction → Bool → ℕ → ℕ

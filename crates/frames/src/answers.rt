@@ -1,25 +1,25 @@
 // Document 01's number of an answer, and its value.
 ghost use mathlib.Core.Path.{_≡_};
-ghost use Rattle.frames.specs.Answers.{answerNumber, answerUndriven};
-use crate::Answer;
+ghost use Rattle.frames.specs.Answers.{frameReplyNumber, frameReplyUndriven};
+use crate::FrameReply;
 
-impl Answer {
+impl FrameReply {
     pub fn number(self) -> u32
-        ensures { λ r. ⌜ r ≡ answerNumber self ⌝ }
+        ensures { λ r. ⌜ r ≡ frameReplyNumber self ⌝ }
     {
         match self {
-            Answer::Shown(_) => 0,
-            Answer::Unshown(r) => r.number(),
+            FrameReply::Shown(_) => 0,
+            FrameReply::Refused(r) => r.number(),
         }
     }
 
     // How many leading bits were undriven; 0 in a refusal.
     pub fn undriven(self) -> usize
-        ensures { λ r. ⌜ r ≡ answerUndriven self ⌝ }
+        ensures { λ r. ⌜ r ≡ frameReplyUndriven self ⌝ }
     {
         match self {
-            Answer::Shown(undriven) => undriven,
-            Answer::Unshown(_) => 0,
+            FrameReply::Shown(undriven) => undriven,
+            FrameReply::Refused(_) => 0,
         }
     }
 }

@@ -10,6 +10,7 @@ use crate::fields::instruction_of;
 use crate::fields::latch_of;
 use chip::Core;
 use codes::Instruction;
+use codes::PAGE;
 use codes::Verdict;
 use codes::judge;
 
@@ -40,7 +41,7 @@ fn execute(core: Core, bytes: &[u8]) -> Core
         Instruction::Rdsr => core,
         Instruction::Wrsr => core.begin_status(byte_at(bytes, 1)),
         Instruction::Read => core,
-        Instruction::Write => core.begin_page((address_of(bytes) / 128) as u32, latch_of(bytes)),
+        Instruction::Write => core.begin_page((address_of(bytes) / PAGE) as u32, latch_of(bytes)),
         Instruction::Silence => core,
     }
 }

@@ -4,7 +4,9 @@ ghost use Prim.Native.Nat.{_+_, _*_};
 ghost use lib.ListN.{getD};
 ghost use Rattle.codes.specs.Part.{m95512};
 ghost use Rattle.frames.specs.Bytes.{instruction, address, written};
+use codes::HEAD;
 use codes::Instruction;
+use codes::PAGE;
 use latch::Latch;
 use latch::next_cell;
 
@@ -18,7 +20,7 @@ pub(crate) fn byte_at(bytes: &[u8], i: usize) -> u8
 }
 
 pub(crate) fn instruction_of(bytes: &[u8]) -> Instruction
-    ensures { λ r. ⌜ r ≡ instruction (now (bytes .entry)) ⌝ }
+    ensures { λ r. ⌜ r ≡ instruction m95512 (now (bytes .entry)) ⌝ }
 {
     codes::decode(byte_at(bytes, 0))
 }
@@ -40,18 +42,13 @@ pub(crate) fn address_of(bytes: &[u8]) -> usize
 pub(crate) fn latch_of(bytes: &[u8]) -> Latch
     ensures { λ r. ⌜ r ≡ written m95512 (now (bytes .entry)) ⌝ }
 {
-    let mut cells = [0u8; 128];
-    let mut marks = [0u8; 128];
-    let mut cell = address_of(bytes) % 128;
-    let mut i: usize = 3;
+    let mut latch = Latch::none();
+    let mut cell = address_of(bytes) % PAGE;
+    let mut i = HEAD;
     while i < bytes.len() {
-        cells[cell] = bytes[i];
-        marks[cell] = 1;
+        latch = latch.with(cell, bytes[i]);
         cell = next_cell(cell);
         i += 1;
     }
-    Latch {
-        bytes: cells,
-        marks: marks,
-    }
+    latch
 }

@@ -1,4 +1,4 @@
-// The quick model of the M95512: it takes whole frames.
+// The frame model of the M95512: it takes whole frames.
 //
 // Public calls, each for every input: frame, here, and chip's power_up and clock_reading, whose record this model holds.
 ghost use mathlib.Core.Path.{_≡_};
@@ -7,7 +7,7 @@ ghost use Rattle.codes.specs.Part.{m95512};
 ghost use Rattle.chip.specs.Records.{running, status};
 ghost use Rattle.frames.specs.After.{after};
 ghost use Rattle.frames.specs.Shown.{output, undriven};
-ghost use Rattle.frames.specs.Answers.{framed, framedOutput, answerNumber, answerUndriven, frameNumber, frameUndriven};
+ghost use Rattle.frames.specs.Answers.{framed, framedOutput, frameReplyNumber, frameReplyUndriven, frameNumber, frameUndriven};
 use chip::Core;
 use codes::Outcome;
 use codes::Refusal;
@@ -19,14 +19,14 @@ mod refused;
 mod shown;
 
 // How many leading bits of the count were undriven, or the refusal.
-pub enum Answer {
+pub enum FrameReply {
     Shown(usize),
-    Unshown(Refusal),
+    Refused(Refusal),
 }
 
 // What a frame hands back: its answer, and the record that follows or, in a refusal, the record as given.
 pub struct Framed {
-    pub answer: Answer,
+    pub answer: FrameReply,
     pub core: Core,
 }
 
@@ -41,8 +41,8 @@ pub fn frame(
     out: &mut [u8],
 ) -> Framed
     ensures { λ r. ⌜ r ≡ framed m95512 core (now (memory .entry)) w (now (bytes .entry)) bits (length (now (out .entry))) ⌝ }
-    ensures { λ r. ⌜ answerNumber (r .answer) ≡ frameNumber m95512 core (length (now (memory .entry))) (length (now (bytes .entry))) bits (length (now (out .entry))) ⌝ }
-    ensures { λ r. ⌜ answerUndriven (r .answer) ≡ frameUndriven m95512 core (length (now (memory .entry))) (now (bytes .entry)) bits (length (now (out .entry))) ⌝ }
+    ensures { λ r. ⌜ frameReplyNumber (r .answer) ≡ frameNumber m95512 core (length (now (memory .entry))) (length (now (bytes .entry))) bits (length (now (out .entry))) ⌝ }
+    ensures { λ r. ⌜ frameReplyUndriven (r .answer) ≡ frameUndriven m95512 core (length (now (memory .entry))) (now (bytes .entry)) bits (length (now (out .entry))) ⌝ }
     ensures { λ _. ⌜ now (out .exit) ≡ framedOutput m95512 core (now (memory .entry)) (now (bytes .entry)) bits (now (out .entry)) ⌝ }
 {
     match refused::outcome(core, memory.len(), bytes.len(), bits, out.len()) {
@@ -51,12 +51,12 @@ pub fn frame(
             let i = fields::instruction_of(bytes);
             shown::show(i, ran, core.status(), memory, bytes, bits, out);
             Framed {
-                answer: Answer::Shown(shown::undriven(i, ran, bits)),
+                answer: FrameReply::Shown(shown::undriven(i, ran, bits)),
                 core: executed::after(core, w, bytes, bits),
             }
         }
         Outcome::Refused(r) => Framed {
-            answer: Answer::Unshown(r),
+            answer: FrameReply::Refused(r),
             core: core,
         },
     }

@@ -2,14 +2,16 @@
 ghost use mathlib.Core.Path.{_≡_};
 ghost use Prim.Native.Nat.{_≤_};
 ghost use Rattle.codes.specs.Part.{m95512};
-ghost use Rattle.frames.specs.Answers.{bitsFit, frameOutcome};
+ghost use Rattle.frames.specs.Answers.{bitsFit, frameOutcome, longestFrame};
 use chip::Core;
+use codes::LONGEST_FRAME;
 use codes::Outcome;
 use codes::Refusal;
+use codes::SIZE;
 
 // A bit count that fits: 0 for an empty slice, else from 8·length − 7 to 8·length. For a slice that is not too long.
 fn bits_fit(len: usize, bits: usize) -> bool
-    requires { ⌜ len ≤ 65540 ⌝ }
+    requires { ⌜ len ≤ longestFrame m95512 ⌝ }
     ensures { λ r. ⌜ r ≡ bitsFit len bits ⌝ }
 {
     if len == 0 {
@@ -21,9 +23,9 @@ fn bits_fit(len: usize, bits: usize) -> bool
 pub(crate) fn outcome(core: Core, size: usize, len: usize, bits: usize, room: usize) -> Outcome
     ensures { λ r. ⌜ r ≡ frameOutcome m95512 core size len bits room ⌝ }
 {
-    if size == 65536 {
+    if size == SIZE {
         if core.in_ranges() {
-            if len <= 65540 {
+            if len <= LONGEST_FRAME {
                 if bits_fit(len, bits) {
                     if room == len {
                         return Outcome::Done;

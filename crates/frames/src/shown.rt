@@ -10,10 +10,13 @@ ghost use Rattle.codes.specs.Part.{m95512};
 ghost use Rattle.codes.specs.Output.{outputs};
 ghost use Rattle.codes.specs.declared.Instruction.the-variants.{Read};
 ghost use Rattle.frames.specs.Bytes.{instruction, address};
-ghost use Rattle.frames.specs.Answers.{bitsFit};
+ghost use Rattle.frames.specs.Answers.{bitsFit, longestFrame};
 ghost use Rattle.frames.specs.Shown.{byteOut, padded, output, undriven};
 use crate::fields::address_of;
+use codes::HEAD;
+use codes::HEAD_BITS;
 use codes::Instruction;
+use codes::SIZE;
 
 // How many leading bits of the count are undriven.
 pub(crate) fn undriven(i: Instruction, ran: bool, bits: usize) -> usize
@@ -37,12 +40,12 @@ fn at_most(most: usize, n: usize) -> usize
 }
 
 fn read_undriven(ran: bool, bits: usize) -> usize
-    ensures { λ r. ⌜ r ≡ pick ran bits (min 24 bits) ⌝ }
+    ensures { λ r. ⌜ r ≡ pick ran bits (min (8 * (m95512 .addressBytes + 1)) bits) ⌝ }
 {
     if ran {
         return bits;
     }
-    at_most(24, bits)
+    at_most(HEAD_BITS, bits)
 }
 
 // Every byte of the slice the same.
@@ -58,19 +61,19 @@ fn fill(out: &mut [u8], byte: u8)
 
 // The cells from an address up, rolling from the last one to the first: at most two runs of them.
 fn show_cells(memory: &[u8], from: usize, out: &mut [u8])
-    requires { ⌜ length (now memory) ≡ 65536 ⌝ }
-    requires { ⌜ from < 65536 ⌝ }
-    requires { ⌜ length (now out) ≤ 65537 ⌝ }
-    ensures { λ _. ⌜ now (out .exit) ≡ table (length (now (out .entry))) (λ d. getD (now (memory .entry)) ((from + d) % 65536) 0) ⌝ }
+    requires { ⌜ length (now memory) ≡ m95512 .size ⌝ }
+    requires { ⌜ from < m95512 .size ⌝ }
+    requires { ⌜ length (now out) ≤ m95512 .size + 1 ⌝ }
+    ensures { λ _. ⌜ now (out .exit) ≡ table (length (now (out .entry))) (λ d. getD (now (memory .entry)) ((from + d) % m95512 .size) 0) ⌝ }
 {
     let n = out.len();
-    let run = 65536 - from;
+    let run = SIZE - from;
     if n <= run {
         let end = from + n;
         bytes::copy(&memory[from..end], out);
     } else {
         let rest = n - run;
-        bytes::copy(&memory[from..65536], &mut out[0..run]);
+        bytes::copy(&memory[from..SIZE], &mut out[0..run]);
         bytes::copy(&memory[0..rest], &mut out[run..n]);
     }
 }
@@ -87,29 +90,29 @@ fn show_status(status: u8, out: &mut [u8])
 
 // READ: the cells after the address, or nothing where a cycle ran.
 fn show_read(ran: bool, memory: &[u8], from: usize, out: &mut [u8])
-    requires { ⌜ length (now memory) ≡ 65536 ⌝ }
-    requires { ⌜ from < 65536 ⌝ }
-    requires { ⌜ length (now out) ≤ 65540 ⌝ }
-    ensures { λ _. ⌜ now (out .exit) ≡ table (length (now (out .entry))) (λ j. pick (outputs m95512 Read j ran) (getD (now (memory .entry)) ((from + (j - 3)) % 65536) 0) 255) ⌝ }
+    requires { ⌜ length (now memory) ≡ m95512 .size ⌝ }
+    requires { ⌜ from < m95512 .size ⌝ }
+    requires { ⌜ length (now out) ≤ longestFrame m95512 ⌝ }
+    ensures { λ _. ⌜ now (out .exit) ≡ table (length (now (out .entry))) (λ j. pick (outputs m95512 Read j ran) (getD (now (memory .entry)) ((from + (j - (m95512 .addressBytes + 1))) % m95512 .size) 0) 255) ⌝ }
 {
     let n = out.len();
     if ran {
         fill(out, 255);
         return;
     }
-    if n < 3 {
+    if n < HEAD {
         fill(out, 255);
         return;
     }
-    fill(&mut out[0..3], 255);
-    show_cells(memory, from, &mut out[3..n]);
+    fill(&mut out[0..HEAD], 255);
+    show_cells(memory, from, &mut out[HEAD..n]);
 }
 
 // What stands on Q over each byte, undriven bits as 1.
 fn show_bytes(i: Instruction, ran: bool, status: u8, memory: &[u8], from: usize, out: &mut [u8])
-    requires { ⌜ length (now memory) ≡ 65536 ⌝ }
-    requires { ⌜ from < 65536 ⌝ }
-    requires { ⌜ length (now out) ≤ 65540 ⌝ }
+    requires { ⌜ length (now memory) ≡ m95512 .size ⌝ }
+    requires { ⌜ from < m95512 .size ⌝ }
+    requires { ⌜ length (now out) ≤ longestFrame m95512 ⌝ }
     ensures { λ _. ⌜ now (out .exit) ≡ table (length (now (out .entry))) (byteOut m95512 i ran (λ j. status) (now (memory .entry)) from) ⌝ }
 {
     match i {
@@ -154,11 +157,11 @@ pub(crate) fn show(
     bits: usize,
     out: &mut [u8],
 )
-    requires { ⌜ length (now memory) ≡ 65536 ⌝ }
-    requires { ⌜ length (now bytes) ≤ 65540 ⌝ }
+    requires { ⌜ length (now memory) ≡ m95512 .size ⌝ }
+    requires { ⌜ length (now bytes) ≤ longestFrame m95512 ⌝ }
     requires { ⌜ bitsFit (length (now bytes)) bits ≡ true ⌝ }
     requires { ⌜ length (now out) ≡ length (now bytes) ⌝ }
-    requires { ⌜ i ≡ instruction (now bytes) ⌝ }
+    requires { ⌜ i ≡ instruction m95512 (now bytes) ⌝ }
     ensures { λ _. ⌜ now (out .exit) ≡ output m95512 ran (λ j. status) (now (memory .entry)) (now (bytes .entry)) bits ⌝ }
 {
     show_bytes(i, ran, status, memory, address_of(bytes), out);

@@ -1,12 +1,15 @@
 // A page write: its ranges, and the page that it is stored in.
 ghost use mathlib.Core.Path.{_≡_};
+ghost use Prim.Native.Nat.{_%_};
 ghost use mathlib.Core.Bool.{_&&_, _||_};
 ghost use lib.Dec.{eqb};
 ghost use lib.ListN.{length};
 ghost use Rattle.laws.specs.Pick.{pick};
 ghost use Rattle.codes.specs.Part.{m95512};
-ghost use Rattle.latch.specs.Latches.{laid, latchFits, nextCell, noLatch, stored};
+ghost use Rattle.latch.specs.Latches.{laid, latchFits, latched, nextCell, noLatch, stored};
 use crate::Latch;
+use crate::ROOM;
+use codes::PAGE;
 
 impl Latch {
     // No byte latched.
@@ -14,9 +17,19 @@ impl Latch {
         ensures { λ r. ⌜ r ≡ noLatch m95512 ⌝ }
     {
         Latch {
-            bytes: [0; 128],
-            marks: [0; 128],
+            bytes: [0; ROOM],
+            marks: [0; ROOM],
         }
+    }
+
+    // One more byte latched, for the cell of its page that an address is in; the latest byte for a cell wins.
+    pub fn with(mut self, address: usize, byte: u8) -> Latch
+        ensures { λ r. ⌜ r ≡ latched (address % m95512 .page) byte self ⌝ }
+    {
+        let cell = address % PAGE;
+        self.bytes[cell] = byte;
+        self.marks[cell] = 1;
+        self
     }
 
     // Unmarked bytes read 0; there are marks only where there may be.
@@ -28,14 +41,14 @@ impl Latch {
         cells_fit(may, &bytes, &marks)
     }
 
-    // Lays the write over page number `page` of the memory: that page's 128 bytes alone are lent on. A page that the memory lacks is not stored.
+    // Lays the write over page number `page` of the memory: that page's bytes alone are lent on. A page that the memory lacks is not stored.
     pub fn store(self, page: u32, memory: &mut [u8])
         ensures { λ _. ⌜ now (memory .exit) ≡ stored m95512 page self (now (memory .entry)) ⌝ }
     {
         let bytes = self.bytes;
         let marks = self.marks;
-        let start = page as usize * 128;
-        let end = start + 128;
+        let start = page as usize * PAGE;
+        let end = start + PAGE;
         if end <= memory.len() {
             store_page(&mut memory[start..end], &bytes, &marks);
         }
@@ -46,7 +59,7 @@ impl Latch {
 pub fn next_cell(address: usize) -> usize
     ensures { λ r. ⌜ r ≡ nextCell m95512 address ⌝ }
 {
-    (address % 128 + 1) % 128
+    (address % PAGE + 1) % PAGE
 }
 
 // No mark and the byte 0, or a mark where there may be marks.
@@ -57,11 +70,11 @@ fn cell_fits(may: bool, byte: u8, mark: u8) -> bool
 }
 
 // The loop has no branch: it runs at every public call.
-fn cells_fit<'a>(may: bool, bytes: &'a [u8; 128], marks: &'a [u8; 128]) -> bool
+fn cells_fit<'a>(may: bool, bytes: &'a [u8; ROOM], marks: &'a [u8; ROOM]) -> bool
     ensures { λ r. ⌜ r ≡ latchFits m95512 may (record { bytes = now (bytes .entry); marks = now (marks .entry) }) ⌝ }
 {
     let mut fits = true;
-    for i in 0..128usize {
+    for i in 0..PAGE {
         fits = fits & cell_fits(may, bytes[i], marks[i]);
     }
     fits
@@ -74,11 +87,11 @@ fn laid_byte(byte: u8, mark: u8, old: u8) -> u8
 }
 
 // The marked bytes go into the page; its other cells stay.
-fn store_page<'a>(page: &mut [u8], bytes: &'a [u8; 128], marks: &'a [u8; 128])
-    requires { ⌜ length (now page) ≡ 128 ⌝ }
+fn store_page<'a>(page: &mut [u8], bytes: &'a [u8; ROOM], marks: &'a [u8; ROOM])
+    requires { ⌜ length (now page) ≡ m95512 .page ⌝ }
     ensures { λ _. ⌜ now (page .exit) ≡ laid m95512 (record { bytes = now (bytes .entry); marks = now (marks .entry) }) (now (page .entry)) ⌝ }
 {
-    for i in 0..128usize {
+    for i in 0..PAGE {
         page[i] = laid_byte(bytes[i], marks[i], page[i]);
     }
 }

@@ -1,5 +1,5 @@
 -- A list of events: what an edge moves, the list from its front, and that two results are equal.
 pub mod Answering
 pub mod Playing
-pub mod Quick
+pub mod InPlace
 pub mod Ones

@@ -10,7 +10,7 @@ use Rattle.edges.specs.declared.Frame.{Frame}
 use Rattle.edges.specs.Frames.{withBits, withOut, withAddress}
 use Rattle.pins.specs.declared.Device.{Device}
 use Rattle.pins.specs.declared.Event.{Event}
-use Rattle.pins.specs.Devices.{withC, withD, withW, withHold, withPins, withFrame}
+use Rattle.pins.specs.Devices.{withC, withD, withW, withHold, withHeldAt, withPins, withFrame}
 use Rattle.pins.specs.Events.{stepped, steppedMemory}
 use Rattle.lists.specs.declared.Front.{Front}
 use Rattle.lists.specs.declared.Way.{Way}
@@ -61,9 +61,6 @@ whole f l k =
 
 -- ---- the ways
 
-abbrev pub heldAt : ℕ → Device → Device
-heldAt v x = record { pins = x .pins; held = v; frame = x .frame; core = x .core }
-
 abbrev pub withTaken : ℕ → Frame → Frame
 withTaken n f =
     record {
@@ -87,16 +84,16 @@ isWhole (Fall held v n a) = false
 isWhole Whole = true
 
 -- the device after a way was gone; `Whole` is the event itself
-abbrev pub after : Part → List ℕ → Event → Way → Device → Device
-after P m e (Data d) x = withPins (withD d (x .pins)) x
-after P m e (Set w hold held) x = withPins (withHold hold (withW w (x .pins))) (heldAt held x)
-after P m e (Rise n b v) x = withPins (withC 1 (x .pins)) (withFrame (withTaken n (withBits b v (x .frame))) x)
-after P m e (Fall held v n a) x = heldAt held (withPins (withC 0 (x .pins)) (withFrame (withAddress a (withOut v n (x .frame))) x))
-after P m e Whole x = stepped P m e x
+abbrev pub afterWay : Part → List ℕ → Event → Way → Device → Device
+afterWay P m e (Data d) x = withPins (withD d (x .pins)) x
+afterWay P m e (Set w hold held) x = withPins (withHold hold (withW w (x .pins))) (withHeldAt held x)
+afterWay P m e (Rise n b v) x = withPins (withC 1 (x .pins)) (withFrame (withTaken n (withBits b v (x .frame))) x)
+afterWay P m e (Fall held v n a) x = withHeldAt held (withPins (withC 0 (x .pins)) (withFrame (withAddress a (withOut v n (x .frame))) x))
+afterWay P m e Whole x = stepped P m e x
 
-abbrev pub afterMemory : Part → Event → Way → Device → List ℕ → List ℕ
-afterMemory P e (Data d) x m = m
-afterMemory P e (Set w hold held) x m = m
-afterMemory P e (Rise n b v) x m = m
-afterMemory P e (Fall held v n a) x m = m
-afterMemory P e Whole x m = steppedMemory P e x m
+abbrev pub afterWayMemory : Part → Event → Way → Device → List ℕ → List ℕ
+afterWayMemory P e (Data d) x m = m
+afterWayMemory P e (Set w hold held) x m = m
+afterWayMemory P e (Rise n b v) x m = m
+afterWayMemory P e (Fall held v n a) x m = m
+afterWayMemory P e Whole x m = steppedMemory P e x m

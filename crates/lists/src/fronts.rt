@@ -11,7 +11,7 @@ ghost use Rattle.codes.specs.declared.Instruction.the-variants.{Read};
 ghost use Rattle.edges.specs.declared.Frame.{Frame};
 ghost use Rattle.pins.specs.declared.Event.{Event};
 ghost use Rattle.pins.specs.declared.Event.the-variants.{C, Hold};
-ghost use Rattle.lists.specs.Ways.{frontOf, whole, isWhole, after, afterMemory};
+ghost use Rattle.lists.specs.Ways.{frontOf, whole, isWhole, afterWay, afterWayMemory};
 ghost use Rattle.edges.specs.Rising.{taking};
 ghost use Rattle.pins.specs.Events.{onC, onHold, stepped, steppedMemory};
 use crate::Front;
@@ -29,6 +29,9 @@ use latch::Latch;
 use pins::Device;
 use pins::Event;
 use pins::Pins;
+
+// The count of whole bytes is u8.
+const HEAD: u8 = codes::HEAD as u8;
 
 // The front of a whole device.
 pub(crate) fn front_of(device: Device) -> Front
@@ -94,7 +97,7 @@ fn unkept(i: Instruction, taken: u8) -> bool
         Instruction::Wrdi => 1 <= taken,
         Instruction::Rdsr => 1 <= taken,
         Instruction::Wrsr => 2 <= taken,
-        Instruction::Read => 3 <= taken,
+        Instruction::Read => HEAD <= taken,
         Instruction::Write => false,
         Instruction::Silence => 1 <= taken,
     }
@@ -113,7 +116,7 @@ impl Front {
     // A rising edge: not counted, one more bit, or a byte that nothing keeps.
     fn rising(self) -> Way
         requires { ⌜ (self .c ≡ 1 → ⊥) ⌝ }
-        ensures { λ r. ⌜ ((m : List ℕ) (l : Latch) (k : Core) → after m95512 m (C true) r (whole self l k) ≡ onC m95512 true m (whole self l k)) ⌝ }
+        ensures { λ r. ⌜ ((m : List ℕ) (l : Latch) (k : Core) → afterWay m95512 m (C true) r (whole self l k) ≡ onC m95512 true m (whole self l k)) ⌝ }
     {
         let taken = self.taken;
         let bits = self.bits;
@@ -148,7 +151,7 @@ impl Front {
     // A falling edge: the same bit, the next bit, or the next byte of a READ.
     fn falling(self, memory: &[u8]) -> Way
         requires { ⌜ (self .c ≡ 0 → ⊥) ⌝ }
-        ensures { λ r. ⌜ ((l : Latch) (k : Core) → after m95512 (now (memory .entry)) (C false) r (whole self l k) ≡ onC m95512 false (now (memory .entry)) (whole self l k)) ⌝ }
+        ensures { λ r. ⌜ ((l : Latch) (k : Core) → afterWay m95512 (now (memory .entry)) (C false) r (whole self l k) ≡ onC m95512 false (now (memory .entry)) (whole self l k)) ⌝ }
     {
         let counted = !(self.s == 1) & !(self.held == 1);
         let i = codes::decode(self.code);
@@ -185,7 +188,7 @@ impl Front {
     }
 
     fn clocked(self, level: bool, memory: &[u8]) -> Way
-        ensures { λ r. ⌜ ((l : Latch) (k : Core) → after m95512 (now (memory .entry)) (C level) r (whole self l k) ≡ onC m95512 level (now (memory .entry)) (whole self l k)) ⌝ }
+        ensures { λ r. ⌜ ((l : Latch) (k : Core) → afterWay m95512 (now (memory .entry)) (C level) r (whole self l k) ≡ onC m95512 level (now (memory .entry)) (whole self l k)) ⌝ }
     {
         if self.c == bit(level) {
             return Way::Whole;
@@ -198,7 +201,7 @@ impl Front {
 
     // Held keeps its value while C is high.
     fn pausing(self, level: bool) -> Way
-        ensures { λ r. ⌜ ((m : List ℕ) (l : Latch) (k : Core) → after m95512 m (Hold level) r (whole self l k) ≡ onHold level (whole self l k)) ⌝ }
+        ensures { λ r. ⌜ ((m : List ℕ) (l : Latch) (k : Core) → afterWay m95512 m (Hold level) r (whole self l k) ≡ onHold level (whole self l k)) ⌝ }
     {
         let hold = bit(level);
         if self.c == 1 {
@@ -217,9 +220,9 @@ impl Front {
     }
 
     // What an event moves, if it is one of those that move little.
-    pub(crate) fn quick(self, event: Event, memory: &[u8]) -> Way
-        ensures { λ r. ⌜ ((l : Latch) (k : Core) → after m95512 (now (memory .entry)) event r (whole self l k) ≡ stepped m95512 (now (memory .entry)) event (whole self l k)) ⌝ }
-        ensures { λ r. ⌜ ((l : Latch) (k : Core) (m : List ℕ) → afterMemory m95512 event r (whole self l k) m ≡ steppedMemory m95512 event (whole self l k) m) ⌝ }
+    pub(crate) fn way_for(self, event: Event, memory: &[u8]) -> Way
+        ensures { λ r. ⌜ ((l : Latch) (k : Core) → afterWay m95512 (now (memory .entry)) event r (whole self l k) ≡ stepped m95512 (now (memory .entry)) event (whole self l k)) ⌝ }
+        ensures { λ r. ⌜ ((l : Latch) (k : Core) (m : List ℕ) → afterWayMemory m95512 event r (whole self l k) m ≡ steppedMemory m95512 event (whole self l k) m) ⌝ }
     {
         match event {
             Event::S(_) => Way::Whole,
@@ -240,7 +243,7 @@ impl Front {
 
     // The front after a way, which is not the whole event.
     pub(crate) fn moved(mut self, way: Way) -> Front
-        ensures { λ r. ⌜ ((m : List ℕ) (e : Event) (l : Latch) (k : Core) → isWhole way ≡ false → whole r l k ≡ after m95512 m e way (whole self l k)) ⌝ }
+        ensures { λ r. ⌜ ((m : List ℕ) (e : Event) (l : Latch) (k : Core) → isWhole way ≡ false → whole r l k ≡ afterWay m95512 m e way (whole self l k)) ⌝ }
     {
         match way {
             Way::Data(level) => {

@@ -1,4 +1,4 @@
-// A list of events at once, with Q after each: the slow model for long traces.
+// A list of events at once, with Q after each: the pin model for long traces.
 //
 // Public call, for every input: play.
 mod fronts;

@@ -9,6 +9,7 @@ ghost use Rattle.lists.specs.Answers.{playOutcome, playNumber, playedQ};
 use crate::fronts::front_of;
 use codes::Outcome;
 use codes::Refusal;
+use codes::SIZE;
 use edges::level_of;
 use pins::Device;
 use pins::Event;
@@ -44,7 +45,7 @@ fn play_all(device: Device, memory: &mut [u8], events: &[u64], out: &mut [u8]) -
     let mut i: usize = 0;
     while i < events.len() {
         let event = event_of(events[i]);
-        let way = front.quick(event, memory);
+        let way = front.way_for(event, memory);
         if way.is_whole() {
             let next = front.whole(latch, core).stepped(event, memory);
             let frame = next.frame;
@@ -68,7 +69,7 @@ pub fn play(device: Device, memory: &mut [u8], events: &[u64], out: &mut [u8]) -
     ensures { λ _. ⌜ now (memory .exit) ≡ answerMemory (playOutcome m95512 device (now (memory .entry)) (length (now (events .entry))) (length (now (out .entry)))) (played m95512 (now (events .entry)) (pinBench device (now (memory .entry))) .memory) (now (memory .entry)) ⌝ }
     ensures { λ _. ⌜ now (out .exit) ≡ answerMemory (playOutcome m95512 device (now (memory .entry)) (length (now (events .entry))) (length (now (out .entry)))) (playedQ m95512 (now (events .entry)) (pinBench device (now (memory .entry)))) (now (out .entry)) ⌝ }
 {
-    if memory.len() == 65536 {
+    if memory.len() == SIZE {
         if device.in_ranges() {
             if out.len() == events.len() {
                 let next = play_all(device, memory, events, out);

@@ -22,7 +22,7 @@ unmoved x g true o false e h = rw e refl
 unmoved x g false o d e h = refl
 
 pub still : (P : Part) (m : List ℕ) (c : Core) (x : Device) (drives : Bool)
-    → outputs P (decode (x .frame .code)) (x .frame .taken) (on (x .frame .ran)) ≡ drives → (counting x && drives) ≡ false
+    → outputs P (decode P (x .frame .code)) (x .frame .taken) (on (x .frame .ran)) ≡ drives → (counting x && drives) ≡ false
     → x ≡ pick (counting x) (withFrame (fallen P m c (x .frame)) x) x
 unfolding fallen
 still P m c x drives e h = unmoved x _ (counting x) _ drives e h

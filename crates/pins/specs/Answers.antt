@@ -16,7 +16,7 @@ use Rattle.pins.specs.declared.Device.{Device}
 use Rattle.pins.specs.declared.Event.{Event}
 use Rattle.pins.specs.declared.Stepped.{Stepped}
 use Rattle.pins.specs.declared.QAnswer.{QAnswer}
-use Rattle.pins.specs.declared.QAnswer.the-variants.{Shows, Unanswered}
+use Rattle.pins.specs.declared.QAnswer.the-variants as q-answer
 use Rattle.pins.specs.declared.StatusAnswer.{StatusAnswer}
 use Rattle.pins.specs.declared.StatusAnswer.the-variants as status-answer
 use Rattle.pins.specs.Devices.{resting, q}
@@ -60,31 +60,31 @@ answerMemory o after m = pick (isDone o) after m
 -- ---- what a device shows
 
 abbrev pub qAnswer : Part → Device → QAnswer
-qAnswer P x = recordChoice P x (Unanswered RecordRange) (Shows (q x))
+qAnswer P x = recordChoice P x (q-answer.Refused RecordRange) (q-answer.Shows (q x))
 
 abbrev pub qNumber : QAnswer → ℕ
-qNumber (Shows l) = 0
-qNumber (Unanswered r) = refusalNumber r
+qNumber (q-answer.Shows l) = 0
+qNumber (q-answer.Refused r) = refusalNumber r
 
 -- 0, 1 or 2 for Z; 0 in a refusal
 abbrev pub qValue : QAnswer → ℕ
-qValue (Shows l) = levelNumber l
-qValue (Unanswered r) = 0
+qValue (q-answer.Shows l) = levelNumber l
+qValue (q-answer.Refused r) = 0
 
 -- the value, by the input
 abbrev pub qAsked : Part → Device → ℕ
 qAsked P x = recordChoice P x 0 (levelNumber (q x))
 
 abbrev pub statusAnswer : Part → Device → StatusAnswer
-statusAnswer P x = recordChoice P x (status-answer.Unanswered RecordRange) (status-answer.Byte (status (x .core)))
+statusAnswer P x = recordChoice P x (status-answer.Refused RecordRange) (status-answer.Byte (status (x .core)))
 
 abbrev pub statusNumber : StatusAnswer → ℕ
 statusNumber (status-answer.Byte v) = 0
-statusNumber (status-answer.Unanswered r) = refusalNumber r
+statusNumber (status-answer.Refused r) = refusalNumber r
 
 abbrev pub statusValue : StatusAnswer → ℕ
 statusValue (status-answer.Byte v) = v
-statusValue (status-answer.Unanswered r) = 0
+statusValue (status-answer.Refused r) = 0
 
 abbrev pub statusAsked : Part → Device → ℕ
 statusAsked P x = recordChoice P x 0 (status (x .core))

@@ -1,4 +1,5 @@
--- The device record: what its fields say, and every way in which one is made of another. But for a list's own parts (lists/Ways), no record is written out anywhere else.
+-- The device record: what its fields say, and every way in which one is made of another. But for a list's own parts
+-- (lists/Ways), no record is written out anywhere else.
 use Prim.Native.Nat.{ℕ}
 use mathlib.Core.Bool.{Bool, not, _&&_}
 use Rattle.codes.specs.Part.{Part}
@@ -12,6 +13,10 @@ use Rattle.edges.specs.declared.Frame.{Frame}
 use Rattle.pins.specs.declared.Device.{Device}
 
 -- ---- the pins
+
+-- S, C, D, W and HOLD, each at its level
+abbrev pub pinsAt : ℕ → ℕ → ℕ → ℕ → ℕ → Pins
+pinsAt s c d w hold = record { s = s; c = c; d = d; w = w; hold = hold }
 
 abbrev pub withS : ℕ → Pins → Pins
 withS v p = record { s = v; c = p .c; d = p .d; w = p .w; hold = p .hold }
@@ -30,15 +35,19 @@ withHold v p = record { s = p .s; c = p .c; d = p .d; w = p .w; hold = v }
 
 -- power-up: S, W and HOLD high, C and D low
 abbrev pub restingPins : Pins
-restingPins = record { s = 1; c = 0; d = 0; w = 1; hold = 1 }
+restingPins = pinsAt 1 0 0 1 1
 
 -- ---- the device
 
 abbrev pub withPins : Pins → Device → Device
 withPins p x = record { pins = p; held = x .held; frame = x .frame; core = x .core }
 
+-- held as a number, and as a test says
+abbrev pub withHeldAt : ℕ → Device → Device
+withHeldAt n x = record { pins = x .pins; held = n; frame = x .frame; core = x .core }
+
 abbrev pub withHeld : Bool → Device → Device
-withHeld b x = record { pins = x .pins; held = bit b; frame = x .frame; core = x .core }
+withHeld b x = withHeldAt (bit b) x
 
 abbrev pub withFrame : Frame → Device → Device
 withFrame f x = record { pins = x .pins; held = x .held; frame = f; core = x .core }

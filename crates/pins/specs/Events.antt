@@ -32,12 +32,12 @@ selecting P x =
 -- what deselect decides, of the frame as it stands: the count of its bits, "no cycle" at the eighth edge, and WEL, W and held as they are now
 abbrev pub judgedNow : Part → Device → Verdict
 judgedNow P x =
-    verdict P (decode (x .frame .code)) (8 * x .frame .taken + x .frame .bits) (on (x .frame .ran)) (on (x .core .wel))
+    verdict P (decode P (x .frame .code)) (8 * x .frame .taken + x .frame .bits) (on (x .frame .ran)) (on (x .core .wel))
     (on (x .core .srwd) && not (on (x .pins .w))) (protects P (x .core) (x .frame .address)) (on (x .held))
 
 abbrev pub executedNow : Part → Device → Core
 executedNow P x =
-    effect P (decode (x .frame .code)) (x .frame .value) (x .frame .address / P .page) (x .frame .latch) (x .core)
+    effect P (decode P (x .frame .code)) (x .frame .value) (x .frame .address / P .page) (x .frame .latch) (x .core)
 
 abbrev pub decided : Part → Device → Core
 decided P x = pick (isExecuted (judgedNow P x)) (executedNow P x) (x .core)

@@ -12,7 +12,7 @@ impl QAnswer {
     {
         match self {
             QAnswer::Shows(_) => 0,
-            QAnswer::Unanswered(r) => r.number(),
+            QAnswer::Refused(r) => r.number(),
         }
     }
 
@@ -22,7 +22,7 @@ impl QAnswer {
     {
         match self {
             QAnswer::Shows(level) => wide(level.number()),
-            QAnswer::Unanswered(_) => 0,
+            QAnswer::Refused(_) => 0,
         }
     }
 }
@@ -34,7 +34,7 @@ impl StatusAnswer {
     {
         match self {
             StatusAnswer::Byte(_) => 0,
-            StatusAnswer::Unanswered(r) => r.number(),
+            StatusAnswer::Refused(r) => r.number(),
         }
     }
 
@@ -44,7 +44,7 @@ impl StatusAnswer {
     {
         match self {
             StatusAnswer::Byte(byte) => wide(byte),
-            StatusAnswer::Unanswered(_) => 0,
+            StatusAnswer::Refused(_) => 0,
         }
     }
 }

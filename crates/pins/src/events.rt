@@ -16,6 +16,9 @@ use edges::bit;
 use edges::outputs;
 use edges::shifted_in;
 
+// Addresses are u32.
+const PAGE: u32 = codes::PAGE as u32;
+
 impl Device {
     // S falling selects and starts an empty frame; with C low and HOLD low it starts held.
     fn selecting(mut self) -> Device
@@ -58,7 +61,7 @@ impl Device {
             Instruction::Rdsr => core,
             Instruction::Wrsr => core.begin_status(self.frame.value),
             Instruction::Read => core,
-            Instruction::Write => core.begin_page(self.frame.address / 128, latch),
+            Instruction::Write => core.begin_page(self.frame.address / PAGE, latch),
             Instruction::Silence => core,
         }
     }

@@ -1,4 +1,4 @@
-// The slow model of the M95512: one pin change or clock reading at a time.
+// The pin model of the M95512: one pin change or clock reading at a time.
 //
 // Public calls, each for every input: power_up; the methods of Device set_s, set_c, set_d, set_w, set_hold and read_clock, one for each kind of
 // event; q and status, what the device shows; and in_ranges.
@@ -48,13 +48,13 @@ pub enum Event {
 // Q of a device, or the refusal.
 pub enum QAnswer {
     Shows(Level),
-    Unanswered(Refusal),
+    Refused(Refusal),
 }
 
 // The status byte of a device, or the refusal.
 pub enum StatusAnswer {
     Byte(u8),
-    Unanswered(Refusal),
+    Refused(Refusal),
 }
 
 // What an event or power-up hands back, and a list of events (crate lists).

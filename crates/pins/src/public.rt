@@ -13,6 +13,7 @@ use crate::StatusAnswer;
 use crate::Stepped;
 use codes::Outcome;
 use codes::Refusal;
+use codes::SIZE;
 
 // Power-up: 6 and the delivered record for a cycle length that is not 1 to 5,000.
 pub fn power_up(cycle: u32, srwd: bool, bp1: bool, bp0: bool, reading: u32) -> Stepped
@@ -96,7 +97,7 @@ impl Device {
         ensures { λ r. ⌜ r ≡ answer (memoryOutcome m95512 self (now (memory .entry))) (onC m95512 level (now (memory .entry)) self) self ⌝ }
         ensures { λ r. ⌜ number (r .outcome) ≡ memoryNumber m95512 self (now (memory .entry)) ⌝ }
     {
-        if memory.len() == 65536 {
+        if memory.len() == SIZE {
             if self.in_ranges() {
                 return self.on_c(level, memory).done();
             }
@@ -111,7 +112,7 @@ impl Device {
         ensures { λ r. ⌜ number (r .outcome) ≡ memoryNumber m95512 self (now (memory .entry)) ⌝ }
         ensures { λ _. ⌜ now (memory .exit) ≡ answerMemory (memoryOutcome m95512 self (now (memory .entry))) (timedMemory m95512 reading (self .core) (now (memory .entry))) (now (memory .entry)) ⌝ }
     {
-        if memory.len() == 65536 {
+        if memory.len() == SIZE {
             if self.in_ranges() {
                 return self.on_time(reading, memory).done();
             }
@@ -129,7 +130,7 @@ impl Device {
         if self.in_ranges() {
             return QAnswer::Shows(self.shows());
         }
-        QAnswer::Unanswered(Refusal::RecordRange)
+        QAnswer::Refused(Refusal::RecordRange)
     }
 
     // The status byte. 2 for a device outside its ranges.
@@ -142,6 +143,6 @@ impl Device {
         if self.in_ranges() {
             return StatusAnswer::Byte(core.status());
         }
-        StatusAnswer::Unanswered(Refusal::RecordRange)
+        StatusAnswer::Refused(Refusal::RecordRange)
     }
 }

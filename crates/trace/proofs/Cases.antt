@@ -7,10 +7,10 @@ use Rattle.lists.specs.Answers.{playedQ}
 use Rattle.pins.specs.Events.{onS, onC}
 use Rattle.edges.specs.Rising.{risen}
 use Rattle.pins.specs.Devices.{q}
-use Rattle.trace.specs.Digits.{digits, decimal}
+use Rattle.printing.specs.Digits.{digits, decimal}
 use Rattle.lines.specs.Lines.{kindOf, digitsSay, lineSays}
-use Rattle.trace.specs.Printing.{goodLine, badLine, printed}
-use Rattle.trace.specs.Texts.{firstLine, afterLine, goodLines, hasBad, header, textOutput}
+use Rattle.printing.specs.Printing.{header, goodLine, badLine, printed}
+use Rattle.trace.specs.Texts.{firstLine, afterLine, goodLines, hasBad, textOutput}
 
 -- S⇥0, C⇥1, X⇥1
 example : textOutput (83 ∷ 9 ∷ 48 ∷ 10 ∷ 67 ∷ 9 ∷ 49 ∷ 10 ∷ 88 ∷ 9 ∷ 49 ∷ 10 ∷ [])

@@ -1,26 +1,24 @@
 -- The sides of a chunk's choices: the header, the bad line, the refusals in their order; and the three parts of an output, written one after another.
-use mathlib.Core.Path.{_≡_, refl, ap, sym, _∙_}
+use mathlib.Core.Path.{_≡_, refl, ap, _∙_}
 use mathlib.Core.Bool.{Bool, true, false}
 use mathlib.Core.List.{List, [], _++_, append-assoc}
-use Prim.Native.Nat.{ℕ, _+_, _*_, _-_, _/_, _≤_}
-use native.Mathlib.Decide.{decLe}
+use Prim.Native.Nat.{ℕ, _+_, _≤_}
 use native.Mathlib.Omega.{arith}
 use lib.ListN.{length, length-append}
 use lib.Dec.{eqb, leb}
-use borrow.Author.Tests.{ne-eqb, le-leb, lt-leb}
+use borrow.Author.Tests.{ne-eqb}
 use Rattle.laws.specs.Pick.{pick, yes-so, no-so, eq-so, ne-so, pick-ap}
 use Rattle.laws.specs.And.{and-3-out}
 use Rattle.codes.specs.Part.{m95512}
 use Rattle.pins.specs.Ranges.{deviceFits}
 use Rattle.lines.specs.declared.Line.{Line}
-use Rattle.trace.specs.Printing.{badLine}
+use Rattle.printing.specs.Printing.{header, badLine}
 use Rattle.lines.specs.Reading.{lineFits}
-use Rattle.trace.specs.Put.{put}
-use Rattle.trace.proofs.Puts.{put-put}
+use Rattle.printing.specs.Put.{put}
+use Rattle.printing.proofs.Puts.{put-put}
 use Rattle.trace.specs.declared.Player.{Player}
-use Rattle.trace.specs.declared.Answer.the-variants.{Played, BadLine}
-use Rattle.trace.specs.Texts.{header}
-use Rattle.trace.specs.Chunks.{headedBy, badLineBetween, answerNumber, answerOf, playerNumber, headFits, playerFits, room, endChoice, feedChoice}
+use Rattle.trace.specs.declared.FeedReply.the-variants.{Played, BadLine}
+use Rattle.trace.specs.Chunks.{headedBy, badLineBetween, feedReplyNumber, answerOf, playerNumber, headFits, playerFits, endChoice, feedChoice}
 
 pub head-first : (flag : ℕ) → flag ≡ 0 → header ≡ headedBy flag
 head-first flag e = eq-so _ e refl
@@ -46,47 +44,39 @@ bad-not a b n = rw (ne-eqb (b .place) 5 n) (none (eqb (a .place) 5))
     none true = refl
     none false = refl
 
--- ---- room
-
-pub room-same : (n bytes : ℕ) → 19 ≤ bytes → leb n ((bytes - 19) / 10) ≡ leb (room n) bytes
-room-same n bytes h = elim (decLe (19 + 10 * n) bytes) [
-  | yes k ↦ le-leb n ((bytes - 19) / 10) (omega arith) ∙ sym (le-leb (19 + 10 * n) bytes k)
-  | no k ↦ lt-leb n ((bytes - 19) / 10) (omega arith) ∙ sym (lt-leb (19 + 10 * n) bytes (omega arith))
-]
-
 -- ---- the refusals
 
 pub player-out : (p : Player) → playerFits p ≡ true → (headFits p ≡ true) × ((lineFits (p .line) ≡ true) × (deviceFits m95512 (p .device) ≡ true))
 unfolding playerFits
 player-out p e = and-3-out (headFits p) (lineFits (p .line)) (deviceFits m95512 (p .device)) e
 
-pub answer-number : (p : Player) → answerNumber (answerOf p) ≡ playerNumber p
-answer-number p = pick-ap answerNumber (eqb (p .line .place) 5) BadLine Played
+pub answer-number : (p : Player) → feedReplyNumber (answerOf p) ≡ playerNumber p
+answer-number p = pick-ap feedReplyNumber (eqb (p .line .place) 5) BadLine Played
 
 module _ {A : Type 0} (p : Player) (asked bytes : ℕ) {r : A} where
-  pub end-done : {done : A} (short outside : A) → playerFits p ≡ true → leb asked bytes ≡ true → r ≡ done → r ≡ endChoice p asked bytes done short outside
+  pub end-done : {done : A} (short outside : A) → playerFits p ≡ true → leb asked bytes ≡ true → r ≡ done → r ≡ endChoice p asked bytes outside short done
   end-done short outside f k e = yes-so _ f (yes-so _ k e)
 
-  pub end-short : {short : A} (done outside : A) → playerFits p ≡ true → leb asked bytes ≡ false → r ≡ short → r ≡ endChoice p asked bytes done short outside
+  pub end-short : {short : A} (done outside : A) → playerFits p ≡ true → leb asked bytes ≡ false → r ≡ short → r ≡ endChoice p asked bytes outside short done
   end-short done outside f k e = yes-so _ f (no-so _ k e)
 
-  pub end-outside : {outside : A} (done short : A) → playerFits p ≡ false → r ≡ outside → r ≡ endChoice p asked bytes done short outside
+  pub end-outside : {outside : A} (done short : A) → playerFits p ≡ false → r ≡ outside → r ≡ endChoice p asked bytes outside short done
   end-outside done short f e = no-so _ f e
 
 module _ {A : Type 0} (p : Player) (m : List ℕ) (asked bytes : ℕ) {r : A} where
   pub feed-done : {done : A} (short outside wrong : A) → length m ≡ m95512 .size → playerFits p ≡ true → leb asked bytes ≡ true → r ≡ done
-      → r ≡ feedChoice p m asked bytes done short outside wrong
+      → r ≡ feedChoice p m asked bytes wrong outside short done
   feed-done short outside wrong n f k e = eq-so _ n (end-done p asked bytes short outside f k e)
 
   pub feed-short : {short : A} (done outside wrong : A) → length m ≡ m95512 .size → playerFits p ≡ true → leb asked bytes ≡ false → r ≡ short
-      → r ≡ feedChoice p m asked bytes done short outside wrong
+      → r ≡ feedChoice p m asked bytes wrong outside short done
   feed-short done outside wrong n f k e = eq-so _ n (end-short p asked bytes done outside f k e)
 
   pub feed-outside : {outside : A} (done short wrong : A) → length m ≡ m95512 .size → playerFits p ≡ false → r ≡ outside
-      → r ≡ feedChoice p m asked bytes done short outside wrong
+      → r ≡ feedChoice p m asked bytes wrong outside short done
   feed-outside done short wrong n f e = eq-so _ n (end-outside p asked bytes done short f e)
 
-  pub feed-wrong : {wrong : A} (done short outside : A) → (length m ≡ m95512 .size → ⊥) → r ≡ wrong → r ≡ feedChoice p m asked bytes done short outside wrong
+  pub feed-wrong : {wrong : A} (done short outside : A) → (length m ≡ m95512 .size → ⊥) → r ≡ wrong → r ≡ feedChoice p m asked bytes wrong outside short done
   feed-wrong done short outside n e = ne-so _ n e
 
 -- ---- an output in parts

@@ -11,9 +11,9 @@ use Rattle.pins.specs.Answers.{PinBench, played}
 use Rattle.lists.specs.Answers.{playedQ}
 use Rattle.lines.specs.declared.Line.{Line}
 use Rattle.lines.specs.Reading.{read, found, lineFits}
-use Rattle.trace.specs.Printing.{printed}
+use Rattle.printing.specs.Printing.{printed}
 use Rattle.lines.proofs.Runs.{read-append, found-append, read-whole}
-use Rattle.trace.proofs.Puts.{printed-append}
+use Rattle.printing.proofs.Puts.{printed-append}
 use Rattle.trace.specs.Chunks.{playedLines, shownLines}
 use Rattle.trace.proofs.Plays.{played-append, playedQ-append, playedQ-length}
 

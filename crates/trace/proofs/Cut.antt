@@ -13,16 +13,16 @@ use Rattle.codes.specs.Part.{m95512}
 use Rattle.pins.specs.Answers.{PinBench, played}
 use Rattle.lists.specs.Answers.{playedQ}
 use Rattle.pins.specs.Ranges.{deviceFits}
-use Rattle.rules.proofs.Sound.{m95512-sound}
-use Rattle.rules.proofs.Fits.{Sized, played-fits, played-sized, powered-fits}
+use Rattle.codes.proofs.Sound.{m95512-sound}
+use Rattle.pins_theorems.proofs.Fits.{Sized, played-fits, played-sized, powered-fits}
 use Rattle.lines.specs.declared.Line.{Line}
 use Rattle.lines.specs.Lines.{lineSays}
-use Rattle.trace.specs.Printing.{badLine, printed}
+use Rattle.printing.specs.Printing.{header, badLine, printed}
 use Rattle.lines.specs.Reading.{fresh, stopped, read, found, ended, lineFits}
 use Rattle.lines.proofs.Hand.{read-fits, fresh-fits, ended-fits}
 use Rattle.lines.proofs.Runs.{read-append, read-still, found-still}
 use Rattle.trace.specs.declared.Player.{Player}
-use Rattle.trace.specs.Texts.{startBench, header, firstLine, goodLines, textEvents, textIsBad, textBench, textOutput}
+use Rattle.trace.specs.Texts.{startBench, firstLine, goodLines, textEvents, textIsBad, textBench, textOutput}
 use Rattle.trace.specs.Chunks.{playerOf, startPlayer, headed, badLineBetween, benchOf, playedLines, shownLines, chunkBench, chunkPlayer, chunkOutput, endPlayer, endOutput, headFits, playerFits, SoFar, afterChunk, afterChunks, beforeText, joined}
 use Rattle.trace.proofs.Cases.{nothing}
 use Rattle.trace.proofs.Chunking.{lines-played, lines-shown}

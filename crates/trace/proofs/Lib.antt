@@ -1,6 +1,5 @@
 -- Theorems on texts, and the facts that the functions' proofs share.
 pub mod Cases
-pub mod Puts
 pub mod Plays
 pub mod Chunking
 pub mod Choosing

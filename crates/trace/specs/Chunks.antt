@@ -1,4 +1,5 @@
--- A text a chunk at a time: the player after a chunk, the memory, what is put out; the refusals; and what the end of the text adds.
+-- A text a chunk at a time: the player after a chunk, the memory, what is put out; the refusals; and what the end of
+-- the text adds.
 use Prim.Native.Nat.{ℕ, _+_, _*_}
 use mathlib.Core.Bool.{Bool, _&&_, _||_}
 use mathlib.Core.List.{List, [], _∷_, _++_}
@@ -15,13 +16,13 @@ use Rattle.pins.specs.Answers.{PinBench, played, pinBench}
 use Rattle.lists.specs.Answers.{playedQ}
 use Rattle.lines.specs.declared.Line.{Line}
 use Rattle.lines.specs.Reading.{fresh, isStopped, read, found, ended, lineFits}
-use Rattle.trace.specs.Printing.{badLine, printed}
-use Rattle.trace.specs.Put.{put}
+use Rattle.printing.specs.Printing.{header, badLine, printed}
+use Rattle.printing.specs.Put.{put}
 use Rattle.trace.specs.declared.Player.{Player}
-use Rattle.trace.specs.declared.Answer.{Answer}
-use Rattle.trace.specs.declared.Answer.the-variants.{Played, BadLine, Refused}
+use Rattle.trace.specs.declared.FeedReply.{FeedReply}
+use Rattle.trace.specs.declared.FeedReply.the-variants.{Played, BadLine, Refused}
 use Rattle.trace.specs.declared.Fed.{Fed}
-use Rattle.trace.specs.Texts.{startBench, header}
+use Rattle.trace.specs.Texts.{startBench}
 
 abbrev pub playerOf : ℕ → Line → PinBench → Player
 playerOf headed l b = record { headed = headed; line = l; device = b .device }
@@ -46,13 +47,17 @@ badLineBetween a b = pick (isStopped a) [] (pick (isStopped b) (badLine (b .whol
 abbrev pub benchOf : Player → List ℕ → PinBench
 benchOf p m = pinBench (p .device) m
 
+-- what is put out for events, as the lines from number n on: Q after each
+abbrev pub shownEvents : ℕ → PinBench → List ℕ → List ℕ
+shownEvents n b es = printed n (playedQ m95512 es b)
+
 -- the device and the memory after the lines that end in the bytes x, from the line l in hand on
 unfoldable pub playedLines : Line → PinBench → List ℕ → PinBench
 playedLines l b x = played m95512 (found l x) b
 
 -- those lines, with Q after each
 unfoldable pub shownLines : Line → PinBench → List ℕ → List ℕ
-shownLines l b x = printed (l .whole + 1) (playedQ m95512 (found l x) b)
+shownLines l b x = shownEvents (l .whole + 1) b (found l x)
 
 abbrev pub chunkBench : Player → List ℕ → List ℕ → PinBench
 chunkBench p m x = playedLines (p .line) (benchOf p m) x
@@ -74,12 +79,12 @@ endOutput p = headed p ++ badLineBetween (p .line) (ended (p .line))
 -- ---- answers
 
 -- 11 from the bad line on
-abbrev pub answerNumber : Answer → ℕ
-answerNumber Played = 0
-answerNumber BadLine = 11
-answerNumber (Refused r) = refusalNumber r
+abbrev pub feedReplyNumber : FeedReply → ℕ
+feedReplyNumber Played = 0
+feedReplyNumber BadLine = 11
+feedReplyNumber (Refused r) = refusalNumber r
 
-abbrev pub answerOf : Player → Answer
+abbrev pub answerOf : Player → FeedReply
 answerOf p = pick (isStopped (p .line)) BadLine Played
 
 abbrev pub playerNumber : Player → ℕ
@@ -99,13 +104,14 @@ room n = 19 + 10 * n
 
 -- 2, and 5 for an output with fewer bytes than asked for
 abbrev pub endChoice : {A : Type 0} → Player → ℕ → ℕ → A → A → A → A
-endChoice p asked bytes done short outside = pick (playerFits p) (pick (leb asked bytes) done short) outside
+endChoice p asked bytes two five done = pick (playerFits p) (pick (leb asked bytes) done five) two
 
 -- 1 before them
 abbrev pub feedChoice : {A : Type 0} → Player → List ℕ → ℕ → ℕ → A → A → A → A → A
-feedChoice p m asked bytes done short outside wrong = pick (eqb (length m) (m95512 .size)) (endChoice p asked bytes done short outside) wrong
+feedChoice p m asked bytes one two five done =
+    pick (eqb (length m) (m95512 .size)) (endChoice p asked bytes two five done) one
 
-abbrev pub fedTo : Answer → Player → ℕ → Fed
+abbrev pub fedTo : FeedReply → Player → ℕ → Fed
 fedTo a p n = record { answer = a; player = p; written = n }
 
 abbrev pub refusedTo : Refusal → Player → Fed
@@ -118,18 +124,18 @@ takenBy p m x = fedTo (answerOf (chunkPlayer p m x)) (chunkPlayer p m x) (length
 -- a chunk x, with a lent memory m and a lent output d
 abbrev pub feedAnswer : Player → List ℕ → List ℕ → List ℕ → Fed
 feedAnswer p m x d =
-    feedChoice p m (room (length x)) (length d) (takenBy p m x) (refusedTo OutputLength p)
-    (refusedTo RecordRange p) (refusedTo MemoryLength p)
+    feedChoice p m (room (length x)) (length d) (refusedTo MemoryLength p) (refusedTo RecordRange p)
+    (refusedTo OutputLength p) (takenBy p m x)
 
 abbrev pub feedNumber : Player → List ℕ → List ℕ → List ℕ → ℕ
-feedNumber p m x d = feedChoice p m (room (length x)) (length d) (playerNumber (chunkPlayer p m x)) 5 2 1
+feedNumber p m x d = feedChoice p m (room (length x)) (length d) 1 2 5 (playerNumber (chunkPlayer p m x))
 
 abbrev pub feedMemory : Player → List ℕ → List ℕ → List ℕ → List ℕ
-feedMemory p m x d = feedChoice p m (room (length x)) (length d) (chunkBench p m x .memory) m m m
+feedMemory p m x d = feedChoice p m (room (length x)) (length d) m m m (chunkBench p m x .memory)
 
 -- the output begins with what the chunk puts out, and is as it was after that
 abbrev pub feedOutput : Player → List ℕ → List ℕ → List ℕ → List ℕ
-feedOutput p m x d = feedChoice p m (room (length x)) (length d) (put d 0 (chunkOutput p m x)) d d d
+feedOutput p m x d = feedChoice p m (room (length x)) (length d) d d d (put d 0 (chunkOutput p m x))
 
 -- the end of the text asks for the room of no byte
 abbrev pub endedBy : Player → Fed
@@ -137,13 +143,13 @@ endedBy p = fedTo (answerOf (endPlayer p)) (endPlayer p) (length (endOutput p))
 
 abbrev pub endAnswer : Player → List ℕ → Fed
 endAnswer p d =
-    endChoice p (room 0) (length d) (endedBy p) (refusedTo OutputLength p) (refusedTo RecordRange p)
+    endChoice p (room 0) (length d) (refusedTo RecordRange p) (refusedTo OutputLength p) (endedBy p)
 
 abbrev pub endNumber : Player → List ℕ → ℕ
-endNumber p d = endChoice p (room 0) (length d) (playerNumber (endPlayer p)) 5 2
+endNumber p d = endChoice p (room 0) (length d) 2 5 (playerNumber (endPlayer p))
 
 abbrev pub endWritten : Player → List ℕ → List ℕ
-endWritten p d = endChoice p (room 0) (length d) (put d 0 (endOutput p)) d d
+endWritten p d = endChoice p (room 0) (length d) d d (put d 0 (endOutput p))
 
 -- ---- a text in chunks: the player and the memory after them, and all that they put out
 

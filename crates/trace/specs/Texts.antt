@@ -11,7 +11,7 @@ use Rattle.pins.specs.Devices.{resting}
 use Rattle.pins.specs.Answers.{PinBench, played, pinBench}
 use Rattle.lists.specs.Answers.{playedQ}
 use Rattle.lines.specs.Lines.{Said, event, bad, isEmpty, lineSays}
-use Rattle.trace.specs.Printing.{badLine, printed}
+use Rattle.printing.specs.Printing.{header, badLine, printed}
 
 -- ---- lines: the first line of a text ends with its LF, or with the text
 
@@ -23,7 +23,8 @@ unfoldable pub afterLine : List ℕ → List ℕ
 afterLine [] = []
 afterLine (b ∷ text) = pick (eqb b 10) text (afterLine text)
 
--- ---- the events of the lines before the first bad one. A line past the first n is bad. (What follows a line is looked at only where the line is good.)
+-- ---- the events of the lines before the first bad one. A line past the first n is bad. (What follows a line is looked
+-- at only where the line is good.)
 
 abbrev pub goodThen : Said → (Unit {0} → List ℕ) → List ℕ
 goodThen (event e) es = e ∷ es tt
@@ -59,10 +60,7 @@ textBench text = played m95512 (textEvents text) startBench
 
 -- ---- the output
 
--- line, tab, q
-unfoldable pub header : List ℕ
-header = 108 ∷ 105 ∷ 110 ∷ 101 ∷ 9 ∷ 113 ∷ 10 ∷ []
-
 unfoldable pub textOutput : List ℕ → List ℕ
 textOutput text =
-    header ++ (printed 1 (playedQ m95512 (textEvents text) startBench) ++ pick (textIsBad text) (badLine (length (textEvents text) + 1)) [])
+    header ++ (printed 1 (playedQ m95512 (textEvents text) startBench)
+    ++ pick (textIsBad text) (badLine (length (textEvents text) + 1)) [])

@@ -8,34 +8,35 @@ ghost use Rattle.codes.specs.Part.{m95512};
 ghost use Rattle.pins.specs.Answers.{played, pinBench};
 ghost use Rattle.lists.specs.Answers.{playedQ};
 ghost use Rattle.pins.specs.Ranges.{deviceFits};
-ghost use Rattle.trace.specs.Printing.{printed};
 ghost use Rattle.lines.specs.Reading.{read, lineFits};
-ghost use Rattle.trace.specs.Put.{put};
-ghost use Rattle.trace.specs.Chunks.{headFits, headedBy, takenBy, endedBy, refusedTo, badLineBetween, playedLines, shownLines, chunkBench, chunkOutput, playerFits, answerOf, room, endOutput};
-use crate::Answer;
+ghost use Rattle.printing.specs.Put.{put};
+ghost use Rattle.trace.specs.Chunks.{headedBy, badLineBetween, playedLines, shownEvents, shownLines, chunkBench, chunkOutput, endOutput, answerOf, headFits, playerFits, room, takenBy, endedBy, refusedTo};
 use crate::Fed;
+use crate::FeedReply;
 use crate::Player;
 use crate::parsing::parse;
-use crate::printing::print;
-use crate::printing::put_bad;
-use crate::printing::put_bytes;
 use codes::Refusal;
 use lines::Line;
 use lists::play;
 use pins::Device;
+use printing::print;
+use printing::put_bad;
+use printing::put_header;
 
 // An array has its length by its type; the proofs ask for that of the latch's marks.
 fn marked(device: Device) -> bool
-    ensures { λ _. ⌜ length (device .frame .latch .marks) ≡ 128 ⌝ }
+    ensures { λ _. ⌜ length (device .frame .latch .marks) ≡ m95512 .page ⌝ }
 {
     true
 }
 
 // What playing some events leaves: the pin model's promise for a list, where nothing is refused.
 fn play_some(device: Device, memory: &mut [u8], events: &[u64], qs: &mut [u8]) -> Device
-    requires { ⌜ (length (now memory) ≡ 65536) × (deviceFits m95512 device ≡ true) × (length (now qs) ≡ length (now events)) ⌝ }
+    requires { ⌜ (length (now memory) ≡ m95512 .size) × (deviceFits m95512 device ≡ true)
+        × (length (now qs) ≡ length (now events)) ⌝ }
     ensures { λ r. ⌜ r ≡ played m95512 (now (events .entry)) (pinBench device (now (memory .entry))) .device ⌝ }
-    ensures { λ _. ⌜ now (memory .exit) ≡ played m95512 (now (events .entry)) (pinBench device (now (memory .entry))) .memory ⌝ }
+    ensures { λ _. ⌜ now (memory .exit)
+        ≡ played m95512 (now (events .entry)) (pinBench device (now (memory .entry))) .memory ⌝ }
     ensures { λ _. ⌜ now (qs .exit) ≡ playedQ m95512 (now (events .entry)) (pinBench device (now (memory .entry))) ⌝ }
     ensures { λ r. ⌜ deviceFits m95512 r ≡ true ⌝ }
 {
@@ -60,11 +61,16 @@ fn show(
     at: usize,
     n: u32,
 ) -> Shown
-    requires { ⌜ (length (now memory) ≡ 65536) × (deviceFits m95512 device ≡ true) × (length (now qs) ≡ length (now events)) × (at + 10 * length (now events) ≤ length (now out)) × (n + length (now events) ≤ 1000001) ⌝ }
-    ensures { λ r. ⌜ (r .device ≡ played m95512 (now (events .entry)) (pinBench device (now (memory .entry))) .device) × (deviceFits m95512 (r .device) ≡ true) ⌝ }
-    ensures { λ _. ⌜ now (memory .exit) ≡ played m95512 (now (events .entry)) (pinBench device (now (memory .entry))) .memory ⌝ }
-    ensures { λ _. ⌜ now (out .exit) ≡ put (now (out .entry)) at (printed n (playedQ m95512 (now (events .entry)) (pinBench device (now (memory .entry))))) ⌝ }
-    ensures { λ r. ⌜ (r .at ≡ at + length (printed n (playedQ m95512 (now (events .entry)) (pinBench device (now (memory .entry)))))) × (r .at ≤ at + 10 * length (now (events .entry))) ⌝ }
+    requires { ⌜ (length (now memory) ≡ m95512 .size) × (deviceFits m95512 device ≡ true)
+        × (length (now qs) ≡ length (now events)) × (at + 10 * length (now events) ≤ length (now out)) ⌝ }
+    ensures { λ r. ⌜ (r .device ≡ played m95512 (now (events .entry)) (pinBench device (now (memory .entry))) .device)
+        × (deviceFits m95512 (r .device) ≡ true) ⌝ }
+    ensures { λ _. ⌜ now (memory .exit)
+        ≡ played m95512 (now (events .entry)) (pinBench device (now (memory .entry))) .memory ⌝ }
+    ensures { λ _. ⌜ now (out .exit)
+        ≡ put (now (out .entry)) at (shownEvents n (pinBench device (now (memory .entry))) (now (events .entry))) ⌝ }
+    ensures { λ r. ⌜ (r .at ≡ at + length (shownEvents n (pinBench device (now (memory .entry))) (now (events .entry))))
+        × (r .at ≤ at + 10 * length (now (events .entry))) ⌝ }
 {
     let next = play_some(device, memory, events, qs);
     let end = print(out, at, n, qs);
@@ -92,12 +98,18 @@ fn piece(
     out: &mut [u8],
     at: usize,
 ) -> Placed
-    requires { ⌜ (length (now memory) ≡ 65536) × (deviceFits m95512 device ≡ true) × (lineFits line ≡ true) × (length (now text) ≤ length (now events)) × (length (now text) ≤ length (now qs)) × (at + 10 * length (now text) ≤ length (now out)) ⌝ }
+    requires { ⌜ (length (now memory) ≡ m95512 .size) × (deviceFits m95512 device ≡ true) × (lineFits line ≡ true) ⌝ }
+    requires { ⌜ (length (now text) ≤ length (now events)) × (length (now text) ≤ length (now qs))
+        × (at + 10 * length (now text) ≤ length (now out)) ⌝ }
     ensures { λ r. ⌜ (r .line ≡ read line (now (text .entry))) × (lineFits (r .line) ≡ true) ⌝ }
-    ensures { λ r. ⌜ (r .device ≡ playedLines line (pinBench device (now (memory .entry))) (now (text .entry)) .device) × (deviceFits m95512 (r .device) ≡ true) ⌝ }
-    ensures { λ _. ⌜ now (memory .exit) ≡ playedLines line (pinBench device (now (memory .entry))) (now (text .entry)) .memory ⌝ }
-    ensures { λ _. ⌜ now (out .exit) ≡ put (now (out .entry)) at (shownLines line (pinBench device (now (memory .entry))) (now (text .entry))) ⌝ }
-    ensures { λ r. ⌜ (r .at ≡ at + length (shownLines line (pinBench device (now (memory .entry))) (now (text .entry)))) × (r .at ≤ at + 10 * length (now (text .entry))) ⌝ }
+    ensures { λ r. ⌜ (r .device ≡ playedLines line (pinBench device (now (memory .entry))) (now (text .entry)) .device)
+        × (deviceFits m95512 (r .device) ≡ true) ⌝ }
+    ensures { λ _. ⌜ now (memory .exit)
+        ≡ playedLines line (pinBench device (now (memory .entry))) (now (text .entry)) .memory ⌝ }
+    ensures { λ _. ⌜ now (out .exit)
+        ≡ put (now (out .entry)) at (shownLines line (pinBench device (now (memory .entry))) (now (text .entry))) ⌝ }
+    ensures { λ r. ⌜ (r .at ≡ at + length (shownLines line (pinBench device (now (memory .entry))) (now (text .entry))))
+        × (r .at ≤ at + 10 * length (now (text .entry))) ⌝ }
 {
     let parsed = parse(line, text, events);
     let count = parsed.count;
@@ -152,12 +164,17 @@ fn pieces(
     out: &mut [u8],
     at: usize,
 ) -> Placed
-    requires { ⌜ (length (now memory) ≡ 65536) × (deviceFits m95512 device ≡ true) × (lineFits line ≡ true) × (at + 10 * length (now text) ≤ length (now out)) ⌝ }
+    requires { ⌜ (length (now memory) ≡ m95512 .size) × (deviceFits m95512 device ≡ true) × (lineFits line ≡ true)
+        × (at + 10 * length (now text) ≤ length (now out)) ⌝ }
     ensures { λ r. ⌜ (r .line ≡ read line (now (text .entry))) × (lineFits (r .line) ≡ true) ⌝ }
-    ensures { λ r. ⌜ r .device ≡ playedLines line (pinBench device (now (memory .entry))) (now (text .entry)) .device ⌝ }
-    ensures { λ _. ⌜ now (memory .exit) ≡ playedLines line (pinBench device (now (memory .entry))) (now (text .entry)) .memory ⌝ }
-    ensures { λ _. ⌜ now (out .exit) ≡ put (now (out .entry)) at (shownLines line (pinBench device (now (memory .entry))) (now (text .entry))) ⌝ }
-    ensures { λ r. ⌜ (r .at ≡ at + length (shownLines line (pinBench device (now (memory .entry))) (now (text .entry)))) × (r .at ≤ at + 10 * length (now (text .entry))) ⌝ }
+    ensures { λ r. ⌜ r .device
+        ≡ playedLines line (pinBench device (now (memory .entry))) (now (text .entry)) .device ⌝ }
+    ensures { λ _. ⌜ now (memory .exit)
+        ≡ playedLines line (pinBench device (now (memory .entry))) (now (text .entry)) .memory ⌝ }
+    ensures { λ _. ⌜ now (out .exit)
+        ≡ put (now (out .entry)) at (shownLines line (pinBench device (now (memory .entry))) (now (text .entry))) ⌝ }
+    ensures { λ r. ⌜ (r .at ≡ at + length (shownLines line (pinBench device (now (memory .entry))) (now (text .entry))))
+        × (r .at ≤ at + 10 * length (now (text .entry))) ⌝ }
 {
     let mut events = event_room();
     let mut qs = level_room();
@@ -198,7 +215,7 @@ fn put_head(flag: u8, out: &mut [u8]) -> usize
     ensures { λ r. ⌜ (r ≡ length (headedBy flag)) × (r ≤ 7) ⌝ }
 {
     if flag == 0 {
-        return put_bytes(out, 0, b"line\tq\n");
+        return put_header(out, 0);
     }
     0
 }
@@ -218,14 +235,14 @@ fn put_bad_between(out: &mut [u8], at: usize, a: Line, b: Line) -> usize
     at
 }
 
-fn answer_of(player: Player) -> Answer
+fn answer_of(player: Player) -> FeedReply
     ensures { λ r. ⌜ r ≡ answerOf player ⌝ }
 {
     let line = player.line;
     if line.place == 5 {
-        return Answer::BadLine;
+        return FeedReply::BadLine;
     }
-    Answer::Played
+    FeedReply::Played
 }
 
 // Whether an output of so many bytes has the room that n bytes of text ask for.
@@ -260,7 +277,7 @@ impl Player {
         ensures { λ r. ⌜ r ≡ refusedTo refusal self ⌝ }
     {
         Fed {
-            answer: Answer::Refused(refusal),
+            answer: FeedReply::Refused(refusal),
             player: self,
             written: 0,
         }
@@ -269,10 +286,12 @@ impl Player {
 
 // A chunk that is taken.
 pub(crate) fn take_chunk(player: Player, memory: &mut [u8], text: &[u8], out: &mut [u8]) -> Fed
-    requires { ⌜ (length (now memory) ≡ 65536) × (playerFits player ≡ true) × (room (length (now text)) ≤ length (now out)) ⌝ }
+    requires { ⌜ (length (now memory) ≡ m95512 .size) × (playerFits player ≡ true)
+        × (room (length (now text)) ≤ length (now out)) ⌝ }
     ensures { λ r. ⌜ r ≡ takenBy player (now (memory .entry)) (now (text .entry)) ⌝ }
     ensures { λ _. ⌜ now (memory .exit) ≡ chunkBench player (now (memory .entry)) (now (text .entry)) .memory ⌝ }
-    ensures { λ _. ⌜ now (out .exit) ≡ put (now (out .entry)) 0 (chunkOutput player (now (memory .entry)) (now (text .entry))) ⌝ }
+    ensures { λ _. ⌜ now (out .exit)
+        ≡ put (now (out .entry)) 0 (chunkOutput player (now (memory .entry)) (now (text .entry))) ⌝ }
     ensures { λ r. ⌜ r .written ≤ length (now (out .entry)) ⌝ }
 {
     let line = player.line;

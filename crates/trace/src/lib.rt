@@ -1,14 +1,14 @@
-// The trace text: what a whole text puts out, taken a chunk at a time. One line of it, a byte at a time, is `lines`.
+// The trace text: what a whole text puts out, taken a chunk at a time. One line of it, a byte at a time, is `lines`;
+// what writes the output is `printing`.
 //
-// Public calls, each for every input: start and memory, what a text starts from; feed, a chunk of the text; finish, its end; in_ranges, of a
-// player.
+// Public calls, each for every input: start and memory, what a text starts from; feed, a chunk of the text; finish, its
+// end; in_ranges, of a player.
 use codes::Refusal;
 use lines::Line;
 use pins::Device;
 
 mod chunks;
 mod parsing;
-mod printing;
 mod public;
 
 pub use public::feed;
@@ -24,7 +24,7 @@ pub struct Player {
 }
 
 // What a chunk, or the end of the text, is answered with.
-pub enum Answer {
+pub enum FeedReply {
     Played,
     BadLine,
     Refused(Refusal),
@@ -32,7 +32,7 @@ pub enum Answer {
 
 // The player that follows, and how many bytes of the output were written.
 pub struct Fed {
-    pub answer: Answer,
+    pub answer: FeedReply,
     pub player: Player,
     pub written: usize,
 }

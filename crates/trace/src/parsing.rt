@@ -11,7 +11,8 @@ pub(crate) struct Parsed {
     pub(crate) count: usize,
 }
 
-// The bytes of a text one after another; the events of the lines that end in it stand at the start of `events`, which has room for one a byte.
+// The bytes of a text one after another; the events of the lines that end in it stand at the start of `events`, which
+// has room for one a byte.
 pub(crate) fn parse(line: Line, text: &[u8], events: &mut [u64]) -> Parsed
     requires { ⌜ length (now text) ≤ length (now events) ⌝ }
     ensures { λ r. ⌜ r .line ≡ read line (now (text .entry)) ⌝ }

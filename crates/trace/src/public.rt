@@ -4,15 +4,16 @@ ghost use Prim.Native.Nat.{_≤_};
 ghost use lib.ListN.{length};
 ghost use Rattle.codes.specs.Part.{m95512};
 ghost use Rattle.chip.specs.Power.{deliveredMemory};
-ghost use Rattle.trace.specs.Chunks.{startPlayer, answerNumber, feedAnswer, feedNumber, feedMemory, feedOutput, endAnswer, endNumber, endWritten};
-use crate::Answer;
+ghost use Rattle.trace.specs.Chunks.{startPlayer, feedReplyNumber, feedAnswer, feedNumber, feedMemory, feedOutput, endAnswer, endNumber, endWritten};
 use crate::Fed;
+use crate::FeedReply;
 use crate::Player;
 use crate::chunks::has_room;
 use crate::chunks::take_chunk;
 use crate::chunks::take_end;
 use chip::Core;
 use codes::Refusal;
+use codes::SIZE;
 use lines::Line;
 use pins::Device;
 
@@ -33,35 +34,39 @@ pub fn start() -> Player
 }
 
 // The memory as delivered: every byte FFh.
-pub fn memory() -> [u8; 65536]
+pub fn memory() -> [u8; SIZE]
     ensures { λ r. ⌜ r ≡ deliveredMemory m95512 ⌝ }
 {
-    [255; 65536]
+    [255; SIZE]
 }
 
-impl Answer {
+impl FeedReply {
     // Document 01's number: 0, 11 from the bad line on, 1, 2 and 5.
     pub fn number(self) -> u32
-        ensures { λ r. ⌜ r ≡ answerNumber self ⌝ }
+        ensures { λ r. ⌜ r ≡ feedReplyNumber self ⌝ }
     {
         match self {
-            Answer::Played => 0,
-            Answer::BadLine => 11,
-            Answer::Refused(refusal) => refusal.number(),
+            FeedReply::Played => 0,
+            FeedReply::BadLine => 11,
+            FeedReply::Refused(refusal) => refusal.number(),
         }
     }
 }
 
-// A chunk of a text. Refusals 1 for a memory of another length, 2 for a player outside its ranges, 5 for an output with fewer than 19 bytes and 10 for
-// each byte of the chunk, all with everything as it was. Else all of the chunk is taken, and the output begins with the `written` bytes that it puts out.
+// A chunk of a text. Refusals 1 for a memory of another length, 2 for a player outside its ranges, 5 for an output with
+// fewer than 19 bytes and 10 for each byte of the chunk, all with everything as it was. Else all of the chunk is taken,
+// and the output begins with the `written` bytes that it puts out.
 pub fn feed(player: Player, memory: &mut [u8], text: &[u8], out: &mut [u8]) -> Fed
     ensures { λ r. ⌜ r ≡ feedAnswer player (now (memory .entry)) (now (text .entry)) (now (out .entry)) ⌝ }
-    ensures { λ r. ⌜ answerNumber (r .answer) ≡ feedNumber player (now (memory .entry)) (now (text .entry)) (now (out .entry)) ⌝ }
-    ensures { λ _. ⌜ now (memory .exit) ≡ feedMemory player (now (memory .entry)) (now (text .entry)) (now (out .entry)) ⌝ }
-    ensures { λ _. ⌜ now (out .exit) ≡ feedOutput player (now (memory .entry)) (now (text .entry)) (now (out .entry)) ⌝ }
+    ensures { λ r. ⌜ feedReplyNumber (r .answer)
+        ≡ feedNumber player (now (memory .entry)) (now (text .entry)) (now (out .entry)) ⌝ }
+    ensures { λ _. ⌜ now (memory .exit)
+        ≡ feedMemory player (now (memory .entry)) (now (text .entry)) (now (out .entry)) ⌝ }
+    ensures { λ _. ⌜ now (out .exit)
+        ≡ feedOutput player (now (memory .entry)) (now (text .entry)) (now (out .entry)) ⌝ }
     ensures { λ r. ⌜ r .written ≤ length (now (out .entry)) ⌝ }
 {
-    if memory.len() == 65536 {
+    if memory.len() == SIZE {
         if player.in_ranges() {
             if has_room(text.len(), out.len()) {
                 return take_chunk(player, memory, text, out);
@@ -73,10 +78,11 @@ pub fn feed(player: Player, memory: &mut [u8], text: &[u8], out: &mut [u8]) -> F
     player.refused(Refusal::MemoryLength)
 }
 
-// The end of a text: a line in hand has no LF, so it is bad. Refusals 2, and 5 for an output of fewer than 19 bytes, with everything as it was.
+// The end of a text: a line in hand has no LF, so it is bad. Refusals 2, and 5 for an output of fewer than 19 bytes,
+// with everything as it was.
 pub fn finish(player: Player, out: &mut [u8]) -> Fed
     ensures { λ r. ⌜ r ≡ endAnswer player (now (out .entry)) ⌝ }
-    ensures { λ r. ⌜ answerNumber (r .answer) ≡ endNumber player (now (out .entry)) ⌝ }
+    ensures { λ r. ⌜ feedReplyNumber (r .answer) ≡ endNumber player (now (out .entry)) ⌝ }
     ensures { λ _. ⌜ now (out .exit) ≡ endWritten player (now (out .entry)) ⌝ }
     ensures { λ r. ⌜ r .written ≤ length (now (out .entry)) ⌝ }
 {

@@ -3,9 +3,10 @@ use native.Mathlib.Omega.{arith}
 use lib.ListN.{length}
 use Rattle.codes.specs.Part.{m95512}
 use Rattle.chip.specs.Ranges.{inRanges}
+use Rattle.codes.proofs.Sound.{m95512-sound}
 use Rattle.frames.specs.Play.{FrameBench, frameBench}
 use Rattle.driver.specs.Sequence.{firstWait}
-use Rattle.driver.proofs.Ready.{bench-of, ready-played}
+use Rattle.driver.proofs.Ready.{bench-of, ready-acted-all}
 use Rattle.driver.proofs.Joined.{first-most}
 use Rattle.driver.proofs.Seen.{seen-wip}
 use Rattle.driver.proofs.Drives.{rested, drove-none, drove-late, drove-parts}
@@ -57,7 +58,8 @@ write-parts-requires c κs =
     let a = start .args in
     let d : FrameBench = frameBench (a .core) (a .memory .now) in
     let wait = c .before .before .before .before .before .before .first-wait in
-    let ready = ready-played (firstWait m95512 (a .interval) (a .limit) d) d (record { whole = start .pre .0; ranges = start .pre .1 .0 }) in
+    let ready =
+    ready-acted-all m95512 m95512-sound (firstWait m95512 (a .interval) (a .limit) d) d (record { whole = start .pre .0; ranges = start .pre .1 .0 }) in
     let most = first-most m95512 (a .interval) (a .limit) d (start .pre .1 .1 .0) in
     (ap length (wait .ensures .1 .1 .1) ∙ ready .whole, (ap (inRanges m95512) (wait .ensures .0) ∙ ready .ranges, (start .pre .1 .1, omega (arith, wait .ensures .1 .1 .0))))
 

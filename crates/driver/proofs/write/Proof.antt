@@ -21,7 +21,9 @@ enum-told c = search needs
 drive-requires : tie.Need-drive-requires
 drive-requires c κs =
     let a = c .before .before .before .before .before .before .args in
-    let t = taken (a .core) (length (a .memory .now)) (a .address) (length (a .bytes .now)) (a .interval) (a .limit) (c .before .before .before .outcome .ensures) (c .before .enum-told .given .1) in
+    let t =
+    taken m95512 (a .core) (length (a .memory .now)) (a .address) (length (a .bytes .now)) (a .interval) (a .limit)
+    (c .before .before .before .outcome .ensures) (c .before .enum-told .given .1) in
     (t .whole, (t .ranges, t .limits))
 
 -- src/lib.rt:78:26

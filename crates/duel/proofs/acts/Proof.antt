@@ -4,10 +4,10 @@ use Rattle.duel.proofs.acts.Statement.{statement}
 use Rattle.duel.proofs.acts.Tie as tie
 
 abbrev Inv-loop : tie.InvT-loop
-Inv-loop quick₀ slow₀ run₀ pair₀ left₀ quick slow run pair left = Unit {0}
+Inv-loop frame_side₀ pin_side₀ run₀ pair₀ left₀ frame_side pin_side run pair left = Unit {0}
 
 abbrev μ-loop : tie.MeasureT-loop
-μ-loop quick₀ slow₀ run₀ pair₀ left₀ quick slow run pair left = left
+μ-loop frame_side₀ pin_side₀ run₀ pair₀ left₀ frame_side pin_side run pair left = left
 
 loop-holds : tie.Need-loop-holds Inv-loop μ-loop
 loop-holds c = search needs

@@ -4,10 +4,10 @@ use Rattle.duel.proofs.duel.Statement.{statement}
 use Rattle.duel.proofs.duel.Tie as tie
 
 abbrev Inv-loop : tie.InvT-loop
-Inv-loop quick₀ slow₀ run₀ left₀ quick slow run left = Unit {0}
+Inv-loop frame_side₀ pin_side₀ run₀ left₀ frame_side pin_side run left = Unit {0}
 
 abbrev μ-loop : tie.MeasureT-loop
-μ-loop quick₀ slow₀ run₀ left₀ quick slow run left = left
+μ-loop frame_side₀ pin_side₀ run₀ left₀ frame_side pin_side run left = left
 
 loop-holds : tie.Need-loop-holds Inv-loop μ-loop
 loop-holds c = search needs

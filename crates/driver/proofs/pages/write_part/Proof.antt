@@ -4,6 +4,7 @@ use Prim.Native.Nat.{ℕ, _+_, _-_}
 use native.Mathlib.Omega.{arith}
 use lib.ListN.{length-take, length-drop}
 use Rattle.codes.specs.Part.{m95512}
+use Rattle.codes.proofs.Sound.{m95512-sound}
 use Rattle.split.specs.Pieces.{piece}
 use Rattle.frames.specs.Play.{FrameBench, frameBench}
 use Rattle.driver.specs.Sequence.{pageActs}
@@ -28,7 +29,7 @@ sub-from c =
     let start = c .before .before .before in
     let a = start .args in
     let at = c .cartvesper-split-address in
-    let l = lies (a .address) (a .bytes .now) (a .k) (at .result) _ (start .pre .1 .1 .1) (at .ensures) refl in
+    let l = lies m95512 m95512-sound (a .address) (a .bytes .now) (a .k) (at .result) _ (start .pre .1 .1 .1) (at .ensures) refl in
     l .from
 
 -- src/pages.rt:59:22
@@ -42,7 +43,7 @@ add-end c =
     let a = start .args in
     let at = c .before .cartvesper-split-address in
     let long = c .cartvesper-split-length in
-    let l = lies (a .address) (a .bytes .now) (a .k) (at .result) (long .result) (start .pre .1 .1 .1) (at .ensures) (long .ensures) in
+    let l = lies m95512 m95512-sound (a .address) (a .bytes .now) (a .k) (at .result) (long .result) (start .pre .1 .1 .1) (at .ensures) (long .ensures) in
     let to = l .to in
     let inside = l .inside in
     omega arith
@@ -62,7 +63,7 @@ part-write-page-end c =
     let a = start .args in
     let at = c .before .before .cartvesper-split-address in
     let long = c .before .cartvesper-split-length in
-    let l = lies (a .address) (a .bytes .now) (a .k) (at .result) (long .result) (start .pre .1 .1 .1) (at .ensures) (long .ensures) in
+    let l = lies m95512 m95512-sound (a .address) (a .bytes .now) (a .k) (at .result) (long .result) (start .pre .1 .1 .1) (at .ensures) (long .ensures) in
     let from = l .from in
     let to = l .to in
     omega arith
@@ -74,7 +75,7 @@ write-page-requires c κs =
     let a = start .args in
     let at = c .before .before .before .cartvesper-split-address in
     let long = c .before .before .cartvesper-split-length in
-    let l = lies (a .address) (a .bytes .now) (a .k) (at .result) (long .result) (start .pre .1 .1 .1) (at .ensures) (long .ensures) in
+    let l = lies m95512 m95512-sound (a .address) (a .bytes .now) (a .k) (at .result) (long .result) (start .pre .1 .1 .1) (at .ensures) (long .ensures) in
     let from = l .from in
     let to = l .to in
     let page = l .page in
@@ -93,7 +94,9 @@ returns c =
     let long = c .before .before .before .before .before .cartvesper-split-length in
     let page = c .before .before .write-page in
     let d : FrameBench = frameBench (a .core) (a .memory .now) in
-    let bytes = part-bytes (a .address) (a .bytes .now) (a .k) (at .result) (long .result) (start .pre .1 .1 .1) (at .ensures) (long .ensures) (at .result - a .address + long .result - (at .result - a .address)) (omega arith) in
+    let bytes =
+    part-bytes m95512 m95512-sound (a .address) (a .bytes .now) (a .k) (at .result) (long .result) (start .pre .1 .1 .1) (at .ensures) (long .ensures)
+    (at .result - a .address + long .result - (at .result - a .address)) (omega arith) in
     subst (λ (s : ℕ). Told m95512 (pageActs m95512 (a .interval) (a .limit) s (piece 65536 128 (a .address) (a .bytes .now) (a .k)) d) d (page .result) (page .last .1 .0)) (at .ensures)
     (subst (λ (l : List ℕ). Told m95512 (pageActs m95512 (a .interval) (a .limit) (at .result) l d) d (page .result) (page .last .1 .0)) bytes (page .ensures))
 

@@ -3,12 +3,13 @@ use Prim.Native.Nat.{ℕ, _+_, _-_, _*_, _<_, _≤_}
 use native.Mathlib.Omega.{arith}
 use lib.ListN.{length}
 use Rattle.codes.specs.Part.{m95512}
+use Rattle.codes.proofs.Sound.{m95512-sound}
 use Rattle.split.specs.Split.{count, splitAddress}
 use Rattle.split.specs.Pieces.{piece}
 use Rattle.split.proofs.Numbers.{parts-asked}
 use Rattle.frames.specs.Play.{FrameBench, acted, frameBench}
 use Rattle.driver.specs.Sequence.{wrdi}
-use Rattle.driver.proofs.Ready.{Ready, bench-of, ready-played}
+use Rattle.driver.proofs.Ready.{Ready, bench-of, ready-acted-all}
 use Rattle.driver.proofs.Joined.{acts-most}
 use Rattle.driver.proofs.Seen.{seen-wip, seen-wel}
 use Rattle.driver.proofs.Runs.{partActs, afterPart, Rest, ended-of, rest-first, rest-next, rest-late, rest-untaken, rest-done, parts-few}
@@ -27,7 +28,7 @@ Inv-loop memory₀ address bytes interval limit sent parts next₀ frames₀ k�
     (k ≤ parts)
     × ((frames ≤ 5001 + 5003 * k)
     × ((parts ≡ count 65536 128 address (length bytes))
-    × (Ready (frameBench next memory)
+    × (Ready m95512 (frameBench next memory)
     × Rest m95512 interval limit address bytes parts sent (frameBench next₀ memory₀) k frames (frameBench next memory))))
 
 abbrev μ-loop : tie.MeasureT-loop
@@ -64,7 +65,7 @@ add-frames c =
     let x : FrameBench = frameBench (part .result .core) (part .last .1 .0) in
     let e = bench-of (afterPart m95512 (a .interval) (a .limit) (a .address) (a .bytes .now) (l .k) d) (part .ensures .0) (part .ensures .1 .1 .1) in
     let most = acts-most m95512 (a .interval) (a .limit) (splitAddress 65536 128 (a .address) (length (a .bytes .now)) (l .k)) (piece 65536 128 (a .address) (a .bytes .now) (l .k)) d (start .pre .1 .1 .0 .0) in
-    let few = parts-few (a .address) (length (a .bytes .now)) in
+    let few = parts-few m95512 m95512-sound (a .address) (length (a .bytes .now)) in
     let all = l .inv .1 .1 .0 in
     let below = c .before .before .before .before .before .before .loop-test .taken in
     let counts = part .ensures .1 .1 .0 in
@@ -80,7 +81,7 @@ cast-t20 c =
     let start = c .before .before .before .before .before .before .before .before .before .before .before .before .before in
     let a = start .args in
     let l = c .before .before .before .before .before .before .before .before .before .loop in
-    let few = parts-few (a .address) (length (a .bytes .now)) in
+    let few = parts-few m95512 m95512-sound (a .address) (length (a .bytes .now)) in
     let all = l .inv .1 .1 .0 in
     omega (arith, l .inv .0)
 
@@ -94,7 +95,9 @@ same-length c =
     let d : FrameBench = frameBench (l .next) (l .memory) in
     let x : FrameBench = frameBench (part .result .core) (part .last .1 .0) in
     let e = bench-of (afterPart m95512 (a .interval) (a .limit) (a .address) (a .bytes .now) (l .k) d) (part .ensures .0) (part .ensures .1 .1 .1) in
-    let ready : Ready x = subst Ready (sym e) (ready-played (partActs m95512 (a .interval) (a .limit) (a .address) (a .bytes .now) (l .k) d) d (l .inv .1 .1 .1 .0)) in
+    let ready : Ready m95512 x =
+    subst (Ready m95512) (sym e)
+    (ready-acted-all m95512 m95512-sound (partActs m95512 (a .interval) (a .limit) (a .address) (a .bytes .now) (l .k) d) d (l .inv .1 .1 .1 .0)) in
     ready .whole ∙ sym (start .pre .0)
 
 -- src/pages.rt:95:13
@@ -120,7 +123,7 @@ cast-t24 c =
     let start = c .before .before .before .before .before .before .before .before .before .before .before .before .before .before .before in
     let a = start .args in
     let l = c .before .before .before .before .before .before .before .before .before .before .before .loop in
-    let few = parts-few (a .address) (length (a .bytes .now)) in
+    let few = parts-few m95512 m95512-sound (a .address) (length (a .bytes .now)) in
     let all = l .inv .1 .1 .0 in
     omega (arith, l .inv .0)
 
@@ -135,7 +138,7 @@ add-t25 c =
     let x : FrameBench = frameBench (part .result .core) (part .last .1 .0) in
     let e = bench-of (afterPart m95512 (a .interval) (a .limit) (a .address) (a .bytes .now) (l .k) d) (part .ensures .0) (part .ensures .1 .1 .1) in
     let most = acts-most m95512 (a .interval) (a .limit) (splitAddress 65536 128 (a .address) (length (a .bytes .now)) (l .k)) (piece 65536 128 (a .address) (a .bytes .now) (l .k)) d (start .pre .1 .1 .0 .0) in
-    let few = parts-few (a .address) (length (a .bytes .now)) in
+    let few = parts-few m95512 m95512-sound (a .address) (length (a .bytes .now)) in
     let all = l .inv .1 .1 .0 in
     let below = c .before .before .before .before .before .before .before .before .before .before .loop-test .taken in
     let counts = part .ensures .1 .1 .0 in
@@ -155,7 +158,9 @@ send-requires c κs =
     let d : FrameBench = frameBench (l .next) (l .memory) in
     let x : FrameBench = frameBench (part .result .core) (part .last .1 .0) in
     let e = bench-of (afterPart m95512 (a .interval) (a .limit) (a .address) (a .bytes .now) (l .k) d) (part .ensures .0) (part .ensures .1 .1 .1) in
-    let ready : Ready x = subst Ready (sym e) (ready-played (partActs m95512 (a .interval) (a .limit) (a .address) (a .bytes .now) (l .k) d) d (l .inv .1 .1 .1 .0)) in
+    let ready : Ready m95512 x =
+    subst (Ready m95512) (sym e)
+    (ready-acted-all m95512 m95512-sound (partActs m95512 (a .interval) (a .limit) (a .address) (a .bytes .now) (l .k) d) d (l .inv .1 .1 .1 .0)) in
     (ready .whole, (ready .ranges, omega arith))
 
 -- src/pages.rt:102:13
@@ -168,7 +173,9 @@ same-length-2 c =
     let d : FrameBench = frameBench (l .next) (l .memory) in
     let x : FrameBench = frameBench (part .result .core) (part .last .1 .0) in
     let e = bench-of (afterPart m95512 (a .interval) (a .limit) (a .address) (a .bytes .now) (l .k) d) (part .ensures .0) (part .ensures .1 .1 .1) in
-    let ready : Ready x = subst Ready (sym e) (ready-played (partActs m95512 (a .interval) (a .limit) (a .address) (a .bytes .now) (l .k) d) d (l .inv .1 .1 .1 .0)) in
+    let ready : Ready m95512 x =
+    subst (Ready m95512) (sym e)
+    (ready-acted-all m95512 m95512-sound (partActs m95512 (a .interval) (a .limit) (a .address) (a .bytes .now) (l .k) d) d (l .inv .1 .1 .1 .0)) in
     ready .whole ∙ sym (start .pre .0)
 
 -- src/pages.rt:102:13
@@ -191,7 +198,7 @@ add-k c =
     let start = c .before .before .before .before .before .before .before .before .before .before .before .before .before .before .before in
     let a = start .args in
     let l = c .before .before .before .before .before .before .before .before .before .before .before .loop in
-    let few = parts-few (a .address) (length (a .bytes .now)) in
+    let few = parts-few m95512 m95512-sound (a .address) (length (a .bytes .now)) in
     let all = l .inv .1 .1 .0 in
     let below = c .before .before .before .before .before .before .before .before .before .before .loop-test .taken in
     omega arith
@@ -216,7 +223,9 @@ loop-again c =
     let x : FrameBench = frameBench (part .result .core) (part .last .1 .0) in
     let e = bench-of (afterPart m95512 (a .interval) (a .limit) (a .address) (a .bytes .now) (l .k) d) (part .ensures .0) (part .ensures .1 .1 .1) in
     let most = acts-most m95512 (a .interval) (a .limit) (splitAddress 65536 128 (a .address) (length (a .bytes .now)) (l .k)) (piece 65536 128 (a .address) (a .bytes .now) (l .k)) d (start .pre .1 .1 .0 .0) in
-    let ready : Ready x = subst Ready (sym e) (ready-played (partActs m95512 (a .interval) (a .limit) (a .address) (a .bytes .now) (l .k) d) d (l .inv .1 .1 .1 .0)) in
+    let ready : Ready m95512 x =
+    subst (Ready m95512) (sym e)
+    (ready-acted-all m95512 m95512-sound (partActs m95512 (a .interval) (a .limit) (a .address) (a .bytes .now) (l .k) d) d (l .inv .1 .1 .1 .0)) in
     let below = c .before .before .before .before .before .before .before .before .before .before .loop-test .taken in
     let counts = part .ensures .1 .1 .0 in
     (omega arith, (omega (arith, l .inv .1 .0), (l .inv .1 .1 .0, (ready, rest-next m95512 (a .interval) (a .limit) (a .address) (a .bytes .now) (c .before .before .before .before .before .before .before .before .before .before .before .before .cartvesper-split-parts .result) (a .sent) _ (l .k) (l .frames) (part .result .frames) d x below e counts (sym (seen-wip (part .result .status) (x .core) (part .ensures .1 .0)) ∙ sym (c .before .before .before .wip .ensures) ∙ c .before .before .if1 .left) (sym (seen-wel (part .result .status) (x .core) (part .ensures .1 .0)) ∙ sym (c .before .wel .ensures) ∙ c .if2 .left) (l .inv .1 .1 .1 .1)))))
@@ -227,7 +236,7 @@ cast-t33 c =
     let start = c .before .before .before .before .before in
     let a = start .args in
     let l = c .before .loop in
-    let few = parts-few (a .address) (length (a .bytes .now)) in
+    let few = parts-few m95512 m95512-sound (a .address) (length (a .bytes .now)) in
     let all = l .inv .1 .1 .0 in
     omega (arith, l .inv .0)
 

@@ -1,9 +1,10 @@
--- What the quick model's promise says of RDSR.
+-- What the frame model's promise says of RDSR.
 use mathlib.Core.Path.{refl, ap, _∙_}
 use mathlib.Core.List.{List, [], _∷_}
 use Prim.Native.Nat.{ℕ}
 use native.Mathlib.Omega.{arith}
 use lib.ListN.{getD}
+use Rattle.codes.specs.Part.{m95512}
 use Rattle.frames.specs.declared.Framed.{Framed}
 use Rattle.driver.proofs.Frames.{sent-core, sent-output, poll-leaves, poll-shows}
 use borrow.Author.Needs.{needs}
@@ -37,11 +38,11 @@ returns c =
     let core = start .args .core in
     let memory = start .args .memory .now in (
       ap (λ (l : List ℕ). getD l 1 0)
-          (f .ensures .1 .1 .1 ∙ sent-output core memory (5 ∷ 0 ∷ []) (start .pre .0) (start .pre .1) (omega arith) (0 ∷ 0 ∷ []) refl)
-          ∙ poll-shows core memory,
+          (f .ensures .1 .1 .1 ∙ sent-output m95512 core memory (5 ∷ 0 ∷ []) (start .pre .0) (start .pre .1) (omega arith) (0 ∷ 0 ∷ []) refl)
+          ∙ poll-shows m95512 core memory,
       ap (λ (x : Framed). x .core) (f .ensures .0)
-          ∙ sent-core core memory (5 ∷ 0 ∷ []) (start .pre .0) (start .pre .1) (omega arith) 2 refl
-          ∙ poll-leaves core,
+          ∙ sent-core m95512 core memory (5 ∷ 0 ∷ []) (start .pre .0) (start .pre .1) (omega arith) 2 refl
+          ∙ poll-leaves m95512 core,
     )
 
 pub poll-spec : {M : Type 1} → statement M

@@ -1,7 +1,8 @@
 use mathlib.Core.Path.{ap, _∙_}
-use Prim.Native.Nat.{_-_}
+use Prim.Native.Nat.{_-_, _≤_}
 use native.Mathlib.Omega.{arith}
 use lib.ListN.{length}
+use Rattle.codes.specs.Part.{m95512}
 use Rattle.frames.specs.declared.Framed.{Framed}
 use Rattle.driver.proofs.Frames.{sent-core, part-length}
 use borrow.Author.Needs.{needs}
@@ -43,8 +44,10 @@ returns c =
     let start = c .before .before .before .before .before .before .before in
     let n = length (start .args .bytes .now) in
     let room = c .before .before .before .before .room in
+    let short : n ≤ 65540 = omega (arith, start .pre .1 .1) in
     ap (λ (x : Framed). x .core) (f .ensures .0)
-    ∙ sent-core (start .args .core) (start .args .memory .now) (start .args .bytes .now) (start .pre .0) (start .pre .1 .0) (start .pre .1 .1) _ (part-length (room .result) (n - 0) n (omega arith) (omega arith))
+    ∙ sent-core m95512 (start .args .core) (start .args .memory .now) (start .args .bytes .now) (start .pre .0) (start .pre .1 .0) short _
+    (part-length (room .result) (n - 0) n (omega arith) (omega arith))
 
 pub send-spec : {M : Type 1} → statement M
 send-spec =

@@ -1,14 +1,16 @@
+-- The code puts the head of the M95512's WRITE together a byte at a time; `Frames` has the bytes after it.
 use mathlib.Core.Path.{_≡_, ap, _∙_}
-use Prim.Native.Nat.{ℕ, _+_, _-_, _*_}
+use Prim.Native.Nat.{ℕ, _+_, _-_, _*_, _/_, _%_, _^_, _<_, _≤_}
 use native.Mathlib.Omega.{arith}
 use mathlib.Core.Bool.{true}
-use mathlib.Core.List.{List}
-use lib.ListN.{length}
+use mathlib.Core.List.{List, [], _∷_, _++_}
+use lib.ListN.{length, set, take, length-set}
 use Rattle.laws.specs.Spliced.{spliced}
 use Rattle.codes.specs.Part.{m95512}
 use Rattle.chip.specs.Records.{running}
 use Rattle.frames.specs.After.{after}
-use Rattle.driver.proofs.Frames.{headed, head-length, frame-room, frame-bytes}
+use Rattle.driver.specs.Sequence.{writeBytes}
+use Rattle.driver.proofs.Frames.{frame-room, frame-bytes}
 use borrow.Author.Needs.{needs}
 use Rattle.driver.proofs.sending.send_write.Statement.{statement}
 use Rattle.driver.proofs.sending.send_write.Tie as tie
@@ -17,6 +19,22 @@ use Rattle.driver.proofs.sending.send_write.Lts as lts
 use Rattle.bytes.proofs.copy.Reads as copy-reads
 use Rattle.driver.proofs.sending.room.Reads as room-reads
 use Rattle.driver.proofs.sending.send.Reads as send-reads
+
+-- room with the code and the address at its head
+abbrev headed : List ℕ → ℕ → List ℕ
+headed b a = set (set (set b 0 0x02) 1 (a / 256)) 2 (a % 256)
+
+head-length : (b : List ℕ) (a : ℕ) → length (headed b a) ≡ length b
+head-length b a = length-set (set (set b 0 0x02) 1 (a / 256)) 2 (a % 256) ∙ length-set (set b 0 0x02) 1 (a / 256) ∙ length-set b 0 0x02
+
+head-bytes : (b bytes : List ℕ) (a : ℕ) → a < 65536 → 3 ≤ length b → take 3 (headed b a) ++ bytes ≡ writeBytes m95512 a bytes
+head-bytes [] bytes a h r = absurd (omega arith)
+head-bytes (x ∷ []) bytes a h r = absurd (omega arith)
+head-bytes (x ∷ y ∷ []) bytes a h r = absurd (omega arith)
+head-bytes (x ∷ y ∷ z ∷ b) bytes a h r =
+    let high : a / 256 ≡ a / 256 ^ 1 % 256 = omega arith in
+    let low : a % 256 ≡ a / 256 ^ 0 % 256 = omega arith in
+    ap (λ (k : ℕ). 0x02 ∷ k ∷ (a % 256) ∷ bytes) high ∙ ap (λ (k : ℕ). 0x02 ∷ (a / 256 ^ 1 % 256) ∷ k ∷ bytes) low
 
 -- src/sending.rt:68:21
 room-requires : tie.Need-room-requires
@@ -81,8 +99,10 @@ part-send-end c =
     let copy = c .before .before .copy in
     let a = start .args in
     let n = length (a .bytes .now) in
-    let long : length (spliced (headed (room .result) (a .address)) (copy .last .1 .0) 3 (n + 3 - 3)) ≡ length (room .result) =
-    frame-room (room .result) (a .bytes .now) (copy .last .1 .0) (a .address) (n + 3 - 3) (start .pre .1 .1 .0) (omega arith) (omega arith) (copy .ensures .1) in
+    let b = headed (room .result) (a .address) in
+    let same : length b ≡ length (room .result) = head-length (room .result) (a .address) in
+    let long : length (spliced b (copy .last .1 .0) 3 (n + 3 - 3)) ≡ length b =
+    frame-room b (a .bytes .now) (copy .last .1 .0) 3 (n + 3 - 3) (omega arith) (omega arith) (copy .ensures .1) in
     omega arith
 
 -- src/sending.rt:74:5
@@ -93,7 +113,11 @@ send-requires c κs =
     let copy = c .before .before .before .copy in
     let a = start .args in
     let n = length (a .bytes .now) in
-    let built = frame-bytes (room .result) (a .bytes .now) (copy .last .1 .0) (a .address) (n + 3 - 3) (start .pre .1 .1 .0) (omega arith) (omega arith) (copy .ensures .1) (n + 3 - 0) (omega arith) in
+    let b = headed (room .result) (a .address) in
+    let same : length b ≡ length (room .result) = head-length (room .result) (a .address) in
+    let built =
+    frame-bytes b (a .bytes .now) (copy .last .1 .0) 3 (n + 3 - 3) (omega arith) (omega arith) (copy .ensures .1) (n + 3 - 0) (omega arith)
+    ∙ head-bytes (room .result) (a .bytes .now) (a .address) (start .pre .1 .1 .0) (omega arith) in
     (start .pre .0, (start .pre .1 .0, rw built (omega arith)))
 
 -- src/sending.rt:61:1
@@ -104,7 +128,11 @@ returns c =
     let copy = c .before .before .before .before .copy in
     let a = start .args in
     let n = length (a .bytes .now) in
-    let built = frame-bytes (room .result) (a .bytes .now) (copy .last .1 .0) (a .address) (n + 3 - 3) (start .pre .1 .1 .0) (omega arith) (omega arith) (copy .ensures .1) (n + 3 - 0) (omega arith) in
+    let b = headed (room .result) (a .address) in
+    let same : length b ≡ length (room .result) = head-length (room .result) (a .address) in
+    let built =
+    frame-bytes b (a .bytes .now) (copy .last .1 .0) 3 (n + 3 - 3) (omega arith) (omega arith) (copy .ensures .1) (n + 3 - 0) (omega arith)
+    ∙ head-bytes (room .result) (a .bytes .now) (a .address) (start .pre .1 .1 .0) (omega arith) in
     c .send .ensures ∙ ap (λ (s : List ℕ). after m95512 (running (a .core)) true (a .core) s (8 * length s)) built
 
 pub send-write-spec : {M : Type 1} → statement M

@@ -52,7 +52,8 @@ returns c =
     let wait = c .before .before .before .poll-on in
     let d : FrameBench = frameBench (start .args .core) (start .args .memory .now) in
     let x : FrameBench = frameBench (poll .result .core) (start .args .memory .now) in
-    told m95512 _ d _ x 1 (first-wait (start .args .interval) (start .args .limit) d x (bench-of d (poll .ensures .1) refl)) (wait .result) (c .and-sent .result) (wait .last .1 .0) (wait .ensures) (c .and-sent .ensures)
+    let follows = first-wait m95512 (start .args .interval) (start .args .limit) d x (bench-of d (poll .ensures .1) refl) in
+    told m95512 _ d _ x 1 follows (wait .result) (c .and-sent .result) (wait .last .1 .0) (wait .ensures) (c .and-sent .ensures)
 
 pub first-wait-spec : {M : Type 1} → statement M
 first-wait-spec =

@@ -6,6 +6,7 @@ use Rattle.chip.specs.Records.{status}
 use Rattle.chip.specs.Time.{timed, timedMemory}
 use Rattle.codes.specs.Part.{m95512}
 use Rattle.chip.specs.declared.Timed.{Timed}
+use Rattle.codes.proofs.Sound.{m95512-sound}
 use Rattle.frames.specs.Play.{FrameBench, frameBench}
 use Rattle.driver.proofs.Frames.{reading-core, reading-memory, poll-leaves}
 use Rattle.driver.proofs.Ready.{ready-read}
@@ -33,9 +34,9 @@ poll-requires c κs =
     let t = c .before .before .before .before .before .before .wrapping-add-u32 .result in
     let clock = c .before .before .before .before .clock-reading in
     let d : FrameBench = frameBench (start .args .core) (start .args .memory .now) in
-    let ready = ready-read t d (record { whole = start .pre .0; ranges = start .pre .1 }) in
-    let core = ap (λ (x : Timed). x .core) (clock .ensures .0) ∙ reading-core (d .core) (d .memory) t (start .pre .0) (start .pre .1) in
-    let memory = clock .ensures .1 .1 ∙ reading-memory (d .core) (d .memory) t (start .pre .0) (start .pre .1) in
+    let ready = ready-read m95512 m95512-sound t d (record { whole = start .pre .0; ranges = start .pre .1 }) in
+    let core = ap (λ (x : Timed). x .core) (clock .ensures .0) ∙ reading-core m95512 (d .core) (d .memory) t (start .pre .0) (start .pre .1) in
+    let memory = clock .ensures .1 .1 ∙ reading-memory m95512 (d .core) (d .memory) t (start .pre .0) (start .pre .1) in
     (ap length memory ∙ ready .whole, ap (inRanges m95512) core ∙ ready .ranges)
 
 -- src/waiting.rt:22:1
@@ -50,13 +51,13 @@ returns c =
     let t = added .result in
     let clock = c .before .before .before .before .before .clock-reading in
     let d : FrameBench = frameBench (start .args .core) (start .args .memory .now) in
-    let core = ap (λ (x : Timed). x .core) (clock .ensures .0) ∙ reading-core (d .core) (d .memory) t (start .pre .0) (start .pre .1) in
-    let memory = clock .ensures .1 .1 ∙ reading-memory (d .core) (d .memory) t (start .pre .0) (start .pre .1) in
+    let core = ap (λ (x : Timed). x .core) (clock .ensures .0) ∙ reading-core m95512 (d .core) (d .memory) t (start .pre .0) (start .pre .1) in
+    let memory = clock .ensures .1 .1 ∙ reading-memory m95512 (d .core) (d .memory) t (start .pre .0) (start .pre .1) in
     let poll = c .poll in (
       poll .ensures .1
           ∙ core
           ∙ ap (λ (n : ℕ). timed m95512 n (d .core)) (added .ensures)
-          ∙ sym (poll-leaves (timed m95512 ((d .core .last + start .args .interval) % 2 ^ 32) (d .core))),
+          ∙ sym (poll-leaves m95512 (timed m95512 ((d .core .last + start .args .interval) % 2 ^ 32) (d .core))),
       (poll .ensures .0 ∙ ap status (sym (poll .ensures .1)), memory ∙ ap (λ (n : ℕ). timedMemory m95512 n (d .core) (d .memory)) (added .ensures)),
     )
 

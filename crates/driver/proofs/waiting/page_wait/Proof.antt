@@ -4,9 +4,10 @@ use native.Mathlib.Omega.{arith}
 use lib.ListN.{length}
 use Rattle.codes.specs.Part.{m95512}
 use Rattle.chip.specs.Ranges.{inRanges}
+use Rattle.codes.proofs.Sound.{m95512-sound}
 use Rattle.frames.specs.Play.{FrameBench, actedAll, frameBench}
 use Rattle.driver.specs.Sequence.{latePoll}
-use Rattle.driver.proofs.Ready.{bench-of, ready-played}
+use Rattle.driver.proofs.Ready.{bench-of, ready-acted-all}
 use Rattle.driver.proofs.Waits.{sent-most}
 use Rattle.driver.proofs.Joined.{told, page-wait}
 use borrow.Author.Needs.{needs}
@@ -32,7 +33,7 @@ poll-on-requires c κs =
     let start = c .before .before .before .before .before .before in
     let poll = c .before .before .before .late-poll in
     let d : FrameBench = frameBench (start .args .core) (start .args .memory .now) in
-    let ready = ready-played (latePoll (start .args .interval) d) d (record { whole = start .pre .0; ranges = start .pre .1 .0 }) in
+    let ready = ready-acted-all m95512 m95512-sound (latePoll (start .args .interval) d) d (record { whole = start .pre .0; ranges = start .pre .1 .0 }) in
     (ap length (poll .ensures .1 .1) ∙ ready .whole, (ap (inRanges m95512) (poll .ensures .0) ∙ ready .ranges, poll .ensures .1 .0))
 
 -- src/waiting.rt:96:5
@@ -57,7 +58,8 @@ returns c =
     let d : FrameBench = frameBench (start .args .core) (start .args .memory .now) in
     let x : FrameBench = frameBench (poll .result .core) (poll .last .1 .0) in
     let e = bench-of (actedAll m95512 (latePoll (start .args .interval) d) d) (poll .ensures .0) (poll .ensures .1 .1) in
-    told m95512 _ d _ x 1 (page-wait (start .args .interval) (start .args .limit) d x e) (wait .result) (c .and-sent .result) (wait .last .1 .0) (wait .ensures) (c .and-sent .ensures)
+    let follows = page-wait m95512 (start .args .interval) (start .args .limit) d x e in
+    told m95512 _ d _ x 1 follows (wait .result) (c .and-sent .result) (wait .last .1 .0) (wait .ensures) (c .and-sent .ensures)
 
 pub page-wait-spec : {M : Type 1} → statement M
 page-wait-spec =

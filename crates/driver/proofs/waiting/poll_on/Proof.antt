@@ -3,9 +3,10 @@ use Prim.Native.Nat.{_-_, _≤_}
 use native.Mathlib.Omega.{arith}
 use Rattle.codes.specs.Part.{m95512}
 use Rattle.chip.specs.Records.{status}
+use Rattle.codes.proofs.Sound.{m95512-sound}
 use Rattle.frames.specs.Play.{FrameBench, actedAll, frameBench}
 use Rattle.driver.specs.Sequence.{latePoll}
-use Rattle.driver.proofs.Ready.{Ready, bench-of, ready-played}
+use Rattle.driver.proofs.Ready.{Ready, bench-of, ready-acted-all}
 use Rattle.driver.proofs.Waits.{goes-on, is-over, Onward, onward-first, onward-next, onward-last}
 use Rattle.driver.proofs.waiting.poll_on.Statement.{statement}
 use Rattle.driver.proofs.waiting.poll_on.Tie as tie
@@ -17,7 +18,7 @@ abbrev Inv-loop : tie.InvT-loop
 Inv-loop memory₀ interval left polled₀ polls₀ memory polled polls =
     (polls ≤ left)
     × ((polled .status ≡ status (polled .core))
-    × (Ready (frameBench (polled .core) memory)
+    × (Ready m95512 (frameBench (polled .core) memory)
     × Onward m95512 interval left (frameBench (polled₀ .core) memory₀) polls (frameBench (polled .core) memory)))
 
 abbrev μ-loop : tie.MeasureT-loop
@@ -62,7 +63,9 @@ loop-again c =
     let on = goes-on (l .polls) (a .left) (l .polled .status) (l .polled .core) (l .inv .1 .0) (c .before .before .before .before .if1 .taken) in
     let d : FrameBench = frameBench (l .polled .core) (l .memory) in
     let e = bench-of (actedAll m95512 (latePoll (a .interval) d) d) (poll .ensures .0) (poll .ensures .1 .1) in
-    (omega (arith, on .0), (poll .ensures .1 .0, (subst Ready (sym e) (ready-played (latePoll (a .interval) d) d (l .inv .1 .1 .0)), onward-next m95512 (a .interval) (a .left) _ (l .polls) d _ e (on .0) (on .1) (l .inv .1 .1 .1))))
+    let ready = subst (Ready m95512) (sym e) (ready-acted-all m95512 m95512-sound (latePoll (a .interval) d) d (l .inv .1 .1 .0)) in
+    let rest = onward-next m95512 (a .interval) (a .left) _ (l .polls) d _ e (on .0) (on .1) (l .inv .1 .1 .1) in
+    (omega (arith, on .0), (poll .ensures .1 .0, (ready, rest)))
 
 -- src/waiting.rt:36:1
 same-length : tie.Need-same-length Inv-loop μ-loop

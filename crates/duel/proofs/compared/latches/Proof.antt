@@ -5,10 +5,10 @@ use Rattle.duel.proofs.compared.latches.Statement.{statement}
 use Rattle.duel.proofs.compared.latches.Tie as tie
 
 abbrev Inv-loop : tie.InvT-loop
-Inv-loop run₀ quick slow i₀ t7 t8 run i = i ≤ 128
+Inv-loop run₀ frame_side pin_side i₀ t7 t8 run i = i ≤ 128
 
 abbrev μ-loop : tie.MeasureT-loop
-μ-loop run₀ quick slow i₀ t7 t8 run i = 128 - i
+μ-loop run₀ frame_side pin_side i₀ t7 t8 run i = 128 - i
 
 loop-holds : tie.Need-loop-holds Inv-loop μ-loop
 loop-holds c = search needs

@@ -45,7 +45,7 @@ returns c =
     let start = c .before .before .before .before .before .before .before .before .before .before .before .before in
     let a = start .args in
     rw (c .before .before .pad .ensures, c .before .before .before .before .before .before .show-bytes .ensures, start .pre .1 .1 .1 .0, start .pre .1 .1 .1 .1, c .before .before .before .before .before .before .before .before .address-of .ensures)
-    (padded-last (byteOut m95512 (instruction (a .bytes .now)) (a .ran) (λ j. a .status) (a .memory .now) (address m95512 (a .bytes .now))) (length (a .bytes .now)) (a .bits))
+    (padded-last (byteOut m95512 (instruction m95512 (a .bytes .now)) (a .ran) (λ j. a .status) (a .memory .now) (address m95512 (a .bytes .now))) (length (a .bytes .now)) (a .bits))
 
 pub show-spec : {M : Type 1} → statement M
 show-spec =

@@ -9,6 +9,7 @@ use Rattle.laws.specs.Spliced.{two-parts}
 use Rattle.laws.specs.Table.{table}
 use lib.Dec.{leb}
 use borrow.Author.Tests.{lt-leb}
+use Rattle.codes.specs.Part.{m95512}
 use Rattle.frames.proofs.Showing.{all-undriven, read-bytes}
 use native.Mathlib.Omega.{arith}
 use borrow.Author.Needs.{needs}
@@ -67,7 +68,7 @@ returns-3 c =
     let cells = table (n - 3) (λ d. getD (a .memory .now) ((a .from + d) % 65536) 0) in
     let left : length (take (n - 3) (drop 3 l)) ≡ n - 3 = length-take-le (n - 3) (drop 3 l) (simp length-drop (omega arith)) in
     rw (c .before .before .show-cells .ensures, c .before .before .before .before .before .before .fill3 .ensures, c .before .before .before .before .before .before .before .before .before .if1 .left, length-take-le 3 l (omega arith), left)
-    (two-parts l (replicate 3 255) cells 3 n refl refl (omega arith) ∙ read-bytes (a .memory .now) (a .from) n (omega arith))
+    (two-parts l (replicate 3 255) cells 3 n refl refl (omega arith) ∙ read-bytes m95512 (a .memory .now) (a .from) n (omega arith))
 
 pub show-read-spec : {M : Type 1} → statement M
 show-read-spec =

@@ -11,7 +11,7 @@ use Rattle.codes.specs.Instructions.{decode}
 use Rattle.lists.specs.Ways.{whole}
 use Rattle.codes.specs.Output.{outputs}
 use Rattle.pins.proofs.Stills.{still}
-use Rattle.lists.proofs.Quick.{next-bit, next-cell, down, down-counted}
+use Rattle.lists.proofs.InPlace.{next-bit, next-cell, down, down-counted}
 use borrow.Author.Needs.{needs}
 use Rattle.lists.proofs.Front.falling.Statement.{statement}
 use Rattle.lists.proofs.Front.falling.Tie as tie
@@ -38,7 +38,7 @@ returns c =
     let s = at .args .self in
     let m = at .args .memory .now in
     let drives = b .before .before .before .outputs .result in
-    let o : outputs m95512 (decode (s .code)) (s .taken) (on (s .ran)) ≡ drives =
+    let o : outputs m95512 (decode m95512 (s .code)) (s .taken) (on (s .ran)) ≡ drives =
     sym (b .before .before .before .outputs .ensures ∙ ap (λ i. outputs m95512 i (s .taken) (on (s .ran))) (b .before .before .before .before .before .decode .ensures)) in
     let counted = not (on (s .s)) && not (on (s .held)) in
     let both = c .before .if1 .taken in
@@ -61,7 +61,7 @@ returns-2 c =
     let s = at .args .self in
     let m = at .args .memory .now in
     let drives = b .before .before .before .outputs .result in
-    let o : outputs m95512 (decode (s .code)) (s .taken) (on (s .ran)) ≡ drives =
+    let o : outputs m95512 (decode m95512 (s .code)) (s .taken) (on (s .ran)) ≡ drives =
     sym (b .before .before .before .outputs .ensures ∙ ap (λ i. outputs m95512 i (s .taken) (on (s .ran))) (b .before .before .before .before .before .decode .ensures)) in
     let counted = not (on (s .s)) && not (on (s .held)) in
     let both = c .before .before .before .before .before .if1 .taken in
@@ -79,7 +79,7 @@ returns-4 c =
     let s = at .args .self in
     let m = at .args .memory .now in
     let drives = b .before .before .before .outputs .result in
-    let o : outputs m95512 (decode (s .code)) (s .taken) (on (s .ran)) ≡ drives =
+    let o : outputs m95512 (decode m95512 (s .code)) (s .taken) (on (s .ran)) ≡ drives =
     sym (b .before .before .before .outputs .ensures ∙ ap (λ i. outputs m95512 i (s .taken) (on (s .ran))) (b .before .before .before .before .before .decode .ensures)) in
     λ l k. down m95512 m (whole s l k) _ (whole s l k) (at .pre) (b .bit .ensures) (still m95512 m k (whole s l k) drives o (c .if1 .left))
 

@@ -3,7 +3,7 @@ use Rattle.codes.specs.Part.{m95512}
 use Rattle.codes.specs.declared.Instruction.{Instruction}
 use Rattle.lists.specs.Ways.{whole}
 use Rattle.edges.specs.Rising.{taking}
-use Rattle.lists.proofs.Quick.{one-bit, no-byte, up-counted, up-uncounted}
+use Rattle.lists.proofs.InPlace.{one-bit, no-byte, up-counted, up-uncounted}
 use borrow.Author.Needs.{needs}
 use Rattle.lists.proofs.Front.rising.Statement.{statement}
 use Rattle.lists.proofs.Front.rising.Tie as tie

@@ -10,7 +10,7 @@ use Rattle.laws.specs.Filled.{filled, filled-none, filled-more, filled-all}
 use Rattle.codes.specs.Part.{m95512}
 use Rattle.pins.specs.Answers.{PinBench, afterEvent, played, pinBench}
 use Rattle.lists.specs.Answers.{playedQ}
-use Rattle.lists.specs.Ways.{whole, after, afterMemory}
+use Rattle.lists.specs.Ways.{whole, afterWay, afterWayMemory}
 use Rattle.pins.specs.Events.{stepped, steppedMemory}
 use Rattle.pins.specs.Devices.{q}
 use Rattle.edges.specs.Falling.{levelNumber}
@@ -20,7 +20,7 @@ use Rattle.pins.specs.declared.Device.{Device}
 use Rattle.pins.specs.declared.Event.{Event}
 use Rattle.lists.specs.declared.Front.{Front}
 use Rattle.lists.specs.declared.Way.{Way}
-use Rattle.lists.proofs.Quick.{way-memory, whole-way}
+use Rattle.lists.proofs.InPlace.{way-memory, whole-way}
 use Rattle.lists.proofs.Playing.{played-none, played-more, q-length, q-at}
 use borrow.Author.Needs.{needs}
 use Rattle.lists.proofs.listed.play_all.Statement.{statement}
@@ -51,8 +51,8 @@ shared-slice-read-event-of c = search needs
 event-of-requires : tie.Need-event-of-requires Inv-loop μ-loop
 event-of-requires c κs = search needs
 
-quick-requires : tie.Need-quick-requires Inv-loop μ-loop
-quick-requires c κs = search needs
+way-for-requires : tie.Need-way-for-requires Inv-loop μ-loop
+way-for-requires c κs = search needs
 
 is-whole-requires : tie.Need-is-whole-requires Inv-loop μ-loop
 is-whole-requires c κs = search needs
@@ -89,22 +89,22 @@ loop-less c = search needs
 
 -- where a way leads from a bench
 abbrev led : Event → Way → PinBench → PinBench
-led e w b = pinBench (after m95512 (b .memory) e w (b .device)) (afterMemory m95512 e w (b .device) (b .memory))
+led e w b = pinBench (afterWay m95512 (b .memory) e w (b .device)) (afterWayMemory m95512 e w (b .device) (b .memory))
 
 -- by either arm: the device and the memory after the way
 gone : (c : tie.Joined1 Inv-loop μ-loop) → let l = c .before .before .before .before .before .before .before .loop in
-    apart (c .if1 .front) (c .if1 .latch) (c .if1 .core) (c .if1 .memory) ≡ led (c .before .before .before .before .event-of .result) (c .before .before .quick .result) (apart (l .front) (l .latch) (l .core) (l .memory))
+    apart (c .if1 .front) (c .if1 .latch) (c .if1 .core) (c .if1 .memory) ≡ led (c .before .before .before .before .event-of .result) (c .before .before .way-for .result) (apart (l .front) (l .latch) (l .core) (l .memory))
 gone c =
     let l = c .before .before .before .before .before .before .before .loop in
     let x : Device = whole (l .front) (l .latch) (l .core) in
     let e = c .before .before .before .before .event-of .result in
-    let way = c .before .before .quick .result in
+    let way = c .before .before .way-for .result in
     let test = sym (c .before .is-whole .ensures) in
     ⊎-elim
     (λ w. rw (w .10, w .11, w .12, w .13, w .7 .ensures, w .3 .ensures .0, w .3 .ensures .1, w .1 .ensures, whole-way way (test ∙ w .0 .taken)))
     (λ w. rw (w .2, w .3, w .4, w .5)
     (ap (λ (y : Device). pinBench y (l .memory)) (w .1 .ensures (l .memory) e (l .latch) (l .core) (test ∙ w .0 .left))
-    ∙ ap (pinBench (after m95512 (l .memory) e way x)) (way-memory m95512 e x (l .memory) way (test ∙ w .0 .left))))
+    ∙ ap (pinBench (afterWay m95512 (l .memory) e way x)) (way-memory m95512 e x (l .memory) way (test ∙ w .0 .left))))
     (c .if1 .came)
 
 -- and that is what the event does
@@ -113,9 +113,9 @@ after-event : (c : tie.Joined1 Inv-loop μ-loop) → let l = c .before .before .
 after-event c =
     let l = c .before .before .before .before .before .before .before .loop in
     let x : Device = whole (l .front) (l .latch) (l .core) in
-    let does = c .before .before .quick .ensures in
+    let does = c .before .before .way-for .ensures in
     let way : Event → PinBench = λ k. pinBench (stepped m95512 (l .memory) k x) (steppedMemory m95512 k x (l .memory)) in
-    let told : led (c .before .before .before .before .event-of .result) (c .before .before .quick .result) (apart (l .front) (l .latch) (l .core) (l .memory)) ≡ way (c .before .before .before .before .event-of .result) =
+    let told : led (c .before .before .before .before .event-of .result) (c .before .before .way-for .result) (apart (l .front) (l .latch) (l .core) (l .memory)) ≡ way (c .before .before .before .before .event-of .result) =
     rw (does .0 (l .latch) (l .core), does .1 (l .latch) (l .core) (l .memory)) in
     gone c ∙ told ∙ ap way (c .before .before .before .before .event-of .ensures)
 
@@ -177,7 +177,7 @@ play-all-spec =
     mul-event-of
     shared-slice-read-event-of
     event-of-requires
-    quick-requires
+    way-for-requires
     is-whole-requires
     whole-requires
     stepped-requires

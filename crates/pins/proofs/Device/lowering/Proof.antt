@@ -36,7 +36,7 @@ returns : tie.Need-returns
 unfolding fallen
 returns c =
     let x = c .before .before .before .before .before .before .before .before .before .before .before .before .before .args .self in
-    let o : outputs m95512 (decode (x .frame .code)) (x .frame .taken) (on (x .frame .ran)) ≡ c .before .before .before .before .before .before .before .outputs .result =
+    let o : outputs m95512 (decode m95512 (x .frame .code)) (x .frame .taken) (on (x .frame .ran)) ≡ c .before .before .before .before .before .before .before .outputs .result =
     sym (c .before .before .before .before .before .before .before .outputs .ensures ∙ ap (λ i. outputs m95512 i (x .frame .taken) (on (x .frame .ran))) (c .before .before .before .before .before .before .before .before .before .decode .ensures)) in
     let both = c .before .before .if1 .taken in
     let counted = and-left (counting x) (c .before .before .before .before .before .before .before .outputs .result) both in
@@ -51,7 +51,7 @@ returns-2 : tie.Need-returns-2
 unfolding fallen
 returns-2 c =
     let x = c .before .before .before .before .before .before .before .before .before .before .before .before .before .before .before .args .self in
-    let o : outputs m95512 (decode (x .frame .code)) (x .frame .taken) (on (x .frame .ran)) ≡ c .before .before .before .before .before .before .before .before .before .outputs .result =
+    let o : outputs m95512 (decode m95512 (x .frame .code)) (x .frame .taken) (on (x .frame .ran)) ≡ c .before .before .before .before .before .before .before .before .before .outputs .result =
     sym (c .before .before .before .before .before .before .before .before .before .outputs .ensures ∙ ap (λ i. outputs m95512 i (x .frame .taken) (on (x .frame .ran))) (c .before .before .before .before .before .before .before .before .before .before .before .decode .ensures)) in
     let both = c .before .before .before .before .if1 .taken in
     let counted = and-left (counting x) (c .before .before .before .before .before .before .before .before .before .outputs .result) both in
@@ -64,7 +64,7 @@ returns-3 : tie.Need-returns-3
 unfolding fallen
 returns-3 c =
     let x = c .before .before .before .before .before .before .before .before .before .before .before .args .self in
-    let o : outputs m95512 (decode (x .frame .code)) (x .frame .taken) (on (x .frame .ran)) ≡ c .before .before .before .before .before .outputs .result =
+    let o : outputs m95512 (decode m95512 (x .frame .code)) (x .frame .taken) (on (x .frame .ran)) ≡ c .before .before .before .before .before .outputs .result =
     sym (c .before .before .before .before .before .outputs .ensures ∙ ap (λ i. outputs m95512 i (x .frame .taken) (on (x .frame .ran))) (c .before .before .before .before .before .before .before .decode .ensures)) in
     rw (c .before .before .bit .ensures)
     (ap (λ y. renewed (withPins (withC 0 (x .pins)) y)) (still m95512 _ (x .core) x (c .before .before .before .before .before .outputs .result) o (c .if1 .left)))

@@ -7,10 +7,10 @@ use lib.Seq.{length-take-le}
 use Rattle.codes.specs.Part.{m95512}
 use Rattle.pins.specs.Answers.{PinBench, played, pinBench}
 use Rattle.lists.specs.Answers.{playedQ}
-use Rattle.trace.specs.Printing.{printed}
-use Rattle.trace.specs.Put.{put}
+use Rattle.printing.specs.Printing.{printed}
+use Rattle.printing.specs.Put.{put}
 use Rattle.lines.proofs.Hand.{read-fits, whole-small}
-use Rattle.lines.proofs.Runs.{found-length, found-room}
+use Rattle.lines.proofs.Runs.{found-length}
 use Rattle.trace.specs.Chunks.{playedLines, shownLines}
 use borrow.Author.Needs.{needs}
 use Rattle.trace.proofs.chunks.piece.Statement.{statement}
@@ -20,7 +20,9 @@ parse-requires : tie.Need-parse-requires
 parse-requires c κs = search needs
 
 add-number : tie.Need-add-number
-add-number c = let h = whole-small (c .before .before .before .before .before .before .before .before .before .before .args .line) (c .before .before .before .before .before .before .before .before .before .before .pre .2) in omega (arith, h)
+add-number c =
+    let s = c .before .before .before .before .before .before .before .before .before .before in
+    omega (arith, whole-small (s .args .line) (s .pre .0 .2))
 
 slice-reshare-prefix-show : tie.Need-slice-reshare-prefix-show
 slice-reshare-prefix-show c = search needs
@@ -32,7 +34,10 @@ slice-relend-prefix-show : tie.Need-slice-relend-prefix-show
 slice-relend-prefix-show c = search needs
 
 slice-aggregate-show-2 : tie.Need-slice-aggregate-show-2
-slice-aggregate-show-2 c = let p = c .before .before .before .before .before .before .parse in sym (length-take-le (p .result .count) (c .before .before .before .before .before .before .before .before .before .before .before .before .before .args .qs .now) (omega (arith, c .before .before .before .before .before .before .before .before .before .before .before .before .before .pre .4, p .ensures .1 .1 .1)))
+slice-aggregate-show-2 c =
+    let p = c .before .before .before .before .before .before .parse in
+    let s = c .before .before .before .before .before .before .before .before .before .before .before .before .before in
+    sym (length-take-le (p .result .count) (s .args .qs .now) (omega (arith, s .pre .1 .1, p .ensures .1 .1 .1)))
 
 show-requires : tie.Need-show-requires
 show-requires c κs =
@@ -41,9 +46,8 @@ show-requires c κs =
     let p = c .before .before .before .before .before .before .before .parse in
     let n : length (take (p .result .count) (p .last .1 .1 .0)) ≡ p .result .count = ap length (p .ensures .1 .0) ∙ sym (p .ensures .1 .1 .0) in
     let few : p .result .count ≤ length (a .text .now) = p .ensures .1 .1 .1 in
-    let qs : length (take (p .result .count) (a .qs .now)) ≡ p .result .count = length-take-le (p .result .count) (a .qs .now) (omega (arith, pre .4, few)) in
-    let small = found-room (a .line) (a .text .now) (pre .2) in
-    (pre .0, pre .1, qs ∙ sym n, omega (arith, n, few, pre .5), omega (arith, n, p .ensures .1 .1 .0, small))
+    let qs : length (take (p .result .count) (a .qs .now)) ≡ p .result .count = length-take-le (p .result .count) (a .qs .now) (omega (arith, pre .1 .1, few)) in
+    (pre .0 .0, pre .0 .1, qs ∙ sym n, omega (arith, n, few, pre .1 .2))
 
 same-length : tie.Need-same-length
 same-length c = search needs
@@ -66,7 +70,7 @@ returns c =
     let x = c .before .before .before .before .before .before .before .before .show in
     let b : PinBench = pinBench (a .device) (a .memory .now) in
     let es = p .ensures .1 .0 in (
-      (p .ensures .0, rw (p .ensures .0) (read-fits (a .line) (a .text .now) (pre .2))),
+      (p .ensures .0, rw (p .ensures .0) (read-fits (a .line) (a .text .now) (pre .0 .2))),
       (
         (x .ensures .0 .0 ∙ ap (λ (l : List ℕ). played m95512 l b .device) es, x .ensures .0 .1),
         (

@@ -10,8 +10,8 @@ use Rattle.codes.specs.Part.{m95512}
 use Rattle.pins.specs.Ranges.{deviceFits}
 use Rattle.pins.specs.Answers.{PinBench, pinBench}
 use Rattle.lines.specs.Reading.{read, lineFits}
-use Rattle.trace.specs.Put.{put}
-use Rattle.trace.proofs.Puts.{put-nil, put-put}
+use Rattle.printing.specs.Put.{put}
+use Rattle.printing.proofs.Puts.{put-nil, put-put}
 use Rattle.trace.specs.Chunks.{playedLines, shownLines}
 use Rattle.trace.proofs.Chunking.{part-length, played-nothing, shown-nothing, turn-line, turn-bench, turn-shown}
 use Rattle.trace.proofs.chunks.pieces.Statement.{statement}
@@ -75,15 +75,16 @@ slice-aggregate-piece-2 c = sym (c .before .before .before .before .before .befo
 piece-requires : tie.Need-piece-requires Inv-loop μ-loop
 piece-requires c κs =
     let l = c .before .before .before .before .before .before .before .loop in
-    let a = c .before .before .before .before .before .before .before .before .before .before .before .before .before .args in
+    let s = c .before .before .before .before .before .before .before .before .before .before .before .before .before in
+    let a = s .args in
     let e = c .before .before .before .before .before .piece-end in
     let n : length (take (e .result - l .i) (drop (l .i) (a .text .now))) ≡ e .result - l .i = part-length (a .text .now) (l .i) (e .result) (omega arith) (e .ensures .1) in (
-      l .inv .1,
-      l .inv .6,
-      l .inv .5,
-      omega (arith, n, e .ensures .2, l .inv .3),
-      omega (arith, n, e .ensures .2, l .inv .4),
-      omega (arith, n, e .ensures .1, l .inv .7, c .before .before .before .before .before .before .before .before .before .before .before .before .before .pre .3, l .inv .2),
+      (l .inv .1, l .inv .6, l .inv .5),
+      (
+        omega (arith, n, e .ensures .2, l .inv .3),
+        omega (arith, n, e .ensures .2, l .inv .4),
+        omega (arith, n, e .ensures .1, l .inv .7, s .pre .3, l .inv .2),
+      ),
     )
 
 loop-less : tie.Need-loop-less Inv-loop μ-loop

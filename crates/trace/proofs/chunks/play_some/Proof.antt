@@ -5,8 +5,8 @@ use Rattle.pins.specs.Answers.{PinBench, played, pinBench}
 use Rattle.lists.specs.Answers.{playedQ}
 use Rattle.pins.specs.Ranges.{deviceFits}
 use Rattle.lists.proofs.Answering.{play-done}
-use Rattle.rules.proofs.Sound.{m95512-sound}
-use Rattle.rules.proofs.Fits.{played-fits}
+use Rattle.codes.proofs.Sound.{m95512-sound}
+use Rattle.pins_theorems.proofs.Fits.{played-fits}
 use Rattle.trace.proofs.Plays.{done-device, done-memory}
 use borrow.Author.Needs.{needs}
 use Rattle.trace.proofs.chunks.play_some.Statement.{statement}

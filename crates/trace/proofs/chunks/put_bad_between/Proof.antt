@@ -1,12 +1,15 @@
+-- What the call for the bad line leaves where it has room; or nothing is put out.
 use mathlib.Core.Path.{ap, sym, _∙_}
 use native.Mathlib.Omega.{arith}
 use mathlib.Core.List.{List}
-use Prim.Native.Nat.{ℕ, _+_}
+use Prim.Native.Nat.{ℕ, _+_, _≤_}
 use native.Mathlib.Nat.{add-zero}
 use lib.ListN.{length}
-use Rattle.trace.specs.Put.{put}
+use Rattle.printing.specs.Printing.{badLine}
+use Rattle.printing.specs.Put.{put}
 use Rattle.lines.proofs.Hand.{whole-small}
-use Rattle.trace.proofs.Puts.{put-nil}
+use Rattle.printing.proofs.Puts.{put-nil}
+use Rattle.printing.proofs.Rooms.{put-room, end-room}
 use Rattle.trace.proofs.Choosing.{bad-before, bad-now, bad-not}
 use borrow.Author.Needs.{needs}
 use Rattle.trace.proofs.chunks.put_bad_between.Statement.{statement}
@@ -19,7 +22,9 @@ returns c =
     (sym (put-nil (a .out .now) (a .at)) ∙ ap (put (a .out .now) (a .at)) e, (sym (add-zero (a .at)) ∙ ap (λ (l : List ℕ). a .at + length l) e, omega arith))
 
 add-put-bad : tie.Need-add-put-bad
-add-put-bad c = let h = whole-small (c .before .before .before .before .before .before .before .args .b) (c .before .before .before .before .before .before .before .pre .1) in omega (arith, h)
+add-put-bad c =
+    let s = c .before .before .before .before .before .before .before in
+    omega (arith, whole-small (s .args .b) (s .pre .1))
 
 put-bad-requires : tie.Need-put-bad-requires
 put-bad-requires c κs = search needs
@@ -32,7 +37,12 @@ returns-2 c =
     let a = c .before .before .before .before .before .before .before .before .before .before .args in
     let e = bad-now (a .a) (a .b) (c .before .before .before .before .before .before .before .if1 .left) (c .before .before .before .before .before .if2 .taken) in
     let x = c .before .before .put-bad in
-    (x .ensures .0 ∙ ap (put (a .out .now) (a .at)) e, (x .ensures .1 .0 ∙ ap (λ (l : List ℕ). a .at + length l) e, x .ensures .1 .1))
+    let d = a .out .now in
+    let bad = badLine (a .b .whole + 1) in
+    let room : a .at + 12 ≤ length d = omega arith in (
+      x .ensures .0 ∙ put-room 12 d (a .at) bad room ∙ ap (put d (a .at)) e,
+      (x .ensures .1 .0 ∙ end-room 12 d (a .at) bad room ∙ ap (λ (l : List ℕ). a .at + length l) e, x .ensures .1 .1),
+    )
 
 returns-3 : tie.Need-returns-3
 returns-3 c =

@@ -1,19 +1,18 @@
-use mathlib.Core.Path.{ap, sym, _∙_}
+-- What the call for the header leaves where it has room; or nothing is put out.
+use mathlib.Core.Path.{_≡_, ap, sym, _∙_}
 use native.Mathlib.Omega.{arith}
 use lib.ListN.{length}
-use Rattle.trace.specs.Put.{put}
-use Rattle.trace.proofs.Puts.{put-nil}
-use Rattle.trace.specs.Texts.{header}
-use Rattle.trace.proofs.Choosing.{head-first, head-out}
 use borrow.Author.Needs.{needs}
+use Rattle.printing.specs.Printing.{header}
+use Rattle.printing.specs.Put.{put}
+use Rattle.printing.proofs.Puts.{put-nil}
+use Rattle.printing.proofs.Rooms.{put-room, end-room}
+use Rattle.trace.proofs.Choosing.{head-first, head-out}
 use Rattle.trace.proofs.chunks.put_head.Statement.{statement}
 use Rattle.trace.proofs.chunks.put_head.Tie as tie
 
-slice-aggregate-put-bytes : tie.Need-slice-aggregate-put-bytes
-slice-aggregate-put-bytes c = search needs
-
-put-bytes-requires : tie.Need-put-bytes-requires
-put-bytes-requires c κs = search needs
+put-header-requires : tie.Need-put-header-requires
+put-header-requires c κs = search needs
 
 same-length : tie.Need-same-length
 same-length c = search needs
@@ -21,10 +20,12 @@ same-length c = search needs
 returns : tie.Need-returns
 unfolding header
 returns c =
-    let a = c .before .before .before .before .before .before .before .args in
-    let e = head-first (a .flag) (c .before .before .before .before .before .if1 .taken) in
-    let x = c .before .before .put-bytes in
-    (x .ensures .0 ∙ ap (put (a .out .now) 0) e, (x .ensures .1 ∙ ap length e, omega (arith, x .ensures .1)))
+    let a = c .before .before .before .before .before .before .args in
+    let d = a .out .now in
+    let e = head-first (a .flag) (c .before .before .before .before .if1 .taken) in
+    let x = c .before .before .put-header in
+    let end : x .result ≡ 7 = x .ensures .1 ∙ end-room 7 d 0 header (omega arith) in
+    (x .ensures .0 ∙ put-room 7 d 0 header (omega arith) ∙ ap (put d 0) e, (end ∙ ap length e, omega arith))
 
 returns-2 : tie.Need-returns-2
 returns-2 c =
@@ -34,4 +35,4 @@ returns-2 c =
 
 pub put-head-spec : {M : Type 1} → statement M
 put-head-spec =
-    tie.close (tie.spec slice-aggregate-put-bytes put-bytes-requires same-length returns returns-2)
+    tie.close (tie.spec put-header-requires same-length returns returns-2)

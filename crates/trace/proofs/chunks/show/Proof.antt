@@ -1,12 +1,15 @@
-use mathlib.Core.Path.{ap, _∙_}
+-- What the call for the lines leaves where it has room, of the levels that the pin model gives.
+use mathlib.Core.Path.{_≡_, ap, _∙_}
 use mathlib.Core.List.{List}
-use Prim.Native.Nat.{ℕ, _+_}
+use Prim.Native.Nat.{ℕ, _+_, _*_, _≤_}
 use native.Mathlib.Omega.{arith}
 use lib.ListN.{length}
 use Rattle.codes.specs.Part.{m95512}
 use Rattle.pins.specs.Answers.{pinBench}
-use Rattle.trace.specs.Printing.{printed}
-use Rattle.trace.specs.Put.{put}
+use Rattle.lists.specs.Answers.{playedQ}
+use Rattle.printing.specs.Printing.{printed}
+use Rattle.printing.specs.Put.{put}
+use Rattle.printing.proofs.Rooms.{put-room, end-room}
 use Rattle.trace.proofs.Plays.{playedQ-length}
 use borrow.Author.Needs.{needs}
 use Rattle.trace.proofs.chunks.show.Statement.{statement}
@@ -29,16 +32,26 @@ same-length-3 c = search needs
 
 returns : tie.Need-returns
 returns c =
-    let a = c .before .before .before .before .before .before .before .before .before .before .before .before .before .before .before .before .args in
+    let s = c .before .before .before .before .before .before .before .before .before .before .before .before .before .before .before .before in
+    let a = s .args in
     let p = c .before .before .before .before .before .before .before .before .before .play-some in
     let x = c .before .before .print in
-    let qs = p .ensures .1 .1 .0 in (
+    let d = a .out .now in
+    let es = a .events .now in
+    let b = pinBench (a .device) (a .memory .now) in
+    let qs = p .last .1 .1 .1 .0 in
+    let qs-are : qs ≡ playedQ m95512 es b = p .ensures .1 .1 .0 in
+    let as-many : length qs ≡ length es = ap length qs-are ∙ playedQ-length m95512 es b in
+    let room : a .at + 10 * length qs ≤ length d = omega (arith, s .pre .3) in (
       (p .ensures .0, p .ensures .1 .1 .1),
       (
         p .ensures .1 .0,
         (
-          x .ensures .0 ∙ ap (λ (l : List ℕ). put (a .out .now) (a .at) (printed (a .n) l)) qs,
-          (x .ensures .1 .0 ∙ ap (λ (l : List ℕ). a .at + length (printed (a .n) l)) qs, omega (arith, x .ensures .1 .1, ap length qs, playedQ-length m95512 (a .events .now) (pinBench (a .device) (a .memory .now)))),
+          x .ensures .0 ∙ put-room (10 * length qs) d (a .at) (printed (a .n) qs) room ∙ ap (λ (l : List ℕ). put d (a .at) (printed (a .n) l)) qs-are,
+          (
+            x .ensures .1 .0 ∙ end-room (10 * length qs) d (a .at) (printed (a .n) qs) room ∙ ap (λ (l : List ℕ). a .at + length (printed (a .n) l)) qs-are,
+            omega (arith, x .ensures .1 .1),
+          ),
         ),
       ),
     )

@@ -4,7 +4,7 @@ use mathlib.Core.List.{List}
 use Prim.Native.Nat.{ℕ, _+_, _*_, _≤_}
 use lib.ListN.{length, length-append}
 use Rattle.lines.specs.Reading.{read}
-use Rattle.trace.specs.Put.{put}
+use Rattle.printing.specs.Put.{put}
 use Rattle.trace.specs.Chunks.{headed, badLineBetween, benchOf, shownLines, chunkOutput}
 use Rattle.trace.proofs.Choosing.{player-out, three-puts}
 use borrow.Author.Needs.{needs}

@@ -4,7 +4,7 @@ use mathlib.Core.List.{List}
 use Prim.Native.Nat.{ℕ, _+_, _≤_}
 use lib.ListN.{length, length-append}
 use Rattle.lines.specs.Reading.{ended}
-use Rattle.trace.specs.Put.{put}
+use Rattle.printing.specs.Put.{put}
 use Rattle.lines.proofs.Hand.{ended-fits}
 use Rattle.trace.specs.Chunks.{headed, badLineBetween, endOutput}
 use Rattle.trace.proofs.Choosing.{player-out, two-puts}

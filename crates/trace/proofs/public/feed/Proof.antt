@@ -3,7 +3,7 @@ use native.Mathlib.Omega.{arith}
 use lib.ListN.{length}
 use borrow.Author.Tests.{leb-true}
 use Rattle.trace.specs.declared.Fed.{Fed}
-use Rattle.trace.specs.Chunks.{answerNumber, chunkPlayer, room}
+use Rattle.trace.specs.Chunks.{feedReplyNumber, chunkPlayer, room}
 use Rattle.trace.proofs.Choosing.{answer-number, feed-done, feed-short, feed-outside, feed-wrong}
 use borrow.Author.Needs.{needs}
 use Rattle.trace.proofs.public.feed.Statement.{statement}
@@ -41,7 +41,7 @@ returns c =
     let x = c .before .before .before .before .take-chunk in (
       feed-done p m n bytes _ _ _ long fits wide (x .ensures .0),
       (
-        feed-done p m n bytes _ _ _ long fits wide (ap (λ (r : Fed). answerNumber (r .answer)) (x .ensures .0) ∙ answer-number (chunkPlayer p m (a .text .now))),
+        feed-done p m n bytes _ _ _ long fits wide (ap (λ (r : Fed). feedReplyNumber (r .answer)) (x .ensures .0) ∙ answer-number (chunkPlayer p m (a .text .now))),
         (feed-done p m n bytes _ _ _ long fits wide (x .ensures .1 .0), (feed-done p m n bytes _ _ _ long fits wide (x .ensures .1 .1 .0), x .ensures .1 .1 .1)),
       ),
     )
@@ -61,7 +61,7 @@ returns-2 c =
     let narrow = sym (c .before .before .has-room .ensures) ∙ c .before .if3 .left in (
       feed-short p m n bytes _ _ _ long fits narrow (c .refused .ensures),
       (
-        feed-short p m n bytes _ _ _ long fits narrow (ap (λ (r : Fed). answerNumber (r .answer)) (c .refused .ensures)),
+        feed-short p m n bytes _ _ _ long fits narrow (ap (λ (r : Fed). feedReplyNumber (r .answer)) (c .refused .ensures)),
         (feed-short p m n bytes _ _ _ long fits narrow refl, (feed-short p m n bytes _ _ _ long fits narrow refl, omega (arith, ap (λ (r : Fed). r .written) (c .refused .ensures)))),
       ),
     )
@@ -80,7 +80,7 @@ returns-3 c =
     let out = sym (c .before .before .in-ranges .ensures) ∙ c .before .if2 .left in (
       feed-outside p m n bytes _ _ _ long out (c .refused2 .ensures),
       (
-        feed-outside p m n bytes _ _ _ long out (ap (λ (r : Fed). answerNumber (r .answer)) (c .refused2 .ensures)),
+        feed-outside p m n bytes _ _ _ long out (ap (λ (r : Fed). feedReplyNumber (r .answer)) (c .refused2 .ensures)),
         (feed-outside p m n bytes _ _ _ long out refl, (feed-outside p m n bytes _ _ _ long out refl, omega (arith, ap (λ (r : Fed). r .written) (c .refused2 .ensures)))),
       ),
     )
@@ -98,7 +98,7 @@ returns-4 c =
     let other = c .before .if1 .left in (
       feed-wrong p m n bytes _ _ _ other (c .refused3 .ensures),
       (
-        feed-wrong p m n bytes _ _ _ other (ap (λ (r : Fed). answerNumber (r .answer)) (c .refused3 .ensures)),
+        feed-wrong p m n bytes _ _ _ other (ap (λ (r : Fed). feedReplyNumber (r .answer)) (c .refused3 .ensures)),
         (feed-wrong p m n bytes _ _ _ other refl, (feed-wrong p m n bytes _ _ _ other refl, omega (arith, ap (λ (r : Fed). r .written) (c .refused3 .ensures)))),
       ),
     )

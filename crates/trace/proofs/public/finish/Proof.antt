@@ -3,7 +3,7 @@ use native.Mathlib.Omega.{arith}
 use lib.ListN.{length}
 use borrow.Author.Tests.{leb-true}
 use Rattle.trace.specs.declared.Fed.{Fed}
-use Rattle.trace.specs.Chunks.{answerNumber, endPlayer, room}
+use Rattle.trace.specs.Chunks.{feedReplyNumber, endPlayer, room}
 use Rattle.trace.proofs.Choosing.{answer-number, end-done, end-short, end-outside}
 use borrow.Author.Needs.{needs}
 use Rattle.trace.proofs.public.finish.Statement.{statement}
@@ -32,7 +32,7 @@ returns c =
     let x = c .before .before .take-end in (
       end-done p (room 0) bytes _ _ fits wide (x .ensures .0),
       (
-        end-done p (room 0) bytes _ _ fits wide (ap (λ (r : Fed). answerNumber (r .answer)) (x .ensures .0) ∙ answer-number (endPlayer p)),
+        end-done p (room 0) bytes _ _ fits wide (ap (λ (r : Fed). feedReplyNumber (r .answer)) (x .ensures .0) ∙ answer-number (endPlayer p)),
         (end-done p (room 0) bytes _ _ fits wide (x .ensures .1 .0), x .ensures .1 .1),
       ),
     )
@@ -49,7 +49,7 @@ returns-2 c =
     let narrow = sym (c .before .before .has-room .ensures) ∙ c .before .if2 .left in (
       end-short p (room 0) bytes _ _ fits narrow (c .refused .ensures),
       (
-        end-short p (room 0) bytes _ _ fits narrow (ap (λ (r : Fed). answerNumber (r .answer)) (c .refused .ensures)),
+        end-short p (room 0) bytes _ _ fits narrow (ap (λ (r : Fed). feedReplyNumber (r .answer)) (c .refused .ensures)),
         (end-short p (room 0) bytes _ _ fits narrow refl, omega (arith, ap (λ (r : Fed). r .written) (c .refused .ensures))),
       ),
     )
@@ -65,7 +65,7 @@ returns-3 c =
     let out = sym (c .before .before .in-ranges .ensures) ∙ c .before .if1 .left in (
       end-outside p (room 0) bytes _ _ out (c .refused2 .ensures),
       (
-        end-outside p (room 0) bytes _ _ out (ap (λ (r : Fed). answerNumber (r .answer)) (c .refused2 .ensures)),
+        end-outside p (room 0) bytes _ _ out (ap (λ (r : Fed). feedReplyNumber (r .answer)) (c .refused2 .ensures)),
         (end-outside p (room 0) bytes _ _ out refl, omega (arith, ap (λ (r : Fed). r .written) (c .refused2 .ensures))),
       ),
     )

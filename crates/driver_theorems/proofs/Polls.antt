@@ -1,0 +1,188 @@
+-- How many polls a wait makes, and what it leaves, for any sound part: the cycle's end after the time left over the interval, rounded up; or,
+-- when the polls run out before that, a cycle that still runs.
+use mathlib.Core.Path.{_≡_, refl, ap, sym, subst, _∙_}
+use mathlib.Core.Bool.{true, false}
+use Prim.Native.Nat.{ℕ, zero, suc, _+_, _-_, _*_, _/_, _%_, _^_, _<_, _≤_}
+use native.Mathlib.Nat.{zero-mul, suc-mul, add-div-right, div-eq-of-lt}
+use native.Mathlib.Decide.{decLt}
+use native.Mathlib.Omega.{arith}
+use lib.Dec.{leb}
+use borrow.Author.Tests.{lt-ltb, le-ltb, le-leb, lt-leb}
+use Rattle.laws.specs.Pick.{pick, at-yes, and-both, and-no-right}
+use Rattle.codes.specs.Part.{Part}
+use Rattle.chip.specs.Records.{running, waitsStatus, withTime}
+use Rattle.chip.specs.Time.{elapsed, ends, ended, endedMemory, timed, timedMemory}
+use Rattle.chip.specs.declared.Core.{Core}
+use Rattle.codes.proofs.Sound.{Sound}
+use Rattle.chip.proofs.Passing.{on-core, no-end}
+use Rattle.frames.specs.Play.{FrameBench, actedAll}
+use Rattle.driver.specs.Sequence.{sent, latePoll, pollsOn}
+use Rattle.driver_theorems.specs.Counts.{roundedUp}
+use Rattle.driver.proofs.Frames.{poll-leaves}
+use Rattle.driver.proofs.Waits.{polls-on-free, polls-on-none, acted-all-busy, sent-busy}
+
+-- ---- a quotient, rounded up
+
+pub rounded-one : (l i : ℕ) → 0 < l → l ≤ i → roundedUp l i ≡ 1
+rounded-one l i h h′ =
+    let e : l + (i - 1) ≡ (l - 1) + i = omega arith in
+    ap (λ (x : ℕ). x / i) e ∙ add-div-right (l - 1) {k = i} (omega arith) ∙ ap (λ (x : ℕ). x + 1) (div-eq-of-lt {n = l - 1} {m = i} (omega arith))
+
+rounded-more : (l i : ℕ) → 0 < i → i < l → roundedUp l i ≡ roundedUp (l - i) i + 1
+rounded-more l i h h′ =
+    let e : l + (i - 1) ≡ (l - i + (i - 1)) + i = omega arith in
+    ap (λ (x : ℕ). x / i) e ∙ add-div-right (l - i + (i - 1)) {k = i} h
+
+-- ---- what a wait leaves of a cycle
+
+module _ (P : Part) where
+  -- it is over: what waited is stored
+  pub record Over (d y : FrameBench) : Type 0 where
+    pub read : ℕ
+    pub low : read < 2 ^ 32
+    pub core : y .core ≡ withTime read 0 (ended P (d .core))
+    pub memory : y .memory ≡ endedMemory P (d .core) (d .memory)
+
+  -- it still runs: only the time left and the last reading moved
+  pub record Runs (d y : FrameBench) (left : ℕ) : Type 0 where
+    pub read : ℕ
+    pub low : read < 2 ^ 32
+    pub core : y .core ≡ withTime read left (d .core)
+    pub memory : y .memory ≡ d .memory
+
+  -- the moves of time before the end do not matter to it
+  ended-timed : (t n r : ℕ) (c : Core) → withTime r 0 (ended P (withTime t n c)) ≡ withTime r 0 (ended P c)
+  unfolding pick
+  ended-timed t n r c = elim (waitsStatus (c .waits))
+      as (λ b. waitsStatus (c .waits) ≡ b → withTime r 0 (ended P (withTime t n c)) ≡ withTime r 0 (ended P c)) [
+        | true ↦ λ e. rw e refl
+        | false ↦ λ e. rw e refl
+      ] refl
+
+  over-after : (d x y : FrameBench) (left : ℕ) → Runs d x left → Over x y → Over d y
+  over-after d x y left r o =
+      record {
+        read = o .read;
+        low = o .low;
+        core = o .core ∙ ap (λ (c : Core). withTime (o .read) 0 (ended P c)) (r .core) ∙ ended-timed (r .read) left (o .read) (d .core);
+        memory = o .memory ∙ ap (λ (c : Core). endedMemory P c (x .memory)) (r .core) ∙ ap (endedMemory P (d .core)) (r .memory);
+      }
+
+  runs-after : (d x y : FrameBench) (k n : ℕ) → Runs d x k → Runs x y n → Runs d y n
+  runs-after d x y k n r s =
+      record {
+        read = s .read;
+        low = s .low;
+        core = s .core ∙ ap (λ (c : Core). withTime (s .read) n c) (r .core);
+        memory = s .memory ∙ r .memory;
+      }
+
+  -- ---- one poll, and a whole wait
+
+  module _ (sound : Sound P) (i : ℕ) (some : 0 < i) (small : i ≤ P .longest) where
+    module _ (d : FrameBench) (low : d .core .last < 2 ^ 32) where
+      abbrev read : ℕ
+      read = (d .core .last + i) % 2 ^ 32
+
+      gone : elapsed (d .core .last) read ≡ i
+      gone = omega (arith, sound .longest-read)
+
+      abbrev polled : FrameBench
+      polled = actedAll P (latePoll i d) d
+
+      read-low : read < 2 ^ 32
+      read-low = omega arith
+
+      poll-over : 0 < d .core .left → d .core .left ≤ i → Over d polled
+      unfolding timed timedMemory
+      poll-over h l =
+          let over : ends read (d .core) ≡ true = and-both _ _ (lt-ltb _ _ h) (ap (leb (d .core .left)) gone ∙ le-leb _ _ l) in
+          record {
+            read = read;
+            low = read-low;
+            core = poll-leaves P (timed P read (d .core)) ∙ at-yes _ _ over;
+            memory = at-yes _ _ over;
+          }
+
+      poll-runs : i < d .core .left → Runs d polled (d .core .left - i)
+      poll-runs l =
+          let not-over : ends read (d .core) ≡ false = and-no-right (running (d .core)) _ (ap (leb (d .core .left)) gone ∙ lt-leb _ _ l) in
+          record {
+            read = read;
+            low = read-low;
+            core =
+                poll-leaves P (timed P read (d .core))
+                ∙ on-core P read (d .core) not-over
+                ∙ ap (λ (n : ℕ). withTime read (d .core .left - n) (d .core)) gone;
+            memory = no-end P read (d .core) (d .memory) not-over;
+          }
+
+    -- enough polls: the cycle ends
+    pub record Waited (k : ℕ) (d : FrameBench) : Type 0 where
+      pub polls : sent (pollsOn P i k d) ≡ roundedUp (d .core .left) i
+      pub over : Over d (actedAll P (pollsOn P i k d) d)
+
+    pub waited : (k : ℕ) (d : FrameBench) → d .core .last < 2 ^ 32 → 0 < d .core .left → d .core .left ≤ k * i → Waited k d
+    waited zero d low h l = absurd (omega (arith, zero-mul i))
+    waited (suc k) d low h l =
+        let x = polled d low in
+        let busy : running (d .core) ≡ true = lt-ltb _ _ h in
+        elim (decLt i (d .core .left)) [
+          | yes m ↦
+              let r = poll-runs d low m in
+              let left : x .core .left ≡ d .core .left - i = ap (λ (c : Core). c .left) (r .core) in
+              let last : x .core .last ≡ r .read = ap (λ (c : Core). c .last) (r .core) in
+              let w = waited k x (rw last (r .low)) (omega arith) (omega (arith, suc-mul k i)) in
+              record {
+                polls =
+                    sent-busy P i d (suc k) k refl busy
+                    ∙ omega (arith, w .polls, ap (λ (n : ℕ). roundedUp n i) left, rounded-more (d .core .left) i some m);
+                over =
+                    subst (Over d) (sym (acted-all-busy P i d (suc k) k refl busy))
+                    (over-after d x (actedAll P (pollsOn P i k x) x) (d .core .left - i) r (w .over));
+              }
+          | no m ↦
+              let o = poll-over d low h (omega arith) in
+              let free : running (x .core) ≡ false = ap (λ (c : Core). running c) (o .core) ∙ le-ltb 0 0 (omega arith) in
+              record {
+                polls =
+                    sent-busy P i d (suc k) k refl busy
+                    ∙ omega (arith, ap sent (polls-on-free P i x k free), rounded-one (d .core .left) i h (omega arith));
+                over =
+                    subst (Over d)
+                    (sym (acted-all-busy P i d (suc k) k refl busy ∙ ap (λ acts. actedAll P acts x) (polls-on-free P i x k free))) o;
+              }
+        ]
+
+    -- too few: it still runs
+    pub record Late (k : ℕ) (d : FrameBench) : Type 0 where
+      pub polls : sent (pollsOn P i k d) ≡ k
+      pub runs : Runs d (actedAll P (pollsOn P i k d) d) (d .core .left - k * i)
+
+    pub late : (k : ℕ) (d : FrameBench) → d .core .last < 2 ^ 32 → k * i < d .core .left → Late k d
+    late zero d low l =
+        let none = polls-on-none P i d 0 refl in
+        let all : d .core .left ≡ d .core .left - 0 * i = omega (arith, zero-mul i) in
+        record {
+          polls = ap sent none;
+          runs =
+              subst (λ y. Runs d y (d .core .left - 0 * i)) (sym (ap (λ acts. actedAll P acts d) none))
+              (record { read = d .core .last; low = low; core = ap (λ (n : ℕ). withTime (d .core .last) n (d .core)) all; memory = refl });
+        }
+    late (suc k) d low l =
+        let x = polled d low in
+        let m : i < d .core .left = omega (arith, suc-mul k i) in
+        let started : 0 < d .core .left = omega arith in
+        let busy : running (d .core) ≡ true = lt-ltb _ _ started in
+        let r = poll-runs d low m in
+        let left : x .core .left ≡ d .core .left - i = ap (λ (c : Core). c .left) (r .core) in
+        let last : x .core .last ≡ r .read = ap (λ (c : Core). c .last) (r .core) in
+        let w = late k x (rw last (r .low)) (omega (arith, suc-mul k i)) in
+        let to : x .core .left - k * i ≡ d .core .left - suc k * i = omega (arith, suc-mul k i) in
+        record {
+          polls = sent-busy P i d (suc k) k refl busy ∙ omega (arith, w .polls);
+          runs =
+              subst (λ y. Runs d y (d .core .left - suc k * i)) (sym (acted-all-busy P i d (suc k) k refl busy))
+              (subst (Runs d (actedAll P (pollsOn P i k x) x)) to
+              (runs-after d x (actedAll P (pollsOn P i k x) x) (d .core .left - i) (x .core .left - k * i) r (w .runs)));
+        }

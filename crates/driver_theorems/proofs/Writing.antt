@@ -1,0 +1,212 @@
+-- A page of any sound part: what WREN and WRITE do to an idle device, how many frames the page takes, and what it leaves. It is done, or its
+-- wait runs out of polls, or it is protected and not taken.
+use mathlib.Core.Path.{_≡_, refl, ap, sym, _∙_}
+use mathlib.Core.Bool.{Bool, true, false, not}
+use mathlib.Core.List.{List, [], _∷_}
+use Prim.Native.Nat.{ℕ, suc, _+_, _-_, _*_, _/_, _%_, _^_, _<_, _≤_}
+use native.Mathlib.Omega.{arith}
+use lib.ListN.{length}
+use lib.Dec.{ltb}
+use borrow.Author.Tests.{lt-ltb, le-ltb, le-leb, eq-eqb}
+use Rattle.laws.specs.Pick.{pick, at-yes, at-no, and-both, and-no-left}
+use Rattle.codes.specs.Part.{Part}
+use Rattle.codes.specs.Status.{on}
+use Rattle.chip.specs.Questions.{protects}
+use Rattle.latch.specs.Latches.{stored}
+use Rattle.chip.specs.Records.{running, pageWaits, withWel, withTime, withCycle, withoutCycle}
+use Rattle.codes.specs.Instructions.{decode, row, countFits}
+use Rattle.codes.specs.Verdicts.{isExecuted, verdictBy}
+use Rattle.chip.specs.Time.{elapsed, ends, ended, endedMemory, timed}
+use Rattle.latch.specs.declared.Latch.{Latch}
+use Rattle.chip.specs.declared.Core.{Core}
+use Rattle.codes.specs.declared.Instruction.the-variants.{Write}
+use Rattle.codes.proofs.Sound.{Sound}
+use Rattle.chip.proofs.Passing.{on-core, no-end}
+use Rattle.frames.specs.Bytes.{written}
+use Rattle.frames.specs.After.{judged, after}
+use Rattle.frames.specs.Play.{Act, FrameBench, actedAll}
+use Rattle.driver.specs.Sequence.{sent, writeBytes, latePoll, pollsOn, pageWait, wrenAndWrite, pageActs}
+use Rattle.driver_theorems.specs.Counts.{roundedUp}
+use Rattle.driver.proofs.Playing.{acted-all-append, sent-append}
+use Rattle.driver.proofs.Frames.{poll-leaves}
+use Rattle.driver.proofs.Waits.{polls-on-free}
+use Rattle.driver_theorems.proofs.Polls.{waited, late}
+use Rattle.driver_theorems.proofs.Addresses.{write-length, write-address}
+
+abbrev wrenBytes : List ℕ
+wrenBytes = 0x06 ∷ []
+
+-- WREN sets WEL, WRDI clears it, where no cycle runs
+pub enables : (P : Part) (c : Core) → running c ≡ false → after P (running c) true c wrenBytes 8 ≡ withWel 1 c
+unfolding decode verdictBy pick
+enables P c e = rw e refl
+
+pub disables : (P : Part) (c : Core) → running c ≡ false → after P (running c) true c (0x04 ∷ []) 8 ≡ withWel 0 c
+unfolding decode verdictBy pick
+disables P c e = rw e refl
+
+-- a WRITE of whole bytes where no cycle runs and WEL is 1: it is executed unless the address is protected
+module _ (P : Part) (sound : Sound P) (c : Core) (a : ℕ) (bytes : List ℕ) (low : a < P .size) (some : 0 < length bytes) (idle : running c ≡ false)
+    (enabled : on (c .wel) ≡ true) where
+  abbrev bits : ℕ
+  bits = 8 * length (writeBytes P a bytes)
+
+  whole : countFits (row P Write .count) bits ≡ true
+  whole =
+      let many : 8 * (P .addressBytes + 2) ≤ bits = omega (arith, write-length P a bytes) in
+      let even : bits % 8 ≡ 0 = omega arith in
+      and-both _ _ (le-leb _ bits many) (eq-eqb _ _ even)
+
+  long : ltb bits 8 ≡ false
+  long = let many : 8 ≤ bits = omega arith in le-ltb bits 8 many
+
+  judges : (b : Bool) → protects P c a ≡ b → isExecuted (judged P (running c) true c (writeBytes P a bytes) bits) ≡ not b
+  unfolding decode verdictBy pick
+  judges true p = rw (write-address P sound a bytes low, p, idle, enabled, whole, long) refl
+  judges false p = rw (write-address P sound a bytes low, p, idle, enabled, whole, long) refl
+
+  pub taken : protects P c a ≡ false
+      → after P (running c) true c (writeBytes P a bytes) bits ≡ withCycle (pageWaits (a / P .page) (written P (writeBytes P a bytes))) c
+  unfolding decode pick
+  taken p =
+      at-yes _ _ (judges false p)
+      ∙ ap (λ (n : ℕ). withCycle (pageWaits (n / P .page) (written P (writeBytes P a bytes))) c) (write-address P sound a bytes low)
+
+  pub not-taken : protects P c a ≡ true → after P (running c) true c (writeBytes P a bytes) bits ≡ c
+  not-taken p = at-no _ _ (judges true p)
+
+-- ---- a page part sent to an idle device
+
+-- the cycle is over: WEL 0, nothing waits, the clock read t
+abbrev pub settled : Part → ℕ → Core → Core
+settled P t c = withTime t 0 (withoutCycle P c)
+
+-- a wait of a device in which a cycle runs is polls while it does
+wait-running : (P : Part) (i limit : ℕ) (d : FrameBench) → 1 ≤ limit → running (d .core) ≡ true → pageWait P i limit d ≡ pollsOn P i limit d
+unfolding pageWait pollsOn
+wait-running P i limit d h r =
+    let one : limit ≡ suc (limit - 1) = omega arith in
+    sym (ap (λ (n : ℕ). pollsOn P i n d) one ∙ at-yes _ _ r)
+
+module _ (P : Part) (sound : Sound P) (i limit : ℕ) (some : 0 < i) (small : i ≤ P .longest) (polls : 1 ≤ limit) (d : FrameBench)
+    (low : d .core .last < 2 ^ 32) (none : d .core .left ≡ 0) (cycle : 0 < d .core .cycle) (a : ℕ) (bytes : List ℕ) (inside : a < P .size)
+    (carries : 0 < length bytes) where
+  idle : running (d .core) ≡ false
+  idle = le-ltb 0 (d .core .left) (omega arith)
+
+  -- after WREN and WRITE
+  abbrev begun : FrameBench
+  begun = actedAll P (wrenAndWrite P a bytes) d
+
+  abbrev enabled : Core
+  enabled = withWel 1 (d .core)
+
+  abbrev pub latch : Latch
+  latch = written P (writeBytes P a bytes)
+
+  begun-core : begun .core ≡ after P (running enabled) true enabled (writeBytes P a bytes) (8 * length (writeBytes P a bytes))
+  begun-core =
+      ap (λ (c : Core). after P (running c) true c (writeBytes P a bytes) (8 * length (writeBytes P a bytes))) (enables P (d .core) idle)
+
+  abbrev pub acts : List Act
+  acts = pageActs P i limit a bytes d
+
+  abbrev pub left : FrameBench
+  left = actedAll P acts d
+
+  counted : (n : ℕ) → sent (pageWait P i limit begun) ≡ n → sent acts ≡ 2 + n
+  unfolding pageActs
+  counted n e = omega (arith, sent-append (wrenAndWrite P a bytes) (pageWait P i limit begun), e)
+
+  leaves : left ≡ actedAll P (pageWait P i limit begun) begun
+  unfolding pageActs
+  leaves = acted-all-append P (wrenAndWrite P a bytes) (pageWait P i limit begun) d
+
+  -- ---- it is taken, and the polls suffice: its cycle ends
+
+  pub record PageDone : Type 0 where
+    pub frames : sent acts ≡ 2 + roundedUp (d .core .cycle) i
+    pub read : ℕ
+    pub read-low : read < 2 ^ 32
+    pub core : left .core ≡ settled P read (d .core)
+    pub memory : left .memory ≡ stored P (a / P .page) latch (d .memory)
+
+  abbrev cycling : Core
+  cycling = withCycle (pageWaits (a / P .page) latch) enabled
+
+  cycles : protects P (d .core) a ≡ false → begun .core ≡ cycling
+  cycles p = begun-core ∙ taken P sound enabled a bytes inside carries idle refl p
+
+  pub page-done : protects P (d .core) a ≡ false → d .core .cycle ≤ limit * i → PageDone
+  unfolding pick
+  page-done p enough =
+      let c = cycles p in
+      let busy : running (begun .core) ≡ true = ap running c ∙ lt-ltb 0 (d .core .cycle) cycle in
+      let total : begun .core .left ≡ d .core .cycle = ap (λ (x : Core). x .left) c in
+      let last : begun .core .last ≡ d .core .last = ap (λ (x : Core). x .last) c in
+      let wait = wait-running P i limit begun polls busy in
+      let w = waited P sound i some small limit begun (rw last low) (rw total cycle) (rw total enough) in
+      let y = leaves ∙ ap (λ (l : List Act). actedAll P l begun) wait in
+      record {
+        frames = counted _ (ap sent wait ∙ w .polls ∙ ap (λ (n : ℕ). roundedUp n i) total);
+        read = w .over .read;
+        read-low = w .over .low;
+        core = ap (λ (x : FrameBench). x .core) y ∙ w .over .core ∙ ap (λ (x : Core). withTime (w .over .read) 0 (ended P x)) c;
+        memory = ap (λ (x : FrameBench). x .memory) y ∙ w .over .memory ∙ ap (λ (x : Core). endedMemory P x (d .memory)) c;
+      }
+
+  -- ---- it is taken, and they do not: its cycle still runs
+
+  pub record PageLate : Type 0 where
+    pub frames : sent acts ≡ 2 + limit
+    pub read : ℕ
+    pub core : left .core ≡ withTime read (d .core .cycle - limit * i) cycling
+    pub memory : left .memory ≡ d .memory
+
+  pub page-late : protects P (d .core) a ≡ false → limit * i < d .core .cycle → PageLate
+  page-late p few =
+      let c = cycles p in
+      let busy : running (begun .core) ≡ true = ap running c ∙ lt-ltb 0 (d .core .cycle) cycle in
+      let total : begun .core .left ≡ d .core .cycle = ap (λ (x : Core). x .left) c in
+      let last : begun .core .last ≡ d .core .last = ap (λ (x : Core). x .last) c in
+      let wait = wait-running P i limit begun polls busy in
+      let w = late P sound i some small limit begun (rw last low) (rw total few) in
+      let y = leaves ∙ ap (λ (l : List Act). actedAll P l begun) wait in
+      record {
+        frames = counted _ (ap sent wait ∙ w .polls);
+        read = w .runs .read;
+        core =
+            ap (λ (x : FrameBench). x .core) y
+            ∙ w .runs .core
+            ∙ ap (λ (n : ℕ). withTime (w .runs .read) (n - limit * i) (begun .core)) total
+            ∙ ap (withTime (w .runs .read) (d .core .cycle - limit * i)) c;
+        memory = ap (λ (x : FrameBench). x .memory) y ∙ w .runs .memory;
+      }
+
+  -- ---- it is protected: not taken, and one poll sees it
+
+  pub record PageUntaken : Type 0 where
+    pub frames : sent acts ≡ 3
+    pub read : ℕ
+    pub core : left .core ≡ withTime read 0 enabled
+    pub memory : left .memory ≡ d .memory
+
+  pub page-untaken : protects P (d .core) a ≡ true → PageUntaken
+  unfolding pageWait
+  page-untaken p =
+      let c : begun .core ≡ enabled = begun-core ∙ not-taken P sound enabled a bytes inside carries idle refl p in
+      let t = (begun .core .last + i) % 2 ^ 32 in
+      let free : running (begun .core) ≡ false = ap running c ∙ idle in
+      let still : ends t (begun .core) ≡ false = and-no-left (running (begun .core)) _ free in
+      let spent : begun .core .left - elapsed (begun .core .last) t ≡ 0 = omega (arith, ap (λ (x : Core). x .left) c) in
+      let x = actedAll P (latePoll i begun) begun in
+      let core : x .core ≡ withTime t 0 enabled =
+      poll-leaves P (timed P t (begun .core)) ∙ on-core P t (begun .core) still ∙ ap (λ (n : ℕ). withTime t n (begun .core)) spent ∙ ap (withTime t 0) c in
+      let over = polls-on-free P i x (limit - 1) (ap running core) in
+      let y : left ≡ x = leaves ∙ acted-all-append P (latePoll i begun) (pollsOn P i (limit - 1) x) begun ∙ ap (λ (l : List Act). actedAll P l x) over in
+      record {
+        frames = counted 1 (sent-append (latePoll i begun) (pollsOn P i (limit - 1) x) ∙ omega (arith, ap sent over));
+        read = t;
+        core = ap (λ (z : FrameBench). z .core) y ∙ core;
+        memory = ap (λ (z : FrameBench). z .memory) y ∙ no-end P t (begun .core) (d .memory) still;
+      }
