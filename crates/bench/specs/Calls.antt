@@ -19,8 +19,8 @@ use Rattle.pins.specs.declared.Device.{Device}
 use Rattle.pins.specs.Devices.{resting}
 use Rattle.pins.specs.Ranges.{deviceFits}
 use Rattle.pins.specs.Events.{onTime}
-use Rattle.pins.specs.Answers.{answer, recordOutcome, recordNumber, memoryOutcome, memoryNumber, qAsked, statusAsked, powered, played, pinBench}
-use Rattle.lists.specs.Answers.{playOutcome, playNumber}
+use Rattle.pins.specs.Answers.{answer, recordOutcome, recordNumber, memoryOutcome, memoryNumber, qAsked, statusAsked, powered}
+use Rattle.lists.specs.Answers.{playAnswer, playNumber}
 use Rattle.bench.specs.declared.FrameAnswer.{FrameAnswer}
 use Rattle.bench.specs.declared.DeviceAnswer.{DeviceAnswer}
 use Rattle.bench.specs.declared.Value.{Value}
@@ -103,10 +103,8 @@ deviceStatusCall P x = valueAnswer (recordNumber P x) (statusAsked P x)
 abbrev pub deviceInRangesCall : Part → Device → Value
 deviceInRangesCall P x = pick (deviceFits P x) (valueAnswer 0 1) (valueAnswer 2 0)
 
-abbrev pub playCall : Part → Device → List ℕ → List ℕ → ℕ → DeviceAnswer
-playCall P x m es room =
-    deviceAnswer (playNumber P x m (length es) room)
-    (answer (playOutcome P x m (length es) room) (played P es (pinBench x m) .device) x .device)
+abbrev pub playCall : Part → Device → List ℕ → List ℕ → List ℕ → DeviceAnswer
+playCall P x m es d = deviceAnswer (playNumber P x m (length es) (length d)) (playAnswer P x m es d .device)
 
 -- ---- the driver
 

@@ -8,8 +8,8 @@ ghost use Rattle.codes.specs.Status.{on};
 ghost use Rattle.codes.specs.Refusals.{number};
 ghost use Rattle.chip.specs.Time.{timedMemory};
 ghost use Rattle.pins.specs.Events.{onS, onC, onD, onW, onHold};
-ghost use Rattle.pins.specs.Answers.{answerMemory, memoryOutcome, played, pinBench};
-ghost use Rattle.lists.specs.Answers.{playOutcome, playedQ};
+ghost use Rattle.pins.specs.Answers.{answerMemory, memoryOutcome};
+ghost use Rattle.lists.specs.Answers.{playMemory, playOutput};
 ghost use Rattle.bench.specs.Calls.{deviceAnswer, devicePowerUpCall, pinCall, clockPinCall, deviceReadingCall, qCall, deviceStatusCall, deviceInRangesCall, playCall};
 use crate::DeviceAnswer;
 use crate::Value;
@@ -183,9 +183,11 @@ pub extern "C" fn cartvesper_device_play(
     events: &[u64],
     out: &mut [u8],
 ) -> DeviceAnswer
-    ensures { λ r. ⌜ r ≡ playCall m95512 device (now (memory .entry)) (now (events .entry)) (length (now (out .entry))) ⌝ }
-    ensures { λ _. ⌜ now (memory .exit) ≡ answerMemory (playOutcome m95512 device (now (memory .entry)) (length (now (events .entry))) (length (now (out .entry)))) (played m95512 (now (events .entry)) (pinBench device (now (memory .entry))) .memory) (now (memory .entry)) ⌝ }
-    ensures { λ _. ⌜ now (out .exit) ≡ answerMemory (playOutcome m95512 device (now (memory .entry)) (length (now (events .entry))) (length (now (out .entry)))) (playedQ m95512 (now (events .entry)) (pinBench device (now (memory .entry)))) (now (out .entry)) ⌝ }
+    ensures { λ r. ⌜ r ≡ playCall m95512 device (now (memory .entry)) (now (events .entry)) (now (out .entry)) ⌝ }
+    ensures { λ _. ⌜ now (memory .exit)
+        ≡ playMemory m95512 device (now (memory .entry)) (now (events .entry)) (now (out .entry)) ⌝ }
+    ensures { λ _. ⌜ now (out .exit)
+        ≡ playOutput m95512 device (now (memory .entry)) (now (events .entry)) (now (out .entry)) ⌝ }
 {
     answered(lists::play(device, memory, events, out))
 }

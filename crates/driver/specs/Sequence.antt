@@ -84,6 +84,11 @@ wrenAndWrite P a bytes = wren ∷ write P a bytes ∷ []
 unfoldable pub pageActs : Part → ℕ → ℕ → ℕ → List ℕ → FrameBench → List Act
 pageActs P interval limit a bytes d = wrenAndWrite P a bytes ++ pageWait P interval limit (actedAll P (wrenAndWrite P a bytes) d)
 
+-- the acts of page part k of a run of bytes from address a on
+abbrev pub partActs : Part → ℕ → ℕ → ℕ → List ℕ → ℕ → FrameBench → List Act
+partActs P interval limit a bytes k d =
+    pageActs P interval limit (splitAddress (P .size) (P .page) a (length bytes) k) (piece (P .size) (P .page) a bytes k) d
+
 -- ---- a run
 
 -- how it ends: all pages done, a wait that used its limit, a page that was not taken
@@ -112,7 +117,7 @@ pageDone acts r = record { acts = acts ++ r .acts; pages = suc (r .pages); endin
 unfoldable pub pagesFrom : Part → ℕ → ℕ → ℕ → List ℕ → ℕ → ℕ → FrameBench → Run
 pagesFrom P interval limit a bytes zero k d = stopped [] allDone
 pagesFrom P interval limit a bytes (suc n) k d =
-    let acts = pageActs P interval limit (splitAddress (P .size) (P .page) a (length bytes) k) (piece (P .size) (P .page) a bytes k) d in
+    let acts = partActs P interval limit a bytes k d in
     let next = actedAll P acts d in
     pick (running (next .core)) (stopped acts timedOut)
     (pick (on (next .core .wel)) (stopped (acts ++ (wrdi ∷ [])) notTaken)

@@ -7,10 +7,9 @@ ghost use Rattle.codes.specs.Part.{m95512};
 ghost use Rattle.chip.specs.Ranges.{inRanges};
 ghost use Rattle.chip.specs.Records.{status};
 ghost use Rattle.codes.specs.Status.{on, bitOf};
-ghost use Rattle.split.specs.Split.{count, splitAddress};
-ghost use Rattle.split.specs.Pieces.{piece};
+ghost use Rattle.split.specs.Split.{count};
 ghost use Rattle.frames.specs.Play.{frameBench};
-ghost use Rattle.driver.specs.Sequence.{sent, playedFrom, pageActs, allParts};
+ghost use Rattle.driver.specs.Sequence.{sent, playedFrom, pageActs, partActs, allParts};
 ghost use Rattle.driver.specs.Answers.{partsAnswer};
 use crate::Driven;
 use crate::RunReply;
@@ -65,10 +64,10 @@ fn write_part(
     requires { ⌜ inRanges m95512 core ≡ true ⌝ }
     requires { ⌜ (1 ≤ limit) × (limit ≤ m95512 .longest + 1) ⌝ }
     requires { ⌜ k < count (m95512 .size) (m95512 .page) address (length (now bytes)) ⌝ }
-    ensures { λ r. ⌜ r .core ≡ playedFrom m95512 (pageActs m95512 interval limit (splitAddress (m95512 .size) (m95512 .page) address (length (now (bytes .entry))) k) (piece (m95512 .size) (m95512 .page) address (now (bytes .entry)) k)) core (now (memory .entry)) .core ⌝ }
+    ensures { λ r. ⌜ r .core ≡ playedFrom m95512 (partActs m95512 interval limit address (now (bytes .entry)) k) core (now (memory .entry)) .core ⌝ }
     ensures { λ r. ⌜ r .status ≡ status (r .core) ⌝ }
-    ensures { λ r. ⌜ r .frames ≡ sent (pageActs m95512 interval limit (splitAddress (m95512 .size) (m95512 .page) address (length (now (bytes .entry))) k) (piece (m95512 .size) (m95512 .page) address (now (bytes .entry)) k) (frameBench core (now (memory .entry)))) ⌝ }
-    ensures { λ _. ⌜ now (memory .exit) ≡ playedFrom m95512 (pageActs m95512 interval limit (splitAddress (m95512 .size) (m95512 .page) address (length (now (bytes .entry))) k) (piece (m95512 .size) (m95512 .page) address (now (bytes .entry)) k)) core (now (memory .entry)) .memory ⌝ }
+    ensures { λ r. ⌜ r .frames ≡ sent (partActs m95512 interval limit address (now (bytes .entry)) k (frameBench core (now (memory .entry)))) ⌝ }
+    ensures { λ _. ⌜ now (memory .exit) ≡ playedFrom m95512 (partActs m95512 interval limit address (now (bytes .entry)) k) core (now (memory .entry)) .memory ⌝ }
 {
     let n = bytes.len() as u64;
     let start = cartvesper_split_address(address, n, k);

@@ -5,6 +5,7 @@ ghost use Rattle.codes.specs.Part.{m95512};
 ghost use Rattle.codes.specs.Status.{bit};
 ghost use Rattle.edges.specs.Frames.{noFrame, withByte, withCode, withValue, withOut, withAddress, withLatch};
 use crate::Frame;
+use codes::MOST;
 use latch::Latch;
 
 impl Frame {
@@ -26,7 +27,7 @@ impl Frame {
         }
     }
 
-    // One whole byte more; the count stays at 4.
+    // One whole byte more; the count stays at its most.
     pub(crate) fn with_byte(mut self) -> Frame
         ensures { λ r. ⌜ r ≡ withByte m95512 self ⌝ }
     {
@@ -76,11 +77,11 @@ impl Frame {
     }
 }
 
-// One whole byte more; the count stays at 4.
+// One whole byte more; the count stays at its most.
 pub fn one_more(taken: u8) -> u8
-    ensures { λ r. ⌜ r ≡ min 4 (taken + 1) ⌝ }
+    ensures { λ r. ⌜ r ≡ min (m95512 .most) (taken + 1) ⌝ }
 {
-    if taken < 4 { taken + 1 } else { 4 }
+    if taken < MOST { taken + 1 } else { MOST }
 }
 
 // A level as a number: 1 for high.

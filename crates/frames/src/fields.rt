@@ -8,6 +8,8 @@ use codes::HEAD;
 use codes::Instruction;
 use codes::PAGE;
 use latch::Latch;
+use latch::ROOM;
+use latch::latch_byte;
 use latch::next_cell;
 
 pub(crate) fn byte_at(bytes: &[u8], i: usize) -> u8
@@ -42,13 +44,17 @@ pub(crate) fn address_of(bytes: &[u8]) -> usize
 pub(crate) fn latch_of(bytes: &[u8]) -> Latch
     ensures { λ r. ⌜ r ≡ written m95512 (now (bytes .entry)) ⌝ }
 {
-    let mut latch = Latch::none();
+    let mut cells = [0u8; ROOM];
+    let mut marks = [0u8; ROOM];
     let mut cell = address_of(bytes) % PAGE;
     let mut i = HEAD;
     while i < bytes.len() {
-        latch = latch.with(cell, bytes[i]);
+        latch_byte(&mut cells, &mut marks, cell, bytes[i]);
         cell = next_cell(cell);
         i += 1;
     }
-    latch
+    Latch {
+        bytes: cells,
+        marks: marks,
+    }
 }

@@ -3,6 +3,7 @@
 // Every public function is an inner call of the models: total, and exactly its definition.
 mod pages;
 
+pub use pages::latch_byte;
 pub use pages::next_cell;
 
 // Cells that a latch has room for: a page.

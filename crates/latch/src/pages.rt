@@ -3,7 +3,7 @@ ghost use mathlib.Core.Path.{_≡_};
 ghost use Prim.Native.Nat.{_%_};
 ghost use mathlib.Core.Bool.{_&&_, _||_};
 ghost use lib.Dec.{eqb};
-ghost use lib.ListN.{length};
+ghost use lib.ListN.{length, set};
 ghost use Rattle.laws.specs.Pick.{pick};
 ghost use Rattle.codes.specs.Part.{m95512};
 ghost use Rattle.latch.specs.Latches.{laid, latchFits, latched, nextCell, noLatch, stored};
@@ -22,14 +22,17 @@ impl Latch {
         }
     }
 
-    // One more byte latched, for the cell of its page that an address is in; the latest byte for a cell wins.
-    pub fn with(mut self, address: usize, byte: u8) -> Latch
+    // One more byte latched, for the cell of its page that an address is in.
+    pub fn with(self, address: usize, byte: u8) -> Latch
         ensures { λ r. ⌜ r ≡ latched (address % m95512 .page) byte self ⌝ }
     {
-        let cell = address % PAGE;
-        self.bytes[cell] = byte;
-        self.marks[cell] = 1;
-        self
+        let mut bytes = self.bytes;
+        let mut marks = self.marks;
+        latch_byte(&mut bytes, &mut marks, address, byte);
+        Latch {
+            bytes: bytes,
+            marks: marks,
+        }
     }
 
     // Unmarked bytes read 0; there are marks only where there may be.
@@ -53,6 +56,16 @@ impl Latch {
             store_page(&mut memory[start..end], &bytes, &marks);
         }
     }
+}
+
+// One more byte latched where it stands, for the cell of its page that an address is in; the latest byte for a cell wins.
+pub fn latch_byte(bytes: &mut [u8; ROOM], marks: &mut [u8; ROOM], address: usize, byte: u8)
+    ensures { λ _. ⌜ now (bytes .exit) ≡ set (now (bytes .entry)) (address % m95512 .page) byte ⌝ }
+    ensures { λ _. ⌜ now (marks .exit) ≡ set (now (marks .entry)) (address % m95512 .page) 1 ⌝ }
+{
+    let cell = address % PAGE;
+    bytes[cell] = byte;
+    marks[cell] = 1;
 }
 
 // The cell of its page that comes after an address: from the last one back to the first.

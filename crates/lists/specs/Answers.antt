@@ -11,7 +11,8 @@ use Rattle.codes.specs.declared.Outcome.the-variants.{Done, Refused}
 use Rattle.edges.specs.Falling.{levelNumber}
 use Rattle.pins.specs.declared.Device.{Device}
 use Rattle.pins.specs.Devices.{q}
-use Rattle.pins.specs.Answers.{PinBench, afterEvent, memoryChoice}
+use Rattle.pins.specs.declared.Stepped.{Stepped}
+use Rattle.pins.specs.Answers.{PinBench, pinBench, afterEvent, played, memoryChoice, answer, answerMemory}
 
 -- Q after each event of a list
 unfoldable pub playedQ : Part → List ℕ → PinBench → List ℕ
@@ -23,7 +24,19 @@ abbrev pub playChoice : {A : Type 0} → Part → Device → List ℕ → ℕ �
 playChoice P x m len room one two five done = memoryChoice P x m one two (pick (eqb room len) done five)
 
 abbrev pub playOutcome : Part → Device → List ℕ → ℕ → ℕ → Outcome
-playOutcome P x m len room = playChoice P x m len room (Refused MemoryLength) (Refused RecordRange) (Refused OutputLength) Done
+playOutcome P x m len room =
+    playChoice P x m len room (Refused MemoryLength) (Refused RecordRange) (Refused OutputLength) Done
 
 abbrev pub playNumber : Part → Device → List ℕ → ℕ → ℕ → ℕ
 playNumber P x m len room = playChoice P x m len room 1 2 5 0
+
+-- the list es over a device x, with a lent memory m and a lent output d: what is handed back, and what is left of both
+abbrev pub playAnswer : Part → Device → List ℕ → List ℕ → List ℕ → Stepped
+playAnswer P x m es d = answer (playOutcome P x m (length es) (length d)) (played P es (pinBench x m) .device) x
+
+abbrev pub playMemory : Part → Device → List ℕ → List ℕ → List ℕ → List ℕ
+playMemory P x m es d =
+    answerMemory (playOutcome P x m (length es) (length d)) (played P es (pinBench x m) .memory) m
+
+abbrev pub playOutput : Part → Device → List ℕ → List ℕ → List ℕ → List ℕ
+playOutput P x m es d = answerMemory (playOutcome P x m (length es) (length d)) (playedQ P es (pinBench x m)) d

@@ -4,8 +4,8 @@ ghost use lib.ListN.{length};
 ghost use Rattle.codes.specs.Part.{m95512};
 ghost use Rattle.codes.specs.Refusals.{number};
 ghost use Rattle.pins.specs.Events.{eventOf};
-ghost use Rattle.pins.specs.Answers.{answer, answerMemory, played, pinBench};
-ghost use Rattle.lists.specs.Answers.{playOutcome, playNumber, playedQ};
+ghost use Rattle.pins.specs.Answers.{played, pinBench};
+ghost use Rattle.lists.specs.Answers.{playAnswer, playMemory, playNumber, playOutput, playedQ};
 use crate::fronts::front_of;
 use codes::Outcome;
 use codes::Refusal;
@@ -61,13 +61,16 @@ fn play_all(device: Device, memory: &mut [u8], events: &[u64], out: &mut [u8]) -
     front.whole(latch, core)
 }
 
-// A lent list of events, each a number, and a lent output for Q after each: 0, 1, or 2 for Z. Refusals 1, 2, and 5 for an output of another
-// length, with everything as it was.
+// A lent list of events, each a number, and a lent output for Q after each: 0, 1, or 2 for Z.
+// Refusals 1, 2, and 5 for an output of another length, with everything as it was.
 pub fn play(device: Device, memory: &mut [u8], events: &[u64], out: &mut [u8]) -> Stepped
-    ensures { λ r. ⌜ r ≡ answer (playOutcome m95512 device (now (memory .entry)) (length (now (events .entry))) (length (now (out .entry)))) (played m95512 (now (events .entry)) (pinBench device (now (memory .entry))) .device) device ⌝ }
-    ensures { λ r. ⌜ number (r .outcome) ≡ playNumber m95512 device (now (memory .entry)) (length (now (events .entry))) (length (now (out .entry))) ⌝ }
-    ensures { λ _. ⌜ now (memory .exit) ≡ answerMemory (playOutcome m95512 device (now (memory .entry)) (length (now (events .entry))) (length (now (out .entry)))) (played m95512 (now (events .entry)) (pinBench device (now (memory .entry))) .memory) (now (memory .entry)) ⌝ }
-    ensures { λ _. ⌜ now (out .exit) ≡ answerMemory (playOutcome m95512 device (now (memory .entry)) (length (now (events .entry))) (length (now (out .entry)))) (playedQ m95512 (now (events .entry)) (pinBench device (now (memory .entry)))) (now (out .entry)) ⌝ }
+    ensures { λ r. ⌜ r ≡ playAnswer m95512 device (now (memory .entry)) (now (events .entry)) (now (out .entry)) ⌝ }
+    ensures { λ r. ⌜ number (r .outcome)
+        ≡ playNumber m95512 device (now (memory .entry)) (length (now (events .entry))) (length (now (out .entry))) ⌝ }
+    ensures { λ _. ⌜ now (memory .exit)
+        ≡ playMemory m95512 device (now (memory .entry)) (now (events .entry)) (now (out .entry)) ⌝ }
+    ensures { λ _. ⌜ now (out .exit)
+        ≡ playOutput m95512 device (now (memory .entry)) (now (events .entry)) (now (out .entry)) ⌝ }
 {
     if memory.len() == SIZE {
         if device.in_ranges() {

@@ -6,7 +6,7 @@ use mathlib.Core.List.{List}
 use lib.ListN.{length, getD, take, drop, length-drop}
 use lib.Seq.{getD-drop, take-all}
 use Rattle.codes.specs.Part.{m95512}
-use Rattle.latch.specs.Latches.{latched, noLatch}
+use Rattle.latch.specs.Latches.{zeros, latched, noLatch}
 use Rattle.latch.specs.declared.Latch.{Latch}
 use Rattle.frames.specs.Bytes.{address, payload, latchedFrom}
 use Rattle.frames.proofs.Latching.{latched-next}
@@ -15,26 +15,23 @@ use Rattle.frames.proofs.fields.latch_of.Statement.{statement}
 use Rattle.frames.proofs.fields.latch_of.Tie as tie
 
 abbrev Inv-loop : tie.InvT-loop
-Inv-loop bytes latch₀ cell₀ i₀ latch cell i = (3 ≤ i) × (i ≤ max 3 (length bytes)) × (cell ≡ (address m95512 bytes % 128 + (i - 3)) % 128) × (latch ≡ latchedFrom m95512 (address m95512 bytes % 128) (take (i - 3) (payload m95512 bytes)) (noLatch m95512))
+Inv-loop bytes cells₀ marks₀ cell₀ i₀ cells marks cell i = (3 ≤ i) × (i ≤ max 3 (length bytes)) × (cell ≡ (address m95512 bytes % 128 + (i - 3)) % 128) × (record { bytes = cells; marks = marks } ≡ latchedFrom m95512 (address m95512 bytes % 128) (take (i - 3) (payload m95512 bytes)) (noLatch m95512))
 
 abbrev μ-loop : tie.MeasureT-loop
-μ-loop bytes latch₀ cell₀ i₀ latch cell i = length bytes - i
-
-none-requires : tie.Need-none-requires Inv-loop μ-loop
-none-requires c κs = search needs
+μ-loop bytes cells₀ marks₀ cell₀ i₀ cells marks cell i = length bytes - i
 
 address-of-requires : tie.Need-address-of-requires Inv-loop μ-loop
 address-of-requires c κs = search needs
 
 loop-holds : tie.Need-loop-holds Inv-loop μ-loop
-unfolding latchedFrom
-loop-holds c = (omega arith, omega arith, rw (c .address-of .ensures) (omega arith), c .before .none .ensures)
+unfolding zeros latchedFrom
+loop-holds c = (omega arith, omega arith, rw (c .address-of .ensures) (omega arith), refl)
 
-shared-slice-read-with : tie.Need-shared-slice-read-with Inv-loop μ-loop
-shared-slice-read-with c = search needs
+shared-slice-read-latch-byte : tie.Need-shared-slice-read-latch-byte Inv-loop μ-loop
+shared-slice-read-latch-byte c = search needs
 
-with-requires : tie.Need-with-requires Inv-loop μ-loop
-with-requires c κs = search needs
+latch-byte-requires : tie.Need-latch-byte-requires Inv-loop μ-loop
+latch-byte-requires c κs = search needs
 
 next-cell-requires : tie.Need-next-cell-requires Inv-loop μ-loop
 next-cell-requires c κs = search needs
@@ -47,8 +44,8 @@ loop-less c = omega arith
 
 loop-again : tie.Need-loop-again Inv-loop μ-loop
 loop-again c =
-    let l = c .before .before .before .before .loop in
-    let s = c .before .before .before .before .before .before .before .before .args .bytes .now in
+    let l = c .before .before .before .before .before .before .loop in
+    let s = c .before .before .before .before .before .before .before .before .before .args .bytes .now in
     let a = address m95512 s % 128 in
     let k = l .i - 3 in
     let more : l .i + 1 - 3 ≡ suc k = omega arith in
@@ -57,12 +54,15 @@ loop-again c =
     getD-drop 2 (drop 1 s) k 0 ∙ getD-drop 1 s (2 + k) 0 ∙ ap (λ (n : ℕ). getD s n 0) there in
     let room : k < length (payload m95512 s) = simp length-drop (omega arith) in
     let cell : l .cell % 128 ≡ (a + k) % 128 = omega (arith, l .inv .2) in
-    (omega arith, omega arith, c .next-cell .ensures ∙ omega arith, c .before .with .ensures ∙ ap (latched (l .cell % 128) (getD s (l .i) 0)) (l .inv .3) ∙ rw (more, latched-next m95512 a k (payload m95512 s) (noLatch m95512) room, byte, cell) refl)
+    let before : Latch = record { bytes = l .cells; marks = l .marks } in
+    let next : record { bytes = c .before .latch-byte .last .0; marks = c .before .latch-byte .last .1 .0 } ≡ latched (l .cell % 128) (getD s (l .i) 0) before =
+    rw (c .before .latch-byte .ensures .0, c .before .latch-byte .ensures .1) refl in
+    (omega arith, omega arith, c .next-cell .ensures ∙ omega arith, next ∙ ap (latched (l .cell % 128) (getD s (l .i) 0)) (l .inv .3) ∙ rw (more, latched-next m95512 a k (payload m95512 s) (noLatch m95512) room, byte, cell) refl)
 
 returns : tie.Need-returns Inv-loop μ-loop
 returns c =
     let l = c .before .loop in
-    let s = c .before .before .before .before .before .args .bytes .now in
+    let s = c .before .before .before .before .args .bytes .now in
     let all : length (payload m95512 s) ≤ l .i - 3 = simp length-drop (omega arith) in
     l .inv .3 ∙ ap (λ (vs : List ℕ). latchedFrom m95512 (address m95512 s % 128) vs (noLatch m95512)) (take-all (l .i - 3) (payload m95512 s) all)
 
@@ -72,11 +72,10 @@ latch-of-spec =
     (tie.spec
     Inv-loop
     μ-loop
-    none-requires
     address-of-requires
     loop-holds
-    shared-slice-read-with
-    with-requires
+    shared-slice-read-latch-byte
+    latch-byte-requires
     next-cell-requires
     add-i
     loop-less
