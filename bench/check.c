@@ -9,7 +9,7 @@
 #include <sys/mman.h>
 #include <unistd.h>
 
-enum { MEMORY = 65536, LONGEST = 65540 };
+enum { MEMORY = CARTVESPER_MEMORY, LONGEST = CARTVESPER_LONGEST_FRAME };
 enum { ROLES = 3, ROOM = 1 << 17 }; /* memory, input, output; room for the longest slice */
 
 static int on_heap;
@@ -99,7 +99,8 @@ static size_t random_length(void)
 
 static void check_frame(uint8_t *memory, size_t size)
 {
-    static const uint8_t codes[] = {0x06, 0x04, 0x05, 0x01, 0x03, 0x02, 0x02, 0x03};
+    static const uint8_t codes[] = {CARTVESPER_WREN, CARTVESPER_WRDI,  CARTVESPER_RDSR,  CARTVESPER_WRSR,
+                                    CARTVESPER_READ, CARTVESPER_WRITE, CARTVESPER_WRITE, CARTVESPER_READ};
     size_t length = random_length(), room = about(length);
     uint8_t *bytes = lend(1, length, 1), *out = lend(2, room, 1);
     fill(bytes, length);
@@ -127,7 +128,7 @@ static void check_play(uint8_t *memory, size_t size)
     uint64_t *events = lend(1, count, sizeof *events);
     uint8_t *out = lend(2, room, 1);
     for (size_t i = 0; i < count; i++) /* mostly clock edges, so that frames come about */
-        events[i] = (uint64_t)(below(3) ? 1 : below(6)) << 32 | below(2);
+        events[i] = cartvesper_event(below(3) ? CARTVESPER_EVENT_C : below(6), below(2));
     cartvesper_device_answer answer = cartvesper_device_play(device, memory, size, events, count, out, room);
     if (answer.number == 0)
         look(out, room);
@@ -175,8 +176,8 @@ int main(int argc, char **argv)
     map_areas();
     for (uint64_t i = 0; i < rounds; i++) {
         if (i % 8 == 0) {
-            core = cartvesper_power_up(1 + below(5000), 0, 0, (uint8_t)(below(4) == 0), random32()).core;
-            device = cartvesper_device_power_up(1 + below(5000), 0, 0, 0, random32()).device;
+            core = cartvesper_power_up(1 + below(CARTVESPER_LONGEST_CYCLE), 0, 0, (uint8_t)(below(4) == 0), random32()).core;
+            device = cartvesper_device_power_up(1 + below(CARTVESPER_LONGEST_CYCLE), 0, 0, 0, random32()).device;
         }
         check_call();
     }

@@ -7,8 +7,9 @@
 #include <stdlib.h>
 #include <string.h>
 
-enum { WREN = 0x06, WRDI = 0x04, RDSR = 0x05, WRSR = 0x01, READ = 0x03, WRITE = 0x02 };
-enum { MEMORY = 65536, PAGE = 128, LONGEST = 65540, GUARD = 64 };
+enum { WREN = CARTVESPER_WREN, WRDI = CARTVESPER_WRDI, RDSR = CARTVESPER_RDSR };
+enum { WRSR = CARTVESPER_WRSR, READ = CARTVESPER_READ, WRITE = CARTVESPER_WRITE };
+enum { MEMORY = CARTVESPER_MEMORY, PAGE = CARTVESPER_PAGE, LONGEST = CARTVESPER_LONGEST_FRAME, GUARD = 64 };
 enum { SET_S, SET_C, SET_D, SET_W, SET_HOLD, CLOCK };
 enum { EVENTS = 16384 };
 
@@ -870,7 +871,7 @@ static void emit(int kind, uint32_t value)
 {
     if (script_count == EVENTS)
         return;
-    uint64_t event = (uint64_t)kind << 32 | value;
+    uint64_t event = cartvesper_event(kind, value);
     plain_event(&script_device, script_memory.bytes, event);
     script[script_count++] = event;
 }

@@ -7,7 +7,7 @@
 #include <stdlib.h>
 #include <string.h>
 
-enum { MEMORY = 65536 };
+enum { MEMORY = CARTVESPER_MEMORY };
 
 static uint8_t memory[MEMORY];
 
@@ -49,7 +49,8 @@ static uint8_t poll(cartvesper_core *core)
 
 static void write_by_hand(cartvesper_core *core)
 {
-    const uint8_t wren[1] = {0x06}, write[7] = {0x02, 0x00, 0x7E, 0x11, 0x22, 0x33, 0x44}, read[7] = {0x03, 0x00, 0x7E};
+    const uint8_t wren[1] = {CARTVESPER_WREN}, read[7] = {CARTVESPER_READ, 0x00, 0x7E};
+    const uint8_t write[7] = {CARTVESPER_WRITE, 0x00, 0x7E, 0x11, 0x22, 0x33, 0x44};
     uint8_t out[7];
     send("WREN", core, wren, 1, out);
     send("WRITE", core, write, 7, out);
@@ -99,7 +100,7 @@ static void refusals(const cartvesper_core *core)
     printf("one byte past the memory: %u\n", cartvesper_write(*core, memory, MEMORY, 65533, bytes, 4, 1000, 5001).number);
     printf("interval 0: %u\n", cartvesper_write(*core, memory, MEMORY, 0, bytes, 4, 0, 5001).number);
     /* BP0 protects C000h to FFFFh: the page below is stored, then 10 */
-    cartvesper_core_answer guarded = cartvesper_power_up(5000, 0, 0, 1, 0);
+    cartvesper_core_answer guarded = cartvesper_power_up(CARTVESPER_LONGEST_CYCLE, 0, 0, 1, 0);
     must_be_done("power-up", guarded.number);
     cartvesper_driver_answer stopped = cartvesper_write(guarded.core, memory, MEMORY, 0xBFFE, bytes, 4, 1000, 5001);
     printf("into the protected quarter: %u, %u page; cells BFFE %02X, BFFF %02X, C000 %02X, C001 %02X\n", stopped.number, stopped.pages,
@@ -110,7 +111,7 @@ int main(void)
 {
     memset(memory, 0xFF, MEMORY); /* as delivered */
     /* cycle length 5,000 microseconds, SRWD, BP1 and BP0 0, the clock just about to wrap */
-    cartvesper_core_answer powered = cartvesper_power_up(5000, 0, 0, 0, 4294967290u);
+    cartvesper_core_answer powered = cartvesper_power_up(CARTVESPER_LONGEST_CYCLE, 0, 0, 0, 4294967290u);
     must_be_done("power-up", powered.number);
     cartvesper_core core = powered.core;
     write_by_hand(&core);

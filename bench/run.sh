@@ -27,6 +27,8 @@ while [ $# -gt 0 ]; do
     sources="$sources $1"
     shift
 done
+[ -f "$root/target/staticlib/lib$crate.a" ] ||
+    echo "bench/run.sh: proving $crate, some minutes the first time (log: target/bench/$crate.log)" >&2
 (cd "$root" && rt staticlib "$crate") >"$out/$crate.log" 2>&1 || {
     cat "$out/$crate.log" >&2
     exit 1

@@ -8,8 +8,9 @@
 #include <string.h>
 #include <time.h>
 
-enum { WREN = 0x06, RDSR = 0x05, READ = 0x03, WRITE = 0x02 };
-enum { MEMORY = 65536, PAGE = 128, LONGEST = 65540, CYCLE = 5000, EVENTS = 1 << 15 };
+enum { WREN = CARTVESPER_WREN, RDSR = CARTVESPER_RDSR, READ = CARTVESPER_READ, WRITE = CARTVESPER_WRITE };
+enum { MEMORY = CARTVESPER_MEMORY, PAGE = CARTVESPER_PAGE, LONGEST = CARTVESPER_LONGEST_FRAME };
+enum { CYCLE = CARTVESPER_LONGEST_CYCLE, EVENTS = 1 << 15 };
 enum { SET_S, SET_C, SET_D, SET_W, SET_HOLD, CLOCK };
 
 /* one side: what it works on */
@@ -155,9 +156,9 @@ static void call_writes(size_t n)
 
 /* ---- pin events: streams of frames drawn in mode 0; operation = event */
 
-static void emit(uint64_t kind, uint32_t value)
+static void emit(unsigned kind, uint32_t value)
 {
-    events[event_count++] = kind << 32 | value;
+    events[event_count++] = cartvesper_event(kind, value);
 }
 
 static void draw_frame(const uint8_t *bytes, size_t length)

@@ -1,11 +1,19 @@
 #!/bin/sh
-# play.sh [FILE.trace ..]: proves the player and plays each trace; with none named, plays every example and compares it with its .out file.
+# play.sh [FILE.trace ..]: proves the player and plays each trace; with none named, plays every example and compares it
+# with its .out file. What is proved and has not changed is not proved again.
 # The player is an x86-64 program: on Arm the toolchain's own emulator runs it.
 set -eu
 here=$(cd "$(dirname "$0")" && pwd)
 root=$(dirname "$here")
 log=$root/target/play.log
+for trace in "$@"; do
+    [ -r "$trace" ] || {
+        echo "play.sh: no such trace: $trace" >&2
+        exit 2
+    }
+done
 mkdir -p "$root/target"
+[ -x "$root/target/bin/play" ] || echo "play.sh: proving the player, some minutes the first time (log: target/play.log)" >&2
 (cd "$root" && rt check play) >"$log" 2>&1 || {
     cat "$log" >&2
     exit 1

@@ -3,8 +3,7 @@ use Prim.Native.Nat.{ℕ}
 use mathlib.Core.Bool.{true}
 use mathlib.Core.List.{List, [], _∷_}
 use mathlib.Core.Path.{_≡_, refl, ap, _∙_}
-use lib.ListN.{length, getD, replicate}
-use lib.Dec.{lit≤}
+use lib.ListN.{length, getD}
 use Rattle.laws.specs.Pick.{pick, at-yes}
 use Rattle.laws.specs.Each.{each}
 use Rattle.laws.specs.Table.{from, table}
@@ -15,31 +14,34 @@ use Rattle.codes.specs.Verdicts.{verdictBy}
 use Rattle.chip.specs.Ranges.{inRanges}
 use Rattle.codes.specs.Refusals.{isDone}
 use Rattle.chip.specs.Time.{timed, timedMemory}
-use Rattle.chip.specs.Power.{delivered, deliveredMemory}
+use Rattle.chip.specs.Power.{delivered}
+use Rattle.codes.specs.declared.Outcome.{Outcome}
 use Rattle.codes.specs.declared.Outcome.the-variants.{Done}
-use Rattle.frames.specs.Play.{frame}
 use Rattle.frames.specs.Bytes.{latchedFrom}
-use Rattle.frames.specs.Answers.{frameOutcome, framedOutput}
+use Rattle.frames.specs.declared.FrameReply.the-variants.{Shown}
+use Rattle.frames.specs.Answers.{frameOutcome, frameReply, framed, framedOutput}
 use Rattle.frames.proofs.Cases.{case-f}
-use Rattle.split.proofs.Cases.{case-g-parts, case-g-lengths}
-use Rattle.driver.specs.Sequence.{wren}
+use Rattle.split.proofs.Cases.{case-g-parts, case-g-addresses, case-g-lengths}
 use Rattle.driver_theorems.proofs.Cases.{case-h}
-use Rattle.chip.proofs.Cases.{case-e, case-i}
-use Rattle.agree.specs.Starred.{benchAfter, allBitsSet, Starred}
+use Rattle.chip.proofs.Cases.{case-i}
+use Rattle.agree.specs.Starred.{bytesF, Starred}
 
 -- READ at FFFFh is not refused
-read-taken : (m : List ℕ) → length m ≡ m95512 .size → frameOutcome m95512 (delivered m95512) (length m) 5 40 5 ≡ Done
+read-taken : (size room : ℕ) → size ≡ m95512 .size → room ≡ 5 → frameOutcome m95512 (delivered m95512) size 5 40 room ≡ Done
 unfolding pick inRanges each zeros
-read-taken m e = rw e refl
+read-taken size room e r = rw (e, r) refl
 
-read-rolls : (m : List ℕ) → length m ≡ m95512 .size
-    → framedOutput m95512 (delivered m95512) m (0x03 ∷ 0xff ∷ 0xff ∷ 0x00 ∷ 0x00 ∷ []) 40 (replicate 5 0x00)
-    ≡ 0xff ∷ 0xff ∷ 0xff ∷ getD m 0xffff 0 ∷ getD m 0x0000 0 ∷ []
+read-answer : (m : List ℕ) → length m ≡ m95512 .size → framed m95512 (delivered m95512) m true bytesF 40 5 .answer ≡ Shown 24
+unfolding framed decode pick
+read-answer m e = ap (λ (o : Outcome). frameReply o 24) (read-taken (length m) 5 e refl)
+
+read-rolls : (m out : List ℕ) → length m ≡ m95512 .size → length out ≡ 5
+    → framedOutput m95512 (delivered m95512) m bytesF 40 out ≡ 0xff ∷ 0xff ∷ 0xff ∷ getD m 0xffff 0 ∷ getD m 0x0000 0 ∷ []
 unfolding framedOutput
-read-rolls m e = at-yes _ _ (ap isDone (read-taken m e)) ∙ case-f m
+read-rolls m out e r = at-yes _ _ (ap isDone (read-taken (length m) (length out) e r)) ∙ case-f m
 
 pub starred : Starred
-unfolding pick verdictBy decode latchedFrom zeros timed timedMemory stored table from
+unfolding framed pick inRanges each verdictBy decode latchedFrom zeros timed timedMemory stored table from
 starred =
     record {
       a = refl;
@@ -47,16 +49,21 @@ starred =
       b-57 = refl;
       b-56 = refl;
       c = refl;
-      d-below = refl;
+      d-taken = refl;
+      d-not-taken = refl;
+      d-open = refl;
       d-protected = refl;
-      e-idle = case-e allBitsSet refl refl refl .idle refl refl;
-      e-wel = case-e (benchAfter (wren ∷ []) allBitsSet .core) refl refl refl .with-wel refl refl;
-      e-cycle = case-e (benchAfter (wren ∷ frame true (0x01 ∷ 0x8c ∷ []) 16 ∷ []) allBitsSet .core) refl refl refl .in-cycle refl (lit≤ tt);
-      f = read-rolls;
+      e-idle = refl;
+      e-wel = refl;
+      e-cycle = refl;
+      f-answer = read-answer;
+      f-output = read-rolls;
       g-parts = case-g-parts;
+      g-addresses = case-g-addresses;
       g-lengths = case-g-lengths;
-      h-1000 = case-h (deliveredMemory m95512) .frames;
-      h-pages = case-h (deliveredMemory m95512) .pages;
-      h-700 = case-h (deliveredMemory m95512) .frames-700;
+      h-1000 = λ m bytes s e. case-h m bytes s e .at-1000;
+      h-700 = λ m bytes s e. case-h m bytes s e .at-700;
+      h-polls = λ m bytes s e. case-h m bytes s e .polls-700;
       i = case-i;
+      i-left = refl;
     }

@@ -1,4 +1,5 @@
-// The pin model's device for C: power-up, one call for each kind of event, what a device shows, and a list of events at once.
+// The pin model's device for C: power-up, one call for each kind of event, what a device shows, and a list of events
+// at once.
 ghost use mathlib.Core.Path.{_≡_};
 ghost use lib.Dec.{eqb};
 ghost use lib.ListN.{length};
@@ -39,7 +40,8 @@ fn refused(number: u32, device: Device) -> DeviceAnswer
     }
 }
 
-// Power-up. Refusal 2 for a flag that is not 0 or 1, then 6 for the cycle length; both leave the delivered record, at rest.
+// Power-up. Refusal 2 for a flag that is not 0 or 1, then 6 for the cycle length; both leave the delivered record, at
+// rest.
 #[no_mangle]
 pub extern "C" fn cartvesper_device_power_up(
     cycle: u32,
@@ -113,7 +115,9 @@ pub(crate) fn bad_level(size: usize) -> u32
 // C to a level. Refusals 1, then 2.
 #[no_mangle]
 pub extern "C" fn cartvesper_device_set_c(device: Device, level: u8, memory: &[u8]) -> DeviceAnswer
-    ensures { λ r. ⌜ r ≡ clockPinCall m95512 level (onC m95512 (on level) (now (memory .entry)) device) device (now (memory .entry)) ⌝ }
+    ensures { λ r. ⌜ r
+        ≡ clockPinCall m95512 level (onC m95512 (on level) (now (memory .entry)) device) device
+        (now (memory .entry)) ⌝ }
 {
     if level <= 1 {
         return answered(device.set_c(level == 1, memory));
@@ -129,7 +133,9 @@ pub extern "C" fn cartvesper_device_read_clock(
     memory: &mut [u8],
 ) -> DeviceAnswer
     ensures { λ r. ⌜ r ≡ deviceReadingCall m95512 device reading (now (memory .entry)) ⌝ }
-    ensures { λ _. ⌜ now (memory .exit) ≡ answerMemory (memoryOutcome m95512 device (now (memory .entry))) (timedMemory m95512 reading (device .core) (now (memory .entry))) (now (memory .entry)) ⌝ }
+    ensures { λ _. ⌜ now (memory .exit)
+        ≡ answerMemory (memoryOutcome m95512 device (now (memory .entry)))
+        (timedMemory m95512 reading (device .core) (now (memory .entry))) (now (memory .entry)) ⌝ }
 {
     answered(device.read_clock(reading, memory))
 }

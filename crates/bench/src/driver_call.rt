@@ -17,7 +17,8 @@ pub extern "C" fn cartvesper_write(
     limit: u32,
 ) -> DriverAnswer
     ensures { λ r. ⌜ r ≡ writeCall m95512 core (now (memory .entry)) address (now (bytes .entry)) interval limit ⌝ }
-    ensures { λ _. ⌜ now (memory .exit) ≡ drivenMemory m95512 core (now (memory .entry)) address (now (bytes .entry)) interval limit ⌝ }
+    ensures { λ _. ⌜ now (memory .exit)
+        ≡ drivenMemory m95512 core (now (memory .entry)) address (now (bytes .entry)) interval limit ⌝ }
 {
     let written = driver::write(core, memory, address, bytes, interval, limit);
     let answer = written.answer;

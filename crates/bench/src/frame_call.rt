@@ -17,8 +17,10 @@ pub extern "C" fn cartvesper_frame(
     bits: usize,
     out: &mut [u8],
 ) -> FrameAnswer
-    ensures { λ r. ⌜ r ≡ frameCall m95512 core (now (memory .entry)) w (now (bytes .entry)) bits (length (now (out .entry))) ⌝ }
-    ensures { λ _. ⌜ now (out .exit) ≡ frameCallOutput m95512 core (now (memory .entry)) w (now (bytes .entry)) bits (now (out .entry)) ⌝ }
+    ensures { λ r. ⌜ r
+        ≡ frameCall m95512 core (now (memory .entry)) w (now (bytes .entry)) bits (length (now (out .entry))) ⌝ }
+    ensures { λ _. ⌜ now (out .exit)
+        ≡ frameCallOutput m95512 core (now (memory .entry)) w (now (bytes .entry)) bits (now (out .entry)) ⌝ }
 {
     if w <= 1 {
         let framed = frames::frame(core, memory, w == 1, bytes, bits, out);

@@ -1,4 +1,5 @@
-// The four numbers of the split, for C. The split's own archive exports them as cartvesper_split_*: other names here, so that both can be linked.
+// The four numbers of the split, for C. The split's own archive exports them as cartvesper_split_*: other names here,
+// so that both can be linked.
 ghost use mathlib.Core.Path.{_≡_};
 ghost use Rattle.codes.specs.Part.{m95512};
 ghost use Rattle.split.specs.Split.{splitRefusal, splitParts, splitAddress, splitLength};

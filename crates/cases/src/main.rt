@@ -1,5 +1,5 @@
-// Worked cases through the public calls, a line each: what was asked, and the number given back. The gate compares them with the file
-// stdout, whose numbers were worked out by hand from the rules.
+// Worked cases through the public calls, a line each: what was asked, and the number given back. The gate compares
+// them with the file stdout, whose numbers were worked out by hand from the rules.
 use chip::Core;
 use chip::clock_reading;
 use chip::power_up;
@@ -61,7 +61,8 @@ fn time(what: &[u8], core: Core, reading: u32) {
     say(b"  cell 128", wide(memory[128]));
 }
 
-// A frame of up to eight bytes with W high: its number, the undriven count, output bytes 1 and 3 (counted from 0; 0 where the frame has none) and the status that it leaves.
+// A frame of up to eight bytes with W high: its number, the undriven count, output bytes 1 and 3 (counted from 0; 0
+// where the frame has none) and the status that it leaves.
 fn send(what: &[u8], core: Core, bytes: &[u8], bits: usize) -> Core {
     let memory = io::large_buffer();
     let mut out = [0u8; 8];

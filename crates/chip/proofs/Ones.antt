@@ -9,6 +9,32 @@ use Rattle.chip.proofs.power.power_up.Kinds as power-up
 use Rattle.chip.proofs.power.power_up.Reads as power-up-reads
 use Rattle.chip.proofs.time.clock_reading.Kinds as clock-reading
 use Rattle.chip.proofs.time.clock_reading.Reads as clock-reading-reads
+use Rattle.chip.proofs.Protection.number.Kinds as protection-number
+use Rattle.chip.proofs.Protection.number.Reads as protection-number-reads
+use Rattle.chip.proofs.Protection.value.Kinds as protection-value
+use Rattle.chip.proofs.Protection.value.Reads as protection-value-reads
+use Rattle.chip.proofs.Core.with_wel.Kinds as core-with-wel
+use Rattle.chip.proofs.Core.with_wel.Reads as core-with-wel-reads
+use Rattle.chip.proofs.Core.begin_status.Kinds as core-begin-status
+use Rattle.chip.proofs.Core.begin_status.Reads as core-begin-status-reads
+use Rattle.chip.proofs.Core.begin_page.Kinds as core-begin-page
+use Rattle.chip.proofs.Core.begin_page.Reads as core-begin-page-reads
+use Rattle.chip.proofs.Core.delivered.Kinds as core-delivered
+use Rattle.chip.proofs.Core.delivered.Reads as core-delivered-reads
+use Rattle.chip.proofs.Core.protects.Kinds as core-protects
+use Rattle.chip.proofs.Core.protects.Reads as core-protects-reads
+use Rattle.chip.proofs.ranges.cycle_fits.Kinds as cycle-fits
+use Rattle.chip.proofs.ranges.cycle_fits.Reads as cycle-fits-reads
+use Rattle.chip.proofs.Core.running.Kinds as core-running
+use Rattle.chip.proofs.Core.running.Reads as core-running-reads
+use Rattle.chip.proofs.Core.status.Kinds as core-status
+use Rattle.chip.proofs.Core.status.Reads as core-status-reads
+use Rattle.chip.proofs.time.elapsed.Kinds as elapsed
+use Rattle.chip.proofs.time.elapsed.Reads as elapsed-reads
+use Rattle.chip.proofs.Waiting.nothing.Kinds as waiting-nothing
+use Rattle.chip.proofs.Waiting.nothing.Reads as waiting-nothing-reads
+use Rattle.chip.proofs.Core.timed.Kinds as core-timed
+use Rattle.chip.proofs.Core.timed.Reads as core-timed-reads
 
 pub power-up-one : OneResult power-up.ps power-up.r power-up-reads.Post
 power-up-one κs a z z′ e e′ p q = same (p .0) (q .0)
@@ -24,3 +50,47 @@ in-ranges-one κs a z z′ e e′ p q = same p q
 
 pub protection-one : OneResult protection.ps protection.r protection-reads.Post
 protection-one κs a z z′ e e′ p q = same (p .0) (q .0)
+
+-- ---- inner calls
+
+pub protection-number-one : OneResult protection-number.ps protection-number.r protection-number-reads.Post
+protection-number-one κs a z z′ e e′ p q = same p q
+
+pub protection-value-one : OneResult protection-value.ps protection-value.r protection-value-reads.Post
+protection-value-one κs a z z′ e e′ p q = same p q
+
+pub core-with-wel-one : OneResult core-with-wel.ps core-with-wel.r core-with-wel-reads.Post
+core-with-wel-one κs a z z′ e e′ p q = same p q
+
+pub core-begin-status-one : OneResult core-begin-status.ps core-begin-status.r core-begin-status-reads.Post
+core-begin-status-one κs a z z′ e e′ p q = same p q
+
+pub core-begin-page-one : OneResult core-begin-page.ps core-begin-page.r core-begin-page-reads.Post
+core-begin-page-one κs a z z′ e e′ p q = same p q
+
+pub core-delivered-one : OneResult core-delivered.ps core-delivered.r core-delivered-reads.Post
+core-delivered-one κs a z z′ e e′ p q = same p q
+
+pub core-protects-one : OneResult core-protects.ps core-protects.r core-protects-reads.Post
+core-protects-one κs a z z′ e e′ p q = same p q
+
+pub cycle-fits-one : OneResult cycle-fits.ps cycle-fits.r cycle-fits-reads.Post
+cycle-fits-one κs a z z′ e e′ p q = same p q
+
+pub core-running-one : OneResult core-running.ps core-running.r core-running-reads.Post
+core-running-one κs a z z′ e e′ p q = same p q
+
+pub core-status-one : OneResult core-status.ps core-status.r core-status-reads.Post
+core-status-one κs a z z′ e e′ p q = same p q
+
+pub elapsed-one : OneResult elapsed.ps elapsed.r elapsed-reads.Post
+elapsed-one κs a z z′ e e′ p q = same p q
+
+pub waiting-nothing-one : OneResult waiting-nothing.ps waiting-nothing.r waiting-nothing-reads.Post
+waiting-nothing-one κs a z z′ e e′ p q = same p q
+
+pub core-timed-one : OneResult core-timed.ps core-timed.r core-timed-reads.Post
+core-timed-one κs a z z′ e e′ p q = same (p .0) (q .0)
+
+pub core-timed-memory : OneExit core-timed.ps core-timed.r core-timed-reads.Post (λ κs e. now (e .1 .1 .0))
+core-timed-memory κs a z z′ e e′ p q = same (p .1) (q .1)

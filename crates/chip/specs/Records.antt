@@ -1,4 +1,5 @@
--- The core record that both models hold: what its fields say, and every way in which one is made of another. No record is written out anywhere else.
+-- The core record that both models hold: what its fields say, and every way in which one is made of another. No record
+-- is written out anywhere else.
 use Prim.Native.Nat.{ℕ, _-_}
 use mathlib.Core.Bool.{Bool}
 use lib.Dec.{ltb, eqb}

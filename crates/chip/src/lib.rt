@@ -1,7 +1,8 @@
-// What both models of the M95512 share: the record that each holds, its ranges, passing time, power-up, and what waits for the end of a cycle.
+// What both models of the M95512 share: the record that each holds, its ranges, passing time, power-up, and what waits
+// for the end of a cycle.
 //
-// Public calls, each for every input: power_up, in_ranges, protection, clock_reading. Every other public function is an inner call of the
-// models: total, and exactly its definition.
+// Public calls, each for every input: power_up, in_ranges, protection, clock_reading. Every other public function is
+// an inner call of the models: total, and exactly its definition.
 use codes::Outcome;
 use codes::Refusal;
 use latch::Latch;

@@ -121,7 +121,8 @@ fn left_after(left: u32, passed: u32) -> u32
     if left < passed { 0 } else { left - passed }
 }
 
-// The public clock reading, for every input: 1 for a memory of another length, then 2 for a record outside its ranges, both with everything as it was.
+// The public clock reading, for every input: 1 for a memory of another length, then 2 for a record outside its ranges,
+// both with everything as it was.
 pub fn clock_reading(core: Core, reading: u32, memory: &mut [u8]) -> Timed
     ensures { λ r. ⌜ r ≡ clockReading m95512 reading core (now (memory .entry)) ⌝ }
     ensures { λ r. ⌜ number (r .outcome) ≡ readingNumber m95512 core (now (memory .entry)) ⌝ }

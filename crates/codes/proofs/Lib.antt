@@ -3,3 +3,4 @@ pub mod Sound
 pub mod Starts
 pub mod Bits
 pub mod Judged
+pub mod Ones

@@ -1,4 +1,5 @@
--- The table of instructions, a row for each: its code, the bits at deselect, and when it is executed. Any other code waits in silence.
+-- The table of instructions, a row for each: its code, the bits at deselect, and when it is executed. Any other code
+-- waits in silence.
 use Prim.Native.Nat.{ℕ, _+_, _*_, _%_}
 use mathlib.Core.Bool.{Bool, true, false, _&&_}
 use lib.Dec.{eqb, leb}

@@ -1,4 +1,5 @@
--- The chip's rules that speak of no record, as document 01 condenses the data sheet: a row for the part, the instructions, the verdict.
+-- The chip's rules that speak of no record, as document 01 condenses the data sheet: a row for the part, the
+-- instructions, the verdict.
 pub mod Part
 pub mod Refusals
 pub mod Instructions

@@ -1,4 +1,5 @@
--- Where protection starts (004, table 2). BP1 BP0 = 00: none; 01: the upper quarter; 10: the upper half; 11: everything.
+-- Where protection starts (004, table 2). BP1 BP0 = 00: none; 01: the upper quarter; 10: the upper half; 11:
+-- everything.
 use Prim.Native.Nat.{ℕ, _*_, _/_}
 use mathlib.Core.Bool.{Bool}
 use Rattle.laws.specs.Pick.{pick}

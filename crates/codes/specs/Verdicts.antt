@@ -1,4 +1,5 @@
--- Is a frame executed at its deselect, and if not, which test failed first. Both models ask this, of the instruction's row.
+-- Is a frame executed at its deselect, and if not, which test failed first. Both models ask this, of the instruction's
+-- row.
 use Prim.Native.Nat.{ℕ}
 use mathlib.Core.Bool.{Bool, true, false, not, _&&_}
 use lib.Dec.{ltb}
@@ -14,8 +15,8 @@ use Rattle.codes.specs.declared.Verdict.the-variants.{Executed, CycleRan
 abbrev pub letThrough : Row → Bool → Verdict
 letThrough r held = pick held OnHold (pick (r .known) Executed UnknownCode)
 
--- n: bits counted; ran: a cycle ran at the eighth edge; locked: SRWD is 1 and W is low at deselect; protected: the address is; held: at deselect.
--- Fewer than eight bits are no instruction.
+-- n: bits counted; ran: a cycle ran at the eighth edge; locked: SRWD is 1 and W is low at deselect; protected: the
+-- address is; held: at deselect. Fewer than eight bits are no instruction.
 unfoldable pub verdictBy : Row → ℕ → Bool → Bool → Bool → Bool → Bool → Verdict
 verdictBy r n ran wel locked protected held =
     pick (ltb n 8) WrongCount

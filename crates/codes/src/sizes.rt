@@ -5,7 +5,7 @@ pub const SIZE: usize = 65536;
 
 pub const PAGE: usize = 128;
 
-pub const PAGES: u32 = 512;
+pub const PAGES: u32 = (SIZE / PAGE) as u32;
 
 // Address bytes, and with the code before them what stands before the data of a READ or a WRITE.
 pub const ADDRESS_BYTES: usize = 2;
@@ -20,8 +20,8 @@ pub const MOST: u8 = 4;
 // Bits of a WRITE's code, address and first data byte.
 pub const WRITE_BITS: usize = HEAD_BITS + 8;
 
-// Bytes of the longest frame.
-pub const LONGEST_FRAME: usize = 65540;
+// Bytes of the longest frame: the memory, and four more.
+pub const LONGEST_FRAME: usize = SIZE + 4;
 
 // Microseconds of the longest write cycle.
 pub const LONGEST_CYCLE: u32 = 5000;

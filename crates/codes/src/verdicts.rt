@@ -51,7 +51,8 @@ impl Row {
         Verdict::UnknownCode
     }
 
-    // The first test that fails: cycle, WEL, count, protection, hold, unknown code. Fewer than eight bits are no instruction.
+    // The first test that fails: cycle, WEL, count, protection, hold, unknown code. Fewer than eight bits are no
+    // instruction.
     fn judge(
         self,
         bits: usize,

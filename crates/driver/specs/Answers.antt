@@ -76,7 +76,8 @@ driveChoice P c size a len interval limit one two seven eight done =
 abbrev pub driveOutcome : Part → Core → ℕ → ℕ → ℕ → ℕ → ℕ → Outcome
 driveOutcome P c size a len interval limit =
     driveChoice P c size a len interval limit
-    (outcome.Refused MemoryLength) (outcome.Refused RecordRange) (outcome.Refused AddressRange) (outcome.Refused PollRange) outcome.Done
+    (outcome.Refused MemoryLength) (outcome.Refused RecordRange) (outcome.Refused AddressRange)
+    (outcome.Refused PollRange) outcome.Done
 
 -- the number of the answer
 abbrev pub endingNumber : Ending → ℕ
@@ -90,11 +91,13 @@ driveNumber P c size a len interval limit e = driveChoice P c size a len interva
 -- its pages done, and its frames sent: those of the run, 0 in a refusal
 abbrev pub drivePages : Part → Core → List ℕ → ℕ → List ℕ → ℕ → ℕ → ℕ
 drivePages P c m a bytes interval limit =
-    driveChoice P c (length m) a (length bytes) interval limit 0 0 0 0 (run P interval limit a bytes (frameBench c m) .pages)
+    driveChoice P c (length m) a (length bytes) interval limit 0 0 0 0
+    (run P interval limit a bytes (frameBench c m) .pages)
 
 abbrev pub driveFrames : Part → Core → List ℕ → ℕ → List ℕ → ℕ → ℕ → ℕ
 driveFrames P c m a bytes interval limit =
-    driveChoice P c (length m) a (length bytes) interval limit 0 0 0 0 (sent (run P interval limit a bytes (frameBench c m) .acts))
+    driveChoice P c (length m) a (length bytes) interval limit 0 0 0 0
+    (sent (run P interval limit a bytes (frameBench c m) .acts))
 
 -- ---- what is handed back, and what is left in the memory
 
@@ -104,6 +107,13 @@ runReply (outcome.Refused e) r = Refused e
 
 abbrev pub leaves : Part → Run → Core → List ℕ → FrameBench
 leaves P r c m = actedAll P (r .acts) (frameBench c m)
+
+-- a run that is not refused: its answer, and the record that it leaves; and its page parts, after so many frames
+abbrev pub runDriven : Part → Run → Core → List ℕ → Driven
+runDriven P r c m = record { answer = runAnswer r; core = leaves P r c m .core }
+
+abbrev pub partsDriven : Part → ℕ → Run → Core → List ℕ → Driven
+partsDriven P before r c m = record { answer = partsAnswer before r; core = leaves P r c m .core }
 
 unfoldable pub driven : Part → Core → List ℕ → ℕ → List ℕ → ℕ → ℕ → Driven
 driven P c m a bytes interval limit =

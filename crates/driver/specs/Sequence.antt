@@ -1,5 +1,6 @@
--- What the driver sends: a list of frames and clock readings. Each wait takes its limit as the most polls that it may make; the state along the
--- way is that of the frame definitions played over the list, and nothing here counts but `sent`, over the list itself.
+-- What the driver sends: a list of frames and clock readings. Each wait takes its limit as the most polls that it may
+-- make; the state along the way is that of the frame definitions played over the list, and nothing here counts but
+-- `sent`, over the list itself.
 use Prim.Native.Nat.{ℕ, zero, suc, _+_, _-_, _*_, _/_, _%_, _^_}
 use mathlib.Core.Bool.{true}
 use mathlib.Core.List.{List, [], _∷_, _++_}

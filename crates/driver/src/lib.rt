@@ -1,7 +1,7 @@
 // The driver: writes any run of bytes as page writes, over the frame model and by its promises alone.
 //
-// It waits until no cycle runs, then sends WREN and WRITE for each page part and waits for the end of its cycle; it sees a page that was not
-// taken, and says exactly what it did. Public call, for every input: write.
+// It waits until no cycle runs, then sends WREN and WRITE for each page part and waits for the end of its cycle; it
+// sees a page that was not taken, and says exactly what it did. Public call, for every input: write.
 ghost use mathlib.Core.Path.{_≡_};
 ghost use mathlib.Core.Bool.{true};
 ghost use Prim.Native.Nat.{_+_, _≤_};
@@ -9,8 +9,8 @@ ghost use lib.ListN.{length};
 ghost use Rattle.codes.specs.Part.{m95512};
 ghost use Rattle.chip.specs.Ranges.{inRanges};
 ghost use Rattle.frames.specs.Play.{frameBench};
-ghost use Rattle.driver.specs.Sequence.{playedFrom, run};
-ghost use Rattle.driver.specs.Answers.{runReplyNumber, runReplyPages, runReplyFrames, runAnswer, driveNumber, drivePages, driveFrames, driven, drivenMemory};
+ghost use Rattle.driver.specs.Sequence.{run};
+ghost use Rattle.driver.specs.Answers.{runReplyNumber, runReplyPages, runReplyFrames, driveNumber, drivePages, driveFrames, driven, drivenMemory, leaves, runDriven};
 use chip::Core;
 use codes::Outcome;
 use codes::Refusal;
@@ -53,8 +53,12 @@ fn drive(
     requires { ⌜ length (now memory) ≡ m95512 .size ⌝ }
     requires { ⌜ inRanges m95512 core ≡ true ⌝ }
     requires { ⌜ (1 ≤ limit) × (limit ≤ m95512 .longest + 1) ⌝ }
-    ensures { λ r. ⌜ r ≡ record { answer = runAnswer (run m95512 interval limit address (now (bytes .entry)) (frameBench core (now (memory .entry)))); core = playedFrom m95512 (λ d. run m95512 interval limit address (now (bytes .entry)) d .acts) core (now (memory .entry)) .core } ⌝ }
-    ensures { λ _. ⌜ now (memory .exit) ≡ playedFrom m95512 (λ d. run m95512 interval limit address (now (bytes .entry)) d .acts) core (now (memory .entry)) .memory ⌝ }
+    ensures { λ r. ⌜ r
+        ≡ runDriven m95512 (run m95512 interval limit address (now (bytes .entry)) (frameBench core (now (memory .entry))))
+        core (now (memory .entry)) ⌝ }
+    ensures { λ _. ⌜ now (memory .exit)
+        ≡ leaves m95512 (run m95512 interval limit address (now (bytes .entry)) (frameBench core (now (memory .entry))))
+        core (now (memory .entry)) .memory ⌝ }
 {
     if bytes.len() == 0 {
         return Driven {
@@ -80,9 +84,9 @@ fn drive(
     pages::write_parts(next, memory, address, bytes, interval, limit, frames)
 }
 
-// Writes the bytes from an address on, with polls at an interval of microseconds and a limit of polls for each wait. Refusals 1, 2, 7 and 8 in
-// that order leave the record and the memory as they were; else the answer is 0, 9 for a wait that used its limit or 10 for a page that was not
-// taken, with the pages done and the frames sent.
+// Writes the bytes from an address on, with polls at an interval of microseconds and a limit of polls for each wait.
+// Refusals 1, 2, 7 and 8 in that order leave the record and the memory as they were; else the answer is 0, 9 for a
+// wait that used its limit or 10 for a page that was not taken, with the pages done and the frames sent.
 pub fn write(
     core: Core,
     memory: &mut [u8],
@@ -92,10 +96,15 @@ pub fn write(
     limit: u32,
 ) -> Driven
     ensures { λ r. ⌜ r ≡ driven m95512 core (now (memory .entry)) address (now (bytes .entry)) interval limit ⌝ }
-    ensures { λ r. ⌜ runReplyNumber (r .answer) ≡ driveNumber m95512 core (length (now (memory .entry))) address (length (now (bytes .entry))) interval limit (run m95512 interval limit address (now (bytes .entry)) (frameBench core (now (memory .entry))) .ending) ⌝ }
-    ensures { λ r. ⌜ runReplyPages (r .answer) ≡ drivePages m95512 core (now (memory .entry)) address (now (bytes .entry)) interval limit ⌝ }
-    ensures { λ r. ⌜ runReplyFrames (r .answer) ≡ driveFrames m95512 core (now (memory .entry)) address (now (bytes .entry)) interval limit ⌝ }
-    ensures { λ _. ⌜ now (memory .exit) ≡ drivenMemory m95512 core (now (memory .entry)) address (now (bytes .entry)) interval limit ⌝ }
+    ensures { λ r. ⌜ runReplyNumber (r .answer)
+        ≡ driveNumber m95512 core (length (now (memory .entry))) address (length (now (bytes .entry))) interval limit
+        (run m95512 interval limit address (now (bytes .entry)) (frameBench core (now (memory .entry))) .ending) ⌝ }
+    ensures { λ r. ⌜ runReplyPages (r .answer)
+        ≡ drivePages m95512 core (now (memory .entry)) address (now (bytes .entry)) interval limit ⌝ }
+    ensures { λ r. ⌜ runReplyFrames (r .answer)
+        ≡ driveFrames m95512 core (now (memory .entry)) address (now (bytes .entry)) interval limit ⌝ }
+    ensures { λ _. ⌜ now (memory .exit)
+        ≡ drivenMemory m95512 core (now (memory .entry)) address (now (bytes .entry)) interval limit ⌝ }
 {
     match refused::outcome(core, memory.len(), address, bytes.len(), interval, limit) {
         Outcome::Done => drive(core, memory, address, bytes, interval, limit),

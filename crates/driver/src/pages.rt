@@ -10,7 +10,7 @@ ghost use Rattle.codes.specs.Status.{on, bitOf};
 ghost use Rattle.split.specs.Split.{count};
 ghost use Rattle.frames.specs.Play.{frameBench};
 ghost use Rattle.driver.specs.Sequence.{sent, playedFrom, pageActs, partActs, allParts};
-ghost use Rattle.driver.specs.Answers.{partsAnswer};
+ghost use Rattle.driver.specs.Answers.{leaves, partsDriven};
 use crate::Driven;
 use crate::RunReply;
 use crate::Sent;
@@ -39,10 +39,15 @@ fn write_page(
     requires { ⌜ address < m95512 .size ⌝ }
     requires { ⌜ length (now bytes) ≤ m95512 .page ⌝ }
     requires { ⌜ (1 ≤ limit) × (limit ≤ m95512 .longest + 1) ⌝ }
-    ensures { λ r. ⌜ r .core ≡ playedFrom m95512 (pageActs m95512 interval limit address (now (bytes .entry))) core (now (memory .entry)) .core ⌝ }
+    ensures { λ r. ⌜ r .core
+        ≡ playedFrom m95512 (pageActs m95512 interval limit address (now (bytes .entry))) core (now (memory .entry))
+        .core ⌝ }
     ensures { λ r. ⌜ r .status ≡ status (r .core) ⌝ }
-    ensures { λ r. ⌜ r .frames ≡ sent (pageActs m95512 interval limit address (now (bytes .entry)) (frameBench core (now (memory .entry)))) ⌝ }
-    ensures { λ _. ⌜ now (memory .exit) ≡ playedFrom m95512 (pageActs m95512 interval limit address (now (bytes .entry))) core (now (memory .entry)) .memory ⌝ }
+    ensures { λ r. ⌜ r .frames
+        ≡ sent (pageActs m95512 interval limit address (now (bytes .entry)) (frameBench core (now (memory .entry)))) ⌝ }
+    ensures { λ _. ⌜ now (memory .exit)
+        ≡ playedFrom m95512 (pageActs m95512 interval limit address (now (bytes .entry))) core (now (memory .entry))
+        .memory ⌝ }
 {
     let wren = [WREN];
     let enabled = send(core, memory, &wren);
@@ -64,10 +69,16 @@ fn write_part(
     requires { ⌜ inRanges m95512 core ≡ true ⌝ }
     requires { ⌜ (1 ≤ limit) × (limit ≤ m95512 .longest + 1) ⌝ }
     requires { ⌜ k < count (m95512 .size) (m95512 .page) address (length (now bytes)) ⌝ }
-    ensures { λ r. ⌜ r .core ≡ playedFrom m95512 (partActs m95512 interval limit address (now (bytes .entry)) k) core (now (memory .entry)) .core ⌝ }
+    ensures { λ r. ⌜ r .core
+        ≡ playedFrom m95512 (partActs m95512 interval limit address (now (bytes .entry)) k) core (now (memory .entry))
+        .core ⌝ }
     ensures { λ r. ⌜ r .status ≡ status (r .core) ⌝ }
-    ensures { λ r. ⌜ r .frames ≡ sent (partActs m95512 interval limit address (now (bytes .entry)) k (frameBench core (now (memory .entry)))) ⌝ }
-    ensures { λ _. ⌜ now (memory .exit) ≡ playedFrom m95512 (partActs m95512 interval limit address (now (bytes .entry)) k) core (now (memory .entry)) .memory ⌝ }
+    ensures { λ r. ⌜ r .frames
+        ≡ sent (partActs m95512 interval limit address (now (bytes .entry)) k
+        (frameBench core (now (memory .entry)))) ⌝ }
+    ensures { λ _. ⌜ now (memory .exit)
+        ≡ playedFrom m95512 (partActs m95512 interval limit address (now (bytes .entry)) k) core (now (memory .entry))
+        .memory ⌝ }
 {
     let n = bytes.len() as u64;
     let start = cartvesper_split_address(address, n, k);
@@ -96,7 +107,8 @@ fn wel(status: u8) -> bool
     status >> 1 & 1 == 1
 }
 
-// All parts, in rising address order, after `sent` frames. WIP 0 and WEL 1 after a page's WRITE mean that the page was not taken.
+// All parts, in rising address order, after `sent` frames. WIP 0 and WEL 1 after a page's WRITE mean that the page was
+// not taken.
 pub(crate) fn write_parts(
     core: Core,
     memory: &mut [u8],
@@ -110,8 +122,13 @@ pub(crate) fn write_parts(
     requires { ⌜ inRanges m95512 core ≡ true ⌝ }
     requires { ⌜ (1 ≤ limit) × (limit ≤ m95512 .longest + 1) ⌝ }
     requires { ⌜ sent ≤ m95512 .longest + 1 ⌝ }
-    ensures { λ r. ⌜ r ≡ record { answer = partsAnswer sent (allParts m95512 interval limit address (now (bytes .entry)) (frameBench core (now (memory .entry)))); core = playedFrom m95512 (λ d. allParts m95512 interval limit address (now (bytes .entry)) d .acts) core (now (memory .entry)) .core } ⌝ }
-    ensures { λ _. ⌜ now (memory .exit) ≡ playedFrom m95512 (λ d. allParts m95512 interval limit address (now (bytes .entry)) d .acts) core (now (memory .entry)) .memory ⌝ }
+    ensures { λ r. ⌜ r
+        ≡ partsDriven m95512 sent
+        (allParts m95512 interval limit address (now (bytes .entry)) (frameBench core (now (memory .entry)))) core
+        (now (memory .entry)) ⌝ }
+    ensures { λ _. ⌜ now (memory .exit)
+        ≡ leaves m95512 (allParts m95512 interval limit address (now (bytes .entry)) (frameBench core (now (memory .entry))))
+        core (now (memory .entry)) .memory ⌝ }
 {
     let parts = cartvesper_split_parts(address, bytes.len() as u64, 0);
     let mut next = core;

@@ -1,4 +1,5 @@
-// Frames sent through the frame model's public call: whole bytes, W high. A frame of these lengths, from a record inside its ranges, is not refused.
+// Frames sent through the frame model's public call: whole bytes, W high. A frame of these lengths, from a record
+// inside its ranges, is not refused.
 ghost use mathlib.Core.Path.{_≡_};
 ghost use mathlib.Core.Bool.{true};
 ghost use Prim.Native.Nat.{_+_, _*_, _≤_, _<_};
@@ -27,7 +28,8 @@ pub(crate) fn send(core: Core, memory: &[u8], bytes: &[u8]) -> Core
     requires { ⌜ length (now memory) ≡ m95512 .size ⌝ }
     requires { ⌜ inRanges m95512 core ≡ true ⌝ }
     requires { ⌜ length (now bytes) ≤ m95512 .addressBytes + 1 + m95512 .page ⌝ }
-    ensures { λ r. ⌜ r ≡ after m95512 (running core) true core (now (bytes .entry)) (8 * length (now (bytes .entry))) ⌝ }
+    ensures { λ r. ⌜ r
+        ≡ after m95512 (running core) true core (now (bytes .entry)) (8 * length (now (bytes .entry))) ⌝ }
 {
     let mut out = room();
     let n = bytes.len();
@@ -64,7 +66,9 @@ pub(crate) fn send_write(core: Core, memory: &[u8], address: usize, bytes: &[u8]
     requires { ⌜ inRanges m95512 core ≡ true ⌝ }
     requires { ⌜ address < m95512 .size ⌝ }
     requires { ⌜ length (now bytes) ≤ m95512 .page ⌝ }
-    ensures { λ r. ⌜ r ≡ after m95512 (running core) true core (writeBytes m95512 address (now (bytes .entry))) (8 * length (writeBytes m95512 address (now (bytes .entry)))) ⌝ }
+    ensures { λ r. ⌜ r
+        ≡ after m95512 (running core) true core (writeBytes m95512 address (now (bytes .entry)))
+        (8 * length (writeBytes m95512 address (now (bytes .entry)))) ⌝ }
 {
     let mut frame = room();
     let end = bytes.len() + HEAD;

@@ -49,10 +49,12 @@ fn poll_on(seen: Polled, memory: &mut [u8], interval: u32, left: u32) -> Waited
     requires { ⌜ length (now memory) ≡ m95512 .size ⌝ }
     requires { ⌜ inRanges m95512 (seen .core) ≡ true ⌝ }
     requires { ⌜ seen .status ≡ status (seen .core) ⌝ }
-    ensures { λ r. ⌜ r .core ≡ playedFrom m95512 (pollsOn m95512 interval left) (seen .core) (now (memory .entry)) .core ⌝ }
+    ensures { λ r. ⌜ r .core
+        ≡ playedFrom m95512 (pollsOn m95512 interval left) (seen .core) (now (memory .entry)) .core ⌝ }
     ensures { λ r. ⌜ r .status ≡ status (r .core) ⌝ }
     ensures { λ r. ⌜ r .frames ≡ sent (pollsOn m95512 interval left (frameBench (seen .core) (now (memory .entry)))) ⌝ }
-    ensures { λ _. ⌜ now (memory .exit) ≡ playedFrom m95512 (pollsOn m95512 interval left) (seen .core) (now (memory .entry)) .memory ⌝ }
+    ensures { λ _. ⌜ now (memory .exit)
+        ≡ playedFrom m95512 (pollsOn m95512 interval left) (seen .core) (now (memory .entry)) .memory ⌝ }
 {
     let mut polled = seen;
     let mut polls: u32 = 0;
@@ -77,7 +79,8 @@ pub(crate) fn first_wait(core: Core, memory: &mut [u8], interval: u32, limit: u3
     ensures { λ r. ⌜ r .core ≡ playedFrom m95512 (firstWait m95512 interval limit) core (now (memory .entry)) .core ⌝ }
     ensures { λ r. ⌜ r .status ≡ status (r .core) ⌝ }
     ensures { λ r. ⌜ r .frames ≡ sent (firstWait m95512 interval limit (frameBench core (now (memory .entry)))) ⌝ }
-    ensures { λ _. ⌜ now (memory .exit) ≡ playedFrom m95512 (firstWait m95512 interval limit) core (now (memory .entry)) .memory ⌝ }
+    ensures { λ _. ⌜ now (memory .exit)
+        ≡ playedFrom m95512 (firstWait m95512 interval limit) core (now (memory .entry)) .memory ⌝ }
 {
     let seen = poll(core, memory);
     poll_on(seen, memory, interval, limit - 1).and_sent(1)
@@ -91,7 +94,8 @@ pub(crate) fn page_wait(core: Core, memory: &mut [u8], interval: u32, limit: u32
     ensures { λ r. ⌜ r .core ≡ playedFrom m95512 (pageWait m95512 interval limit) core (now (memory .entry)) .core ⌝ }
     ensures { λ r. ⌜ r .status ≡ status (r .core) ⌝ }
     ensures { λ r. ⌜ r .frames ≡ sent (pageWait m95512 interval limit (frameBench core (now (memory .entry)))) ⌝ }
-    ensures { λ _. ⌜ now (memory .exit) ≡ playedFrom m95512 (pageWait m95512 interval limit) core (now (memory .entry)) .memory ⌝ }
+    ensures { λ _. ⌜ now (memory .exit)
+        ≡ playedFrom m95512 (pageWait m95512 interval limit) core (now (memory .entry)) .memory ⌝ }
 {
     let seen = late_poll(core, memory, interval);
     poll_on(seen, memory, interval, limit - 1).and_sent(1)

@@ -1,34 +1,73 @@
--- Document 01's case h of the definitions: 300 bytes from address 100 on, an idle device as delivered, cycle length 5,000.
-use mathlib.Core.Path.{_≡_, refl}
-use mathlib.Core.List.{List}
+-- Document 01's case h of the public call's promise: 300 bytes from address 100 on, an idle device as delivered, cycle length 5,000. It is computed
+-- of the run's definition for the table of any 300 bytes, and every list of 300 bytes is one.
 use Prim.Native.Nat.{ℕ}
-use lib.ListN.{replicate}
+use mathlib.Core.Bool.{true}
+use mathlib.Core.List.{List, [], _∷_}
+use mathlib.Core.Path.{_≡_, refl, ap, sym, subst, _∙_}
+use lib.ListN.{length, getD}
 use Rattle.laws.specs.Pick.{pick}
-use Rattle.laws.specs.Table.{from}
+use Rattle.laws.specs.Each.{each}
+use Rattle.laws.specs.Table.{from, table, table-of}
 use Rattle.codes.specs.Part.{m95512}
 use Rattle.latch.specs.Latches.{zeros}
 use Rattle.codes.specs.Instructions.{decode}
 use Rattle.codes.specs.Verdicts.{verdictBy}
+use Rattle.codes.specs.declared.Outcome.{Outcome}
+use Rattle.codes.specs.declared.Outcome.the-variants as outcome
+use Rattle.chip.specs.Ranges.{inRanges}
 use Rattle.chip.specs.Time.{timed}
 use Rattle.chip.specs.Power.{delivered}
 use Rattle.frames.specs.Bytes.{latchedFrom}
+use Rattle.frames.specs.Play.{frameBench}
 use Rattle.split.specs.Split.{pageParts, count, edge, start, end, splitAddress, splitLength}
 use Rattle.split.specs.Pieces.{piece}
-use Rattle.frames.specs.Play.{FrameBench, frameBench}
-use Rattle.driver.specs.Sequence.{sent, pollsOn, firstWait, pageWait, pageActs, pagesFrom, run}
+use Rattle.driver.specs.declared.RunReply.{RunReply}
+use Rattle.driver.specs.declared.RunReply.the-variants.{Done}
+use Rattle.driver.specs.Answers.{runAnswer, runReply, pollsFit, driveOutcome, driven}
+use Rattle.driver.specs.Sequence.{pollsOn, firstWait, pageWait, pageActs, pagesFrom, Run, run}
+use Rattle.driver_theorems.specs.Counts.{pagePolls}
 
-abbrev bytes : List ℕ
-bytes = replicate 300 0x55
+-- the run, polled at an interval
+abbrev runH : List ℕ → List ℕ → ℕ → Run
+runH m bytes interval = run m95512 interval 5001 100 bytes (frameBench (delivered m95512) m)
 
-abbrev atRest : List ℕ → FrameBench
-atRest m = frameBench (delivered m95512) m
+-- the answer of the public call
+abbrev answerH : List ℕ → List ℕ → ℕ → RunReply
+answerH m bytes interval = driven m95512 (delivered m95512) m 100 bytes interval 5001 .answer
 
-pub record CaseH (m : List ℕ) : Type 0 where
-  pub frames : sent (run m95512 1000 5001 100 bytes (atRest m) .acts) ≡ 29
-  pub pages : run m95512 1000 5001 100 bytes (atRest m) .pages ≡ 4
+pub record CaseH (m bytes : List ℕ) : Type 0 where
+  pub at-1000 : answerH m bytes 1000 ≡ Done (record { pages = 4; frames = 29 })
   -- the first poll, and for each of four pages WREN, WRITE and 8 polls
-  pub frames-700 : sent (run m95512 700 5001 100 bytes (atRest m) .acts) ≡ 41
+  pub at-700 : answerH m bytes 700 ≡ Done (record { pages = 4; frames = 41 })
+  pub polls-700 : pagePolls (runH m bytes 700 .acts) ≡ 8 ∷ 8 ∷ 8 ∷ 8 ∷ []
 
-pub case-h : (m : List ℕ) → CaseH m
-unfolding run pagesFrom pageActs pageWait firstWait pollsOn pick decode verdictBy timed zeros latchedFrom pageParts count edge start end splitAddress splitLength piece
-case-h m = record { frames = refl; pages = refl; frames-700 = refl }
+record Computed (m bytes : List ℕ) : Type 0 where
+  at-1000 : runAnswer (runH m bytes 1000) ≡ Done (record { pages = 4; frames = 29 })
+  at-700 : runAnswer (runH m bytes 700) ≡ Done (record { pages = 4; frames = 41 })
+  polls-700 : pagePolls (runH m bytes 700 .acts) ≡ 8 ∷ 8 ∷ 8 ∷ 8 ∷ []
+
+computed : (m : List ℕ) (f : ℕ → ℕ) → Computed m (table 300 f)
+unfolding table from run pagesFrom pageActs pageWait firstWait pollsOn pick decode verdictBy timed zeros latchedFrom pageParts count edge start end splitAddress splitLength piece
+computed m f = record { at-1000 = refl; at-700 = refl; polls-700 = refl }
+
+-- the run is not refused, so the answer is its own
+not-refused : (interval size len : ℕ) → size ≡ m95512 .size → len ≡ 300 → pollsFit m95512 interval 5001 ≡ true
+    → driveOutcome m95512 (delivered m95512) size 100 len interval 5001 ≡ outcome.Done
+unfolding pick inRanges each zeros
+not-refused interval size len s e p = rw (s, e, p) refl
+
+answers : (m bytes : List ℕ) (interval : ℕ) → length m ≡ m95512 .size → length bytes ≡ 300 → pollsFit m95512 interval 5001 ≡ true
+    → answerH m bytes interval ≡ runAnswer (runH m bytes interval)
+unfolding driven
+answers m bytes interval s e p =
+    ap (λ (o : Outcome). runReply o (runH m bytes interval)) (not-refused interval (length m) (length bytes) s e p)
+
+pub case-h : (m bytes : List ℕ) → length m ≡ m95512 .size → length bytes ≡ 300 → CaseH m bytes
+case-h m bytes s e =
+    let tabled : bytes ≡ table 300 (λ i. getD bytes i 0) = table-of bytes 0 ∙ ap (λ (n : ℕ). table n (λ i. getD bytes i 0)) e in
+    let x : Computed m bytes = subst (Computed m) (sym tabled) (computed m (λ i. getD bytes i 0)) in
+    record {
+      at-1000 = answers m bytes 1000 s e refl ∙ x .at-1000;
+      at-700 = answers m bytes 700 s e refl ∙ x .at-700;
+      polls-700 = x .polls-700;
+    }

@@ -1,19 +1,35 @@
--- What the driver's theorems speak of: a quotient rounded up, a memory with a run of bytes written over it, and the one that a running cycle leaves.
-use Prim.Native.Nat.{ℕ, _+_, _-_, _/_}
+-- What the driver's theorems speak of: a quotient rounded up, the polls of each page, a memory with a run of bytes
+-- written over it, and the one that a running cycle leaves.
+use Prim.Native.Nat.{ℕ, suc, _+_, _-_, _/_}
 use mathlib.Core.Bool.{_&&_}
-use mathlib.Core.List.{List}
+use mathlib.Core.List.{List, [], _∷_}
 use lib.ListN.{length, getD}
-use lib.Dec.{leb, ltb}
+use lib.Dec.{eqb, leb, ltb}
 use Rattle.laws.specs.Pick.{pick}
 use Rattle.laws.specs.Table.{table}
 use Rattle.codes.specs.Part.{Part}
+use Rattle.codes.specs.Instructions.{rdsrCode, writeCode}
 use Rattle.chip.specs.Records.{running}
 use Rattle.chip.specs.Time.{endedMemory}
 use Rattle.chip.specs.declared.Core.{Core}
+use Rattle.frames.specs.Play.{Act, frame, reading}
 
 -- x divided by y, rounded up
 abbrev pub roundedUp : ℕ → ℕ → ℕ
 roundedUp x y = (x + (y - 1)) / y
+
+-- the RDSR frames of a list before any other frame
+abbrev pub pollsNow : List Act → ℕ
+pollsNow [] = 0
+pollsNow (frame w s n ∷ acts) = pick (eqb (getD s 0 0) rdsrCode) (suc (pollsNow acts)) 0
+pollsNow (reading t ∷ acts) = pollsNow acts
+
+-- for each WRITE of a list, the polls that follow it
+abbrev pub pagePolls : List Act → List ℕ
+pagePolls [] = []
+pagePolls (frame w s n ∷ acts) =
+    pick (eqb (getD s 0 0) writeCode) (pollsNow acts ∷ pagePolls acts) (pagePolls acts)
+pagePolls (reading t ∷ acts) = pagePolls acts
 
 -- the given bytes in the cells from a on, every other cell as it is
 unfoldable pub overwritten : ℕ → List ℕ → List ℕ → List ℕ

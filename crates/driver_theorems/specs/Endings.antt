@@ -1,5 +1,6 @@
--- What the endings say of n page parts from part k on, sent to an idle device: how many pages are done, how many frames were sent, and the record
--- at exit. c₀ is the idle record: its cycle length and its protection are those of the whole run.
+-- What the endings say of n page parts from part k on, sent to an idle device: how many pages are done, how many
+-- frames were sent, and the record at exit. c₀ is the idle record: its cycle length and its protection are those of
+-- the whole run.
 use Prim.Native.Nat.{ℕ, _+_, _-_, _*_, _<_}
 use mathlib.Core.Bool.{true}
 use mathlib.Core.Path.{_≡_}
@@ -14,7 +15,8 @@ use Rattle.driver_theorems.specs.Counts.{roundedUp}
 abbrev pub pageFrames : ℕ → Core → ℕ
 pageFrames interval c₀ = 2 + roundedUp (c₀ .cycle) interval
 
--- all parts done; or the first one's wait used its limit and its cycle still runs; or the next part is protected, and WRDI has cleared WEL
+-- all parts done; or the first one's wait used its limit and its cycle still runs; or the next part is protected, and
+-- WRDI has cleared WEL
 abbrev pub Meaning : Part → ℕ → ℕ → ℕ → ℕ → Core → Ending → ℕ → ℕ → ℕ → ℕ → Core → Type 0
 Meaning P interval limit a len c₀ allDone n k pages frames c = (pages ≡ n) × ((frames ≡ n * pageFrames interval c₀) × (c .left ≡ 0))
 Meaning P interval limit a len c₀ timedOut n k pages frames c =

@@ -3,21 +3,23 @@ use crate::run::CELLS;
 use crate::run::Run;
 use crate::run::count;
 use crate::run::same_at;
+use codes::PAGE;
+use codes::SIZE;
 
-pub type Memory = [u8; 65536];
+pub type Memory = [u8; SIZE];
 
 // What a cell holds at the start: FFh as delivered, or a pattern.
 fn filling(patterned: bool, cell: usize) -> u8 {
     if patterned {
-        let n = cell % 65536;
-        return ((37 * n + 11 * (n / 128)) % 256) as u8;
+        let n = cell % SIZE;
+        return ((37 * n + 11 * (n / PAGE)) % 256) as u8;
     }
     255
 }
 
 pub fn fill(memory: &mut Memory, patterned: bool) {
     let mut i: usize = 0;
-    while i < 65536 {
+    while i < SIZE {
         memory[i] = filling(patterned, i);
         i += 1;
     }
@@ -26,7 +28,7 @@ pub fn fill(memory: &mut Memory, patterned: bool) {
 // The whole memories.
 pub fn memories(frame_side: &mut Memory, pin_side: &mut Memory, run: &mut Run) {
     let mut i: usize = 0;
-    while i < 65536 {
+    while i < SIZE {
         same_at(b"cell", i, frame_side[i], pin_side[i], run);
         i += 1;
     }
@@ -35,7 +37,7 @@ pub fn memories(frame_side: &mut Memory, pin_side: &mut Memory, run: &mut Run) {
 // The cells that are not as the round filled them.
 pub fn changed(memory: &mut Memory, patterned: bool, run: &mut Run) {
     let mut i: usize = 0;
-    while i < 65536 {
+    while i < SIZE {
         if memory[i] != filling(patterned, i) {
             count(CELLS, run);
         }

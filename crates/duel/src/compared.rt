@@ -10,6 +10,7 @@ use chip::Core;
 use chip::Waiting;
 use codes::wide;
 use latch::Latch;
+use latch::ROOM;
 use pins::Device;
 
 // Bit k of a run of bytes, the high bit of the first byte being bit 0; 1 past the end.
@@ -57,7 +58,7 @@ pub fn padding(out: &[u8], bits: usize, run: &mut Run) {
 
 fn latches(frame_side: Latch, pin_side: Latch, run: &mut Run) {
     let mut i: usize = 0;
-    while i < 128 {
+    while i < ROOM {
         same_at(
             b"latched byte",
             i,

@@ -1,5 +1,5 @@
-// A frame drawn as single pin changes: D free between edges, any pin set to the level it has, both modes, pauses that begin and end with C low,
-// C free in a pause and between frames.
+// A frame drawn as single pin changes: D free between edges, any pin set to the level it has, both modes, pauses that
+// begin and end with C low, C free in a pause and between frames.
 use crate::cells::Memory;
 use crate::chance::below;
 use crate::chance::percent;

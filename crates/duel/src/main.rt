@@ -1,6 +1,6 @@
-// The two proved models against each other on random lists of frames, clock readings and levels of Write Protect: the frame model takes whole
-// frames, the pin model the same frames drawn as single pin changes. The gate compares the summary with the file stdout; the first difference
-// would stand before it, with its round and act, and end the run.
+// The two proved models against each other on random lists of frames, clock readings and levels of Write Protect: the
+// frame model takes whole frames, the pin model the same frames drawn as single pin changes. The gate compares the
+// summary with the file stdout; the first difference would stand before it, with its round and act, and end the run.
 use crate::cells::Memory;
 use crate::cells::changed;
 use crate::cells::fill;

@@ -29,6 +29,7 @@ use crate::run::count;
 use crate::run::same;
 use chip::Core;
 use chip::Timed;
+use codes::LONGEST_CYCLE;
 use frames::Framed;
 use frames::frame;
 use pins::Device;
@@ -46,10 +47,10 @@ pub struct Pair {
 // A cycle length: any, often the shortest or the longest.
 fn cycle(run: &mut Run) -> u32 {
     let r = below(10, run);
-    let any = 1 + below(5000, run);
+    let any = 1 + below(LONGEST_CYCLE as u64, run);
     match r {
         0 => 1,
-        1 => 5000,
+        1 => LONGEST_CYCLE,
         _ => any as u32,
     }
 }
@@ -73,7 +74,8 @@ pub fn powered(run: &mut Run) -> Pair {
 
 // ---- clock readings
 
-// How far the clock goes: a part of a cycle, to the end of the one that runs or half of the way, a whole one, one reading back, or anywhere.
+// How far the clock goes: a part of a cycle, to the end of the one that runs or half of the way, a whole one, one
+// reading back, or anywhere.
 fn passing(cycle: u32, left: u32, run: &mut Run) -> u32 {
     let r = below(100, run);
     let any = word(run);
@@ -257,7 +259,8 @@ fn send(pair: Pair, frame_side: &mut Memory, pin_side: &mut Memory, run: &mut Ru
     send_bytes(pair, frame_side, pin_side, &bytes, n, &mut out, run)
 }
 
-// What comes next: a clock reading, every second time where a cycle runs; seldom a level of W; else a frame. Nothing after a difference.
+// What comes next: a clock reading, every second time where a cycle runs; seldom a level of W; else a frame. Nothing
+// after a difference.
 fn kind(running: bool, run: &mut Run) -> u64 {
     if run[DIFFERENCES] > 0 {
         return 3;

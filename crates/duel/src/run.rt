@@ -1,5 +1,5 @@
-// The numbers of a run, in one array that every function is lent: the generator's state, the frame in hand and the counts. Also the first
-// difference, and the summary.
+// The numbers of a run, in one array that every function is lent: the generator's state, the frame in hand and the
+// counts. Also the first difference, and the summary.
 use libc::STDOUT_FILENO;
 
 // the counts, in the summary's order
@@ -40,7 +40,8 @@ pub const DIFFERENCES: usize = 16;
 // the generator's state
 pub const CHANCE: usize = 17;
 
-// of the frame in hand: in how many of a hundred places pin changes stray, and how many leading bits the frame model left undriven
+// of the frame in hand: in how many of a hundred places pin changes stray, and how many leading bits the frame model
+// left undriven
 pub const LIVELY: usize = 18;
 
 pub const UNDRIVEN: usize = 19;

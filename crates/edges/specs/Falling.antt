@@ -18,7 +18,8 @@ use Rattle.edges.specs.declared.Level.{Level}
 use Rattle.edges.specs.declared.Level.the-variants.{Zero, One, Z}
 use Rattle.edges.specs.Frames.{withOut, withAddress}
 
--- the next data byte, of which bit 7 shows: the status as it is now; the cell at the address, which then goes up and rolls over
+-- the next data byte, of which bit 7 shows: the status as it is now; the cell at the address, which then goes up and
+-- rolls over
 abbrev pub loading : Part → List ℕ → Core → Instruction → Frame → Frame
 loading P m c Wren f = f
 loading P m c Wrdi f = f

@@ -1,4 +1,5 @@
--- The frame in hand: every way in which one is made of another. But for a list's own parts (lists/Ways), no such record is written out anywhere else.
+-- The frame in hand: every way in which one is made of another. But for a list's own parts (lists/Ways), no such
+-- record is written out anywhere else.
 use Prim.Native.Nat.{ℕ, _+_, min}
 use mathlib.Core.Bool.{Bool}
 use Rattle.codes.specs.Part.{Part}

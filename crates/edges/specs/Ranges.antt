@@ -24,7 +24,8 @@ countsFit P f = leb (f .taken) (P .most) && partFits (f .bits) (f .part)
 abbrev pub codeFits : Frame → Bool
 codeFits f = pick (eqb (f .taken) 0) (eqb (f .code) 0 && eqb (f .ran) 0) (leb (f .ran) 1)
 
--- the address of READ and WRITE: below the memory's size, with the bytes that are not yet taken at 0; of the others it is 0
+-- the address of READ and WRITE: below the memory's size, with the bytes that are not yet taken at 0; of the others it
+-- is 0
 abbrev pub addressFits : Part → Instruction → ℕ → ℕ → Bool
 addressFits P Wren n a = eqb a 0
 addressFits P Wrdi n a = eqb a 0

@@ -1,5 +1,6 @@
-// The frame in hand of the pin model, by the edges of its clock: what a counted rising edge takes, what an unheld falling edge shows, and the
-// ranges of its fields. Its calls are inner ones, each total; the public ones, with their refusals, are those of pins and lists.
+// The frame in hand of the pin model, by the edges of its clock: what a counted rising edge takes, what an unheld
+// falling edge shows, and the ranges of its fields. Its calls are inner ones, each total; the public ones, with their
+// refusals, are those of pins and lists.
 use latch::Latch;
 
 mod falling;

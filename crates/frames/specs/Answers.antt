@@ -28,7 +28,8 @@ bitsFit len n = pick (eqb len 0) (eqb n 0) (leb (8 * len - 7) n && leb n (8 * le
 abbrev pub longestFrame : Part → ℕ
 longestFrame P = P .size + 4
 
--- what stands for refusals 1, 2, 3, 4, 5, in that order, and for none; size is the memory's length, len the slice's, room the output's
+-- what stands for refusals 1, 2, 3, 4, 5, in that order, and for none; size is the memory's length, len the slice's,
+-- room the output's
 abbrev pub frameChoice : {A : Type 0} → Part → Core → ℕ → ℕ → ℕ → ℕ → A → A → A → A → A → A → A
 frameChoice P c size len n room one two three four five done =
     pick (eqb size (P .size))

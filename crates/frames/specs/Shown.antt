@@ -12,8 +12,8 @@ use Rattle.codes.specs.declared.Instruction.{Instruction}
 use Rattle.codes.specs.declared.Instruction.the-variants.{Wren, Wrdi, Rdsr, Wrsr, Read, Write, Silence}
 use Rattle.frames.specs.Bytes.{instruction, address}
 
--- what stands over byte j: where Q is driven, the status sampled for data byte j − 1, or the cells from the address up, rolling over; undriven
--- bits are written as 1
+-- what stands over byte j: where Q is driven, the status sampled for data byte j − 1, or the cells from the address
+-- up, rolling over; undriven bits are written as 1
 abbrev pub byteOut : Part → Instruction → Bool → (ℕ → ℕ) → List ℕ → ℕ → ℕ → ℕ
 byteOut P Wren ran status m a j = 255
 byteOut P Wrdi ran status m a j = 255

@@ -1,6 +1,7 @@
 // The frame model of the M95512: it takes whole frames.
 //
-// Public calls, each for every input: frame, here, and chip's power_up and clock_reading, whose record this model holds.
+// Public calls, each for every input: frame, here, and chip's power_up and clock_reading, whose record this model
+// holds.
 ghost use mathlib.Core.Path.{_≡_};
 ghost use lib.ListN.{length};
 ghost use Rattle.codes.specs.Part.{m95512};
@@ -30,8 +31,9 @@ pub struct Framed {
     pub core: Core,
 }
 
-// A frame for every record, memory, level of W, slice, bit count and output. Refusals 1, 2, 3, 4 and 5 in that order leave the record and the
-// output as they were; else the output has Q as it stands just before each counted edge, undriven bits and bits past the count at 1.
+// A frame for every record, memory, level of W, slice, bit count and output. Refusals 1, 2, 3, 4 and 5 in that order
+// leave the record and the output as they were; else the output has Q as it stands just before each counted edge,
+// undriven bits and bits past the count at 1.
 pub fn frame(
     core: Core,
     memory: &[u8],
@@ -40,10 +42,16 @@ pub fn frame(
     bits: usize,
     out: &mut [u8],
 ) -> Framed
-    ensures { λ r. ⌜ r ≡ framed m95512 core (now (memory .entry)) w (now (bytes .entry)) bits (length (now (out .entry))) ⌝ }
-    ensures { λ r. ⌜ frameReplyNumber (r .answer) ≡ frameNumber m95512 core (length (now (memory .entry))) (length (now (bytes .entry))) bits (length (now (out .entry))) ⌝ }
-    ensures { λ r. ⌜ frameReplyUndriven (r .answer) ≡ frameUndriven m95512 core (length (now (memory .entry))) (now (bytes .entry)) bits (length (now (out .entry))) ⌝ }
-    ensures { λ _. ⌜ now (out .exit) ≡ framedOutput m95512 core (now (memory .entry)) (now (bytes .entry)) bits (now (out .entry)) ⌝ }
+    ensures { λ r. ⌜ r
+        ≡ framed m95512 core (now (memory .entry)) w (now (bytes .entry)) bits (length (now (out .entry))) ⌝ }
+    ensures { λ r. ⌜ frameReplyNumber (r .answer)
+        ≡ frameNumber m95512 core (length (now (memory .entry))) (length (now (bytes .entry))) bits
+        (length (now (out .entry))) ⌝ }
+    ensures { λ r. ⌜ frameReplyUndriven (r .answer)
+        ≡ frameUndriven m95512 core (length (now (memory .entry))) (now (bytes .entry)) bits
+        (length (now (out .entry))) ⌝ }
+    ensures { λ _. ⌜ now (out .exit)
+        ≡ framedOutput m95512 core (now (memory .entry)) (now (bytes .entry)) bits (now (out .entry)) ⌝ }
 {
     match refused::outcome(core, memory.len(), bytes.len(), bits, out.len()) {
         Outcome::Done => {

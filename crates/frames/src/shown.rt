@@ -64,7 +64,8 @@ fn show_cells(memory: &[u8], from: usize, out: &mut [u8])
     requires { ⌜ length (now memory) ≡ m95512 .size ⌝ }
     requires { ⌜ from < m95512 .size ⌝ }
     requires { ⌜ length (now out) ≤ m95512 .size + 1 ⌝ }
-    ensures { λ _. ⌜ now (out .exit) ≡ table (length (now (out .entry))) (λ d. getD (now (memory .entry)) ((from + d) % m95512 .size) 0) ⌝ }
+    ensures { λ _. ⌜ now (out .exit)
+        ≡ table (length (now (out .entry))) (λ d. getD (now (memory .entry)) ((from + d) % m95512 .size) 0) ⌝ }
 {
     let n = out.len();
     let run = SIZE - from;
@@ -93,7 +94,9 @@ fn show_read(ran: bool, memory: &[u8], from: usize, out: &mut [u8])
     requires { ⌜ length (now memory) ≡ m95512 .size ⌝ }
     requires { ⌜ from < m95512 .size ⌝ }
     requires { ⌜ length (now out) ≤ longestFrame m95512 ⌝ }
-    ensures { λ _. ⌜ now (out .exit) ≡ table (length (now (out .entry))) (λ j. pick (outputs m95512 Read j ran) (getD (now (memory .entry)) ((from + (j - (m95512 .addressBytes + 1))) % m95512 .size) 0) 255) ⌝ }
+    ensures { λ _. ⌜ now (out .exit)
+        ≡ table (length (now (out .entry))) (λ j. pick (outputs m95512 Read j ran)
+        (getD (now (memory .entry)) ((from + (j - (m95512 .addressBytes + 1))) % m95512 .size) 0) 255) ⌝ }
 {
     let n = out.len();
     if ran {
@@ -113,7 +116,8 @@ fn show_bytes(i: Instruction, ran: bool, status: u8, memory: &[u8], from: usize,
     requires { ⌜ length (now memory) ≡ m95512 .size ⌝ }
     requires { ⌜ from < m95512 .size ⌝ }
     requires { ⌜ length (now out) ≤ longestFrame m95512 ⌝ }
-    ensures { λ _. ⌜ now (out .exit) ≡ table (length (now (out .entry))) (byteOut m95512 i ran (λ j. status) (now (memory .entry)) from) ⌝ }
+    ensures { λ _. ⌜ now (out .exit)
+        ≡ table (length (now (out .entry))) (byteOut m95512 i ran (λ j. status) (now (memory .entry)) from) ⌝ }
 {
     match i {
         Instruction::Wren => fill(out, 255),
@@ -137,7 +141,9 @@ fn pad_byte(byte: u8, unused: u8) -> u8
 // Bits past the bit count are in the last byte.
 fn pad(out: &mut [u8], unused: u8)
     requires { ⌜ unused < 8 ⌝ }
-    ensures { λ _. ⌜ now (out .exit) ≡ table (length (now (out .entry))) (λ j. pick (eqb (j + 1) (length (now (out .entry)))) (padded unused (getD (now (out .entry)) j 0)) (getD (now (out .entry)) j 0)) ⌝ }
+    ensures { λ _. ⌜ now (out .exit)
+        ≡ table (length (now (out .entry))) (λ j. pick (eqb (j + 1) (length (now (out .entry))))
+        (padded unused (getD (now (out .entry)) j 0)) (getD (now (out .entry)) j 0)) ⌝ }
 {
     let n = out.len();
     if n == 0 {
@@ -162,7 +168,8 @@ pub(crate) fn show(
     requires { ⌜ bitsFit (length (now bytes)) bits ≡ true ⌝ }
     requires { ⌜ length (now out) ≡ length (now bytes) ⌝ }
     requires { ⌜ i ≡ instruction m95512 (now bytes) ⌝ }
-    ensures { λ _. ⌜ now (out .exit) ≡ output m95512 ran (λ j. status) (now (memory .entry)) (now (bytes .entry)) bits ⌝ }
+    ensures { λ _. ⌜ now (out .exit)
+        ≡ output m95512 ran (λ j. status) (now (memory .entry)) (now (bytes .entry)) bits ⌝ }
 {
     show_bytes(i, ran, status, memory, address_of(bytes), out);
     pad(out, (8 * bytes.len() - bits) as u8);

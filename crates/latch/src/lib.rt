@@ -1,4 +1,5 @@
-// A page write: up to a page of latched bytes with a mark on each addressed one, its ranges, and the page that it is stored in.
+// A page write: up to a page of latched bytes with a mark on each addressed one, its ranges, and the page that it is
+// stored in.
 //
 // Every public function is an inner call of the models: total, and exactly its definition.
 mod pages;

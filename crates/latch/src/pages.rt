@@ -44,7 +44,8 @@ impl Latch {
         cells_fit(may, &bytes, &marks)
     }
 
-    // Lays the write over page number `page` of the memory: that page's bytes alone are lent on. A page that the memory lacks is not stored.
+    // Lays the write over page number `page` of the memory: that page's bytes alone are lent on. A page that the
+    // memory lacks is not stored.
     pub fn store(self, page: u32, memory: &mut [u8])
         ensures { λ _. ⌜ now (memory .exit) ≡ stored m95512 page self (now (memory .entry)) ⌝ }
     {
@@ -58,7 +59,8 @@ impl Latch {
     }
 }
 
-// One more byte latched where it stands, for the cell of its page that an address is in; the latest byte for a cell wins.
+// One more byte latched where it stands, for the cell of its page that an address is in; the latest byte for a cell
+// wins.
 pub fn latch_byte(bytes: &mut [u8; ROOM], marks: &mut [u8; ROOM], address: usize, byte: u8)
     ensures { λ _. ⌜ now (bytes .exit) ≡ set (now (bytes .entry)) (address % m95512 .page) byte ⌝ }
     ensures { λ _. ⌜ now (marks .exit) ≡ set (now (marks .entry)) (address % m95512 .page) 1 ⌝ }
@@ -102,7 +104,8 @@ fn laid_byte(byte: u8, mark: u8, old: u8) -> u8
 // The marked bytes go into the page; its other cells stay.
 fn store_page<'a>(page: &mut [u8], bytes: &'a [u8; ROOM], marks: &'a [u8; ROOM])
     requires { ⌜ length (now page) ≡ m95512 .page ⌝ }
-    ensures { λ _. ⌜ now (page .exit) ≡ laid m95512 (record { bytes = now (bytes .entry); marks = now (marks .entry) }) (now (page .entry)) ⌝ }
+    ensures { λ _. ⌜ now (page .exit)
+        ≡ laid m95512 (record { bytes = now (bytes .entry); marks = now (marks .entry) }) (now (page .entry)) ⌝ }
 {
     for i in 0..PAGE {
         page[i] = laid_byte(bytes[i], marks[i], page[i]);

@@ -1,4 +1,5 @@
--- Document 01's "Trace text", line by line: what a line says, its LF included. Bytes are their ASCII numbers: 9 is the tab, 10 is LF, 48 to 57 are the digits.
+-- Document 01's "Trace text", line by line: what a line says, its LF included. Bytes are their ASCII numbers: 9 is the
+-- tab, 10 is LF, 48 to 57 are the digits.
 use Prim.Native.Nat.{ℕ, _+_, _*_, _-_, _^_}
 use mathlib.Core.Bool.{Bool, true, false, _&&_}
 use mathlib.Core.List.{List, [], _∷_}

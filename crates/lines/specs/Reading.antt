@@ -1,4 +1,5 @@
--- A text byte by byte: the line in hand after each, and the events of the lines that end. What it has to do with whole lines is a theorem of `trace` (its proofs/Whole.antt).
+-- A text byte by byte: the line in hand after each, and the events of the lines that end. What it has to do with whole
+-- lines is a theorem of `trace` (its proofs/Whole.antt).
 use Prim.Native.Nat.{ℕ, _+_, _*_, _-_, _^_, min}
 use mathlib.Core.Bool.{Bool, _&&_, _||_}
 use mathlib.Core.List.{List, [], _∷_, _++_}

@@ -1,5 +1,5 @@
--- What a list of events does at each: most events move a few numbers of the device, and these are moved where they stand.
--- No public promise speaks of it: a list is promised by the single events (`played`).
+-- What a list of events does at each: most events move a few numbers of the device, and these are moved where they
+-- stand. No public promise speaks of it: a list is promised by the single events (`played`).
 use Prim.Native.Nat.{ℕ}
 use mathlib.Core.Bool.{Bool, true, false}
 use mathlib.Core.List.{List}

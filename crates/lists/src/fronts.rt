@@ -1,5 +1,6 @@
-// The front of a device: all of it but the bytes it latches and its core. A list of events holds the front apart, and most events move a few
-// numbers of it where they stand; the record of some 560 bytes is put together only for the others.
+// The front of a device: all of it but the bytes it latches and its core. A list of events holds the front apart, and
+// most events move a few numbers of it where they stand; the record of some 560 bytes is put together only for the
+// others.
 ghost use mathlib.Core.Path.{_≡_};
 ghost use mathlib.Core.List.{List};
 ghost use mathlib.Core.Bool.{true, false};
@@ -116,7 +117,8 @@ impl Front {
     // A rising edge: not counted, one more bit, or a byte that nothing keeps.
     fn rising(self) -> Way
         requires { ⌜ (self .c ≡ 1 → ⊥) ⌝ }
-        ensures { λ r. ⌜ ((m : List ℕ) (l : Latch) (k : Core) → afterWay m95512 m (C true) r (whole self l k) ≡ onC m95512 true m (whole self l k)) ⌝ }
+        ensures { λ r. ⌜ ((m : List ℕ) (l : Latch) (k : Core) → afterWay m95512 m (C true) r (whole self l k) ≡ onC
+            m95512 true m (whole self l k)) ⌝ }
     {
         let taken = self.taken;
         let bits = self.bits;
@@ -151,7 +153,8 @@ impl Front {
     // A falling edge: the same bit, the next bit, or the next byte of a READ.
     fn falling(self, memory: &[u8]) -> Way
         requires { ⌜ (self .c ≡ 0 → ⊥) ⌝ }
-        ensures { λ r. ⌜ ((l : Latch) (k : Core) → afterWay m95512 (now (memory .entry)) (C false) r (whole self l k) ≡ onC m95512 false (now (memory .entry)) (whole self l k)) ⌝ }
+        ensures { λ r. ⌜ ((l : Latch) (k : Core) → afterWay m95512 (now (memory .entry)) (C false) r (whole self l k)
+            ≡ onC m95512 false (now (memory .entry)) (whole self l k)) ⌝ }
     {
         let counted = !(self.s == 1) & !(self.held == 1);
         let i = codes::decode(self.code);
@@ -188,7 +191,8 @@ impl Front {
     }
 
     fn clocked(self, level: bool, memory: &[u8]) -> Way
-        ensures { λ r. ⌜ ((l : Latch) (k : Core) → afterWay m95512 (now (memory .entry)) (C level) r (whole self l k) ≡ onC m95512 level (now (memory .entry)) (whole self l k)) ⌝ }
+        ensures { λ r. ⌜ ((l : Latch) (k : Core) → afterWay m95512 (now (memory .entry)) (C level) r (whole self l k)
+            ≡ onC m95512 level (now (memory .entry)) (whole self l k)) ⌝ }
     {
         if self.c == bit(level) {
             return Way::Whole;
@@ -201,7 +205,8 @@ impl Front {
 
     // Held keeps its value while C is high.
     fn pausing(self, level: bool) -> Way
-        ensures { λ r. ⌜ ((m : List ℕ) (l : Latch) (k : Core) → afterWay m95512 m (Hold level) r (whole self l k) ≡ onHold level (whole self l k)) ⌝ }
+        ensures { λ r. ⌜ ((m : List ℕ) (l : Latch) (k : Core) → afterWay m95512 m (Hold level) r (whole self l k) ≡
+            onHold level (whole self l k)) ⌝ }
     {
         let hold = bit(level);
         if self.c == 1 {
@@ -221,8 +226,10 @@ impl Front {
 
     // What an event moves, if it is one of those that move little.
     pub(crate) fn way_for(self, event: Event, memory: &[u8]) -> Way
-        ensures { λ r. ⌜ ((l : Latch) (k : Core) → afterWay m95512 (now (memory .entry)) event r (whole self l k) ≡ stepped m95512 (now (memory .entry)) event (whole self l k)) ⌝ }
-        ensures { λ r. ⌜ ((l : Latch) (k : Core) (m : List ℕ) → afterWayMemory m95512 event r (whole self l k) m ≡ steppedMemory m95512 event (whole self l k) m) ⌝ }
+        ensures { λ r. ⌜ ((l : Latch) (k : Core) → afterWay m95512 (now (memory .entry)) event r (whole self l k) ≡
+            stepped m95512 (now (memory .entry)) event (whole self l k)) ⌝ }
+        ensures { λ r. ⌜ ((l : Latch) (k : Core) (m : List ℕ) → afterWayMemory m95512 event r (whole self l k) m ≡
+            steppedMemory m95512 event (whole self l k) m) ⌝ }
     {
         match event {
             Event::S(_) => Way::Whole,
@@ -243,7 +250,8 @@ impl Front {
 
     // The front after a way, which is not the whole event.
     pub(crate) fn moved(mut self, way: Way) -> Front
-        ensures { λ r. ⌜ ((m : List ℕ) (e : Event) (l : Latch) (k : Core) → isWhole way ≡ false → whole r l k ≡ afterWay m95512 m e way (whole self l k)) ⌝ }
+        ensures { λ r. ⌜ ((m : List ℕ) (e : Event) (l : Latch) (k : Core) → isWhole way ≡ false → whole r l k ≡
+            afterWay m95512 m e way (whole self l k)) ⌝ }
     {
         match way {
             Way::Data(level) => {

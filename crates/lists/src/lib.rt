@@ -25,8 +25,8 @@ pub(crate) struct Front {
     pub address: u32,
 }
 
-// What an event moves of the front: D; W or HOLD, and held; what a rising edge moves, beside C; what a falling edge moves, beside C. `Whole` is
-// an event that moves more than this.
+// What an event moves of the front: D; W or HOLD, and held; what a rising edge moves, beside C; what a falling edge
+// moves, beside C. `Whole` is an event that moves more than this.
 pub(crate) enum Way {
     Data(u8),
     Set {

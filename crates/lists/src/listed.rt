@@ -15,7 +15,8 @@ use pins::Device;
 use pins::Event;
 use pins::Stepped;
 
-// Every number stands for one event: the low 32 bits are the reading, or the level in the lowest; the three above them are the kind.
+// Every number stands for one event: the low 32 bits are the reading, or the level in the lowest; the three above them
+// are the kind.
 fn event_of(number: u64) -> Event
     ensures { λ r. ⌜ r ≡ eventOf number ⌝ }
 {
@@ -31,11 +32,13 @@ fn event_of(number: u64) -> Event
     }
 }
 
-// The events one after another, and Q after each. The front is held apart, so that most events move numbers and copy no record.
+// The events one after another, and Q after each. The front is held apart, so that most events move numbers and copy
+// no record.
 fn play_all(device: Device, memory: &mut [u8], events: &[u64], out: &mut [u8]) -> Device
     requires { ⌜ length (now out) ≡ length (now events) ⌝ }
     ensures { λ r. ⌜ r ≡ played m95512 (now (events .entry)) (pinBench device (now (memory .entry))) .device ⌝ }
-    ensures { λ _. ⌜ now (memory .exit) ≡ played m95512 (now (events .entry)) (pinBench device (now (memory .entry))) .memory ⌝ }
+    ensures { λ _. ⌜ now (memory .exit)
+        ≡ played m95512 (now (events .entry)) (pinBench device (now (memory .entry))) .memory ⌝ }
     ensures { λ _. ⌜ now (out .exit) ≡ playedQ m95512 (now (events .entry)) (pinBench device (now (memory .entry))) ⌝ }
 {
     let frame = device.frame;

@@ -21,6 +21,18 @@ use Rattle.pins.proofs.Device.status.Kinds as status
 use Rattle.pins.proofs.Device.status.Reads as status-reads
 use Rattle.pins.proofs.Device.in_ranges.Kinds as in-ranges
 use Rattle.pins.proofs.Device.in_ranges.Reads as in-ranges-reads
+use Rattle.pins.proofs.QAnswer.number.Kinds as qanswer-number
+use Rattle.pins.proofs.QAnswer.number.Reads as qanswer-number-reads
+use Rattle.pins.proofs.QAnswer.value.Kinds as qanswer-value
+use Rattle.pins.proofs.QAnswer.value.Reads as qanswer-value-reads
+use Rattle.pins.proofs.StatusAnswer.number.Kinds as statusanswer-number
+use Rattle.pins.proofs.StatusAnswer.number.Reads as statusanswer-number-reads
+use Rattle.pins.proofs.StatusAnswer.value.Kinds as statusanswer-value
+use Rattle.pins.proofs.StatusAnswer.value.Reads as statusanswer-value-reads
+use Rattle.pins.proofs.Device.stepped.Kinds as device-stepped
+use Rattle.pins.proofs.Device.stepped.Reads as device-stepped-reads
+use Rattle.pins.proofs.Device.resting.Kinds as device-resting
+use Rattle.pins.proofs.Device.resting.Reads as device-resting-reads
 
 pub power-up-one : OneResult power-up.ps power-up.r power-up-reads.Post
 power-up-one κs a z z′ e e′ p q = same (p .0) (q .0)
@@ -54,3 +66,26 @@ status-one κs a z z′ e e′ p q = same (p .0) (q .0)
 
 pub in-ranges-one : OneResult in-ranges.ps in-ranges.r in-ranges-reads.Post
 in-ranges-one κs a z z′ e e′ p q = same p q
+
+-- ---- inner calls
+
+pub qanswer-number-one : OneResult qanswer-number.ps qanswer-number.r qanswer-number-reads.Post
+qanswer-number-one κs a z z′ e e′ p q = same p q
+
+pub qanswer-value-one : OneResult qanswer-value.ps qanswer-value.r qanswer-value-reads.Post
+qanswer-value-one κs a z z′ e e′ p q = same p q
+
+pub statusanswer-number-one : OneResult statusanswer-number.ps statusanswer-number.r statusanswer-number-reads.Post
+statusanswer-number-one κs a z z′ e e′ p q = same p q
+
+pub statusanswer-value-one : OneResult statusanswer-value.ps statusanswer-value.r statusanswer-value-reads.Post
+statusanswer-value-one κs a z z′ e e′ p q = same p q
+
+pub device-stepped-one : OneResult device-stepped.ps device-stepped.r device-stepped-reads.Post
+device-stepped-one κs a z z′ e e′ p q = same (p .0) (q .0)
+
+pub device-stepped-memory : OneExit device-stepped.ps device-stepped.r device-stepped-reads.Post (λ κs e. now (e .1 .1 .0))
+device-stepped-memory κs a z z′ e e′ p q = same (p .1) (q .1)
+
+pub device-resting-one : OneResult device-resting.ps device-resting.r device-resting-reads.Post
+device-resting-one κs a z z′ e e′ p q = same p q

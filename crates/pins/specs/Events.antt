@@ -1,4 +1,5 @@
--- The events: a device takes one and hands back the device that follows. Setting a pin to the level it has changes nothing.
+-- The events: a device takes one and hands back the device that follows. Setting a pin to the level it has changes
+-- nothing.
 use Prim.Native.Nat.{ℕ, _+_, _*_, _/_, _%_, _^_}
 use mathlib.Core.Bool.{Bool, false, not, _&&_}
 use mathlib.Core.List.{List}
@@ -29,7 +30,8 @@ abbrev pub selecting : Part → Device → Device
 selecting P x =
     withPins (withS 0 (x .pins)) (withHeld (not (on (x .pins .c)) && not (on (x .pins .hold))) (withFrame (noFrame P) x))
 
--- what deselect decides, of the frame as it stands: the count of its bits, "no cycle" at the eighth edge, and WEL, W and held as they are now
+-- what deselect decides, of the frame as it stands: the count of its bits, "no cycle" at the eighth edge, and WEL, W
+-- and held as they are now
 abbrev pub judgedNow : Part → Device → Verdict
 judgedNow P x =
     verdict P (decode P (x .frame .code)) (8 * x .frame .taken + x .frame .bits) (on (x .frame .ran)) (on (x .core .wel))
@@ -107,7 +109,8 @@ steppedMemory P (Time t) x m = timedMemory P t (x .core) m
 
 -- ---- a list of events as numbers: every number stands for one
 
--- the low 32 bits are the reading, or the level in the lowest; the three above them are the kind: S, C, D, W, HOLD, and from 5 on a clock reading
+-- the low 32 bits are the reading, or the level in the lowest; the three above them are the kind: S, C, D, W, HOLD,
+-- and from 5 on a clock reading
 abbrev pub eventOf : ℕ → Event
 eventOf e =
     let kind = e / 2 ^ 32 % 8 in

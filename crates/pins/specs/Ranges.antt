@@ -16,11 +16,13 @@ use Rattle.pins.specs.Devices.{selected}
 abbrev pub pinsFit : Pins → Bool
 pinsFit p = leb (p .s) 1 && leb (p .c) 1 && leb (p .d) 1 && leb (p .w) 1 && leb (p .hold) 1
 
--- not selected means not held; selected with C low, held is "HOLD is low", so that exactly one of the two is 1; with C high it is 0 or 1
+-- not selected means not held; selected with C low, held is "HOLD is low", so that exactly one of the two is 1; with C
+-- high it is 0 or 1
 abbrev pub heldFits : Pins → ℕ → Bool
 heldFits p held = pick (on (p .s)) (eqb held 0) (pick (on (p .c)) (leb held 1) (eqb (held + p .hold) 1))
 
--- not selected means an empty frame part: before its first whole byte a frame's code is 00h, which is no instruction, so every other field is 0
+-- not selected means an empty frame part: before its first whole byte a frame's code is 00h, which is no instruction,
+-- so every other field is 0
 abbrev pub emptyFits : Device → Bool
 emptyFits x = selected x || eqb (x .frame .taken) 0 && eqb (x .frame .bits) 0
 

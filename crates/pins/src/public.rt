@@ -1,4 +1,5 @@
-// The public calls, for every input: refusal 1 where memory is lent, then 2, both with everything as it was; else the event.
+// The public calls, for every input: refusal 1 where memory is lent, then 2, both with everything as it was; else the
+// event.
 ghost use mathlib.Core.Path.{_≡_};
 ghost use Rattle.codes.specs.Part.{m95512};
 ghost use Rattle.chip.specs.Power.{powerUpNumber};
@@ -94,7 +95,9 @@ impl Device {
 
     // C to a level, with the memory that a READ shows. 1 for a memory of another length, then 2.
     pub fn set_c(self, level: bool, memory: &[u8]) -> Stepped
-        ensures { λ r. ⌜ r ≡ answer (memoryOutcome m95512 self (now (memory .entry))) (onC m95512 level (now (memory .entry)) self) self ⌝ }
+        ensures { λ r. ⌜ r
+            ≡ answer (memoryOutcome m95512 self (now (memory .entry))) (onC m95512 level (now (memory .entry)) self)
+            self ⌝ }
         ensures { λ r. ⌜ number (r .outcome) ≡ memoryNumber m95512 self (now (memory .entry)) ⌝ }
     {
         if memory.len() == SIZE {
@@ -108,9 +111,12 @@ impl Device {
 
     // A clock reading, with the memory that the end of a cycle changes. 1 for a memory of another length, then 2.
     pub fn read_clock(self, reading: u32, memory: &mut [u8]) -> Stepped
-        ensures { λ r. ⌜ r ≡ answer (memoryOutcome m95512 self (now (memory .entry))) (onTime m95512 reading self) self ⌝ }
+        ensures { λ r. ⌜ r
+            ≡ answer (memoryOutcome m95512 self (now (memory .entry))) (onTime m95512 reading self) self ⌝ }
         ensures { λ r. ⌜ number (r .outcome) ≡ memoryNumber m95512 self (now (memory .entry)) ⌝ }
-        ensures { λ _. ⌜ now (memory .exit) ≡ answerMemory (memoryOutcome m95512 self (now (memory .entry))) (timedMemory m95512 reading (self .core) (now (memory .entry))) (now (memory .entry)) ⌝ }
+        ensures { λ _. ⌜ now (memory .exit)
+            ≡ answerMemory (memoryOutcome m95512 self (now (memory .entry)))
+            (timedMemory m95512 reading (self .core) (now (memory .entry))) (now (memory .entry)) ⌝ }
     {
         if memory.len() == SIZE {
             if self.in_ranges() {

@@ -63,7 +63,7 @@ in-offset P p i e =
     (omega arith, from)
 
 module _ (P : Part) (i : ℕ) where
-  unmarked-frame : (l : Latch) (p : ℕ) → latchFits P false l ≡ true → (inPage P p i && marked l (i - p * P .page)) ≡ false
+  pub unmarked-frame : (l : Latch) (p : ℕ) → latchFits P false l ≡ true → (inPage P p i && marked l (i - p * P .page)) ≡ false
   unmarked-frame l p e = go (inPage P p i) refl
     where
       go : (b : Bool) → inPage P p i ≡ b → (inPage P p i && marked l (i - p * P .page)) ≡ false
@@ -99,7 +99,7 @@ module _ (P : Part) (i : ℕ) where
   -- ---- the frame after each edge
 
   module _ (sound : Sound P) where
-    taking-frame : (j : Instruction) (f : Frame) (n v : ℕ) → latchFits P (latches P j n) (f .latch) ≡ true
+    pub taking-frame : (j : Instruction) (f : Frame) (n v : ℕ) → latchFits P (latches P j n) (f .latch) ≡ true
         → (isWrite j && not (leb n (P .addressBytes)) && eqb (f .address) i) ≡ false → inFrame P f i ≡ false → inFrame P (taking P j n v f) i ≡ false
     taking-frame Wren f n v fits none h = h
     taking-frame Wrdi f n v fits none h = h
@@ -125,7 +125,7 @@ module _ (P : Part) (i : ℕ) where
         (λ z. taking-frame (decode P (f .code)) (withByte P f) (f .taken) (shiftedIn (f .part) d) (t .fields .latch)
         (and-other (not (ltb (f .bits) 7)) (dataFor P i f) none (ap not e)) h))
 
-  loading-frame : (m : List ℕ) (c : Core) (f : Frame) (j : Instruction) → latchFits P (latches P j (f .taken)) (f .latch) ≡ true → inFrame P f i ≡ false
+  pub loading-frame : (m : List ℕ) (c : Core) (f : Frame) (j : Instruction) → latchFits P (latches P j (f .taken)) (f .latch) ≡ true → inFrame P f i ≡ false
       → inFrame P (loading P m c j f) i ≡ false
   loading-frame m c f Wren fits h = h
   loading-frame m c f Wrdi fits h = h

@@ -54,7 +54,7 @@ empty-frame P =
     }
 
 -- the fields of a frame with no whole byte are those of silence
-silent : (P : Part) (f : Frame) → f .taken ≡ 0 → FrameFits P f → FieldsFit P Silence f
+pub silent : (P : Part) (f : Frame) → f .taken ≡ 0 → FrameFits P f → FieldsFit P Silence f
 silent P f z t =
     let none : f .code ≡ 0 = eqb-true _ _ (and-left (eqb (f .code) 0) (eqb (f .ran) 0) (sym (at-yes _ _ (eq-eqb _ _ z)) ∙ t .code)) in
     subst (λ (i : Instruction). FieldsFit P i f) (ap (decode P) none ∙ no-code P) (t .fields)

@@ -13,3 +13,5 @@ pub mod Deciding
 pub mod Fits
 pub mod CellRule
 pub mod Addressed
+pub mod Accepted
+pub mod Shown

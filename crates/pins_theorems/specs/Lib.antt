@@ -1,2 +1,3 @@
 -- What the theorems on the pin model speak of, beside its definitions.
 pub mod Cells
+pub mod Hands

@@ -1,4 +1,5 @@
-// Plays a trace: the text from standard input, or from the file that the first argument names, and its output to standard output.
+// Plays a trace: the text from standard input, or from the file that the first argument names, and its output to
+// standard output. `--help` says how.
 //
 // The text is read in chunks of 6,551 bytes, so that what a chunk puts out fits 65,536; nothing else is kept of it.
 ghost use mathlib.Core.Path.{_≡_};
@@ -102,6 +103,29 @@ fn play_file(path: &[u8]) {
     libc::close(fd);
 }
 
+// The word is --help.
+fn asks_help(word: &[u8]) -> bool {
+    if word.len() != 6 {
+        return false;
+    }
+    let dashes = (word[0] == b'-') & (word[1] == b'-');
+    let he = (word[2] == b'h') & (word[3] == b'e');
+    let lp = (word[4] == b'l') & (word[5] == b'p');
+    dashes & he & lp
+}
+
+fn help() {
+    put(
+        b"play [FILE]: plays a trace on the pin model of the M95512, from FILE or from standard input.\n",
+    );
+    put(
+        b"A line is a name, a tab and a value: S, C, D, W or H with 0 or 1, T with a clock reading.\n",
+    );
+    put(b"The device starts as delivered, cycle length 5000 microseconds, reading 0.\n");
+    put(b"Put out are a header, then for each line its number and Q after it: 0, 1 or Z.\n");
+    put(b"A bad line is put out as bad, and ends it.\n");
+}
+
 fn main() {
     if os::arg_count() < 2 {
         play(STDIN_FILENO, b"standard input");
@@ -111,6 +135,10 @@ fn main() {
     let n = os::arg(1, &mut path);
     if os::errno() != 0 {
         os::fail(b"the file name");
+        return;
+    }
+    if asks_help(&path[..n]) {
+        help();
         return;
     }
     play_file(&path[..n]);

@@ -1,8 +1,9 @@
-// The split of a run of bytes into page parts, for the bench's C program and the driver: how many parts a run has, and where part k, from 0,
-// starts and how long it is. A page write stores into one page, so a run that crosses an edge has to go as several.
+// The split of a run of bytes into page parts, for the bench's C program and the driver: how many parts a run has, and
+// where part k, from 0, starts and how long it is. A page write stores into one page, so a run that crosses an edge
+// has to go as several.
 //
-// Public calls, each for any three numbers: the refusal, the number of parts, the address and the length of one part. The refusal is 7
-// where the run leaves the memory or has no such part, and the other three are 0 there.
+// Public calls, each for any three numbers: the refusal, the number of parts, the address and the length of one part.
+// The refusal is 7 where the run leaves the memory or has no such part, and the other three are 0 there.
 ghost use mathlib.Core.Path.{_≡_};
 ghost use Prim.Native.Nat.{_+_, _≤_};
 ghost use Rattle.codes.specs.Part.{m95512};
@@ -13,8 +14,8 @@ const SIZE: u64 = codes::SIZE as u64;
 
 const PAGE: u64 = codes::PAGE as u64;
 
-// The parts that there are: none of no data, and none of a run that leaves the memory. The sum of address and length is never made
-// before it is known to fit.
+// The parts that there are: none of no data, and none of a run that leaves the memory. The sum of address and length
+// is never made before it is known to fit.
 fn count(address: u64, length: u64) -> u64
     ensures { λ r. ⌜ r ≡ count (m95512 .size) (m95512 .page) address length ⌝ }
 {

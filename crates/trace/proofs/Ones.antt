@@ -11,6 +11,8 @@ use Rattle.trace.proofs.public.finish.Kinds as finish
 use Rattle.trace.proofs.public.finish.Reads as finish-reads
 use Rattle.trace.proofs.Player.in_ranges.Kinds as in-ranges
 use Rattle.trace.proofs.Player.in_ranges.Reads as in-ranges-reads
+use Rattle.trace.proofs.FeedReply.number.Kinds as feedreply-number
+use Rattle.trace.proofs.FeedReply.number.Reads as feedreply-number-reads
 
 pub start-one : OneResult start.ps start.r start-reads.Post
 start-one κs a z z′ e e′ p q = same p q
@@ -35,3 +37,8 @@ finish-output κs a z z′ e e′ p q = same (p .1 .1 .0) (q .1 .1 .0)
 
 pub in-ranges-one : OneResult in-ranges.ps in-ranges.r in-ranges-reads.Post
 in-ranges-one κs a z z′ e e′ p q = same p q
+
+-- ---- inner calls
+
+pub feedreply-number-one : OneResult feedreply-number.ps feedreply-number.r feedreply-number-reads.Post
+feedreply-number-one κs a z z′ e e′ p q = same p q

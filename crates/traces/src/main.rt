@@ -1,5 +1,6 @@
-// Texts of every kind through the trace library: an empty one, good ones, each kind of bad line, one text cut in many ways, a million lines and one
-// more, and what is refused. The gate compares what it writes with the file stdout, which an independent player made from the rules (the refusals by hand).
+// Texts of every kind through the trace library: an empty one, good ones, each kind of bad line, one text cut in many
+// ways, a million lines and one more, and what is refused. The gate compares what it writes with the file stdout,
+// which an independent player made from the rules (the refusals by hand).
 ghost use mathlib.Core.Path.{_≡_};
 ghost use Prim.Native.Nat.{_<_, _≤_};
 ghost use lib.ListN.{length};

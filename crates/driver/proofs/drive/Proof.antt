@@ -19,7 +19,6 @@ use Rattle.driver.proofs.pages.wip.Reads as wip-reads
 use Rattle.driver.proofs.pages.write_parts.Reads as write-parts-reads
 use Rattle.driver.proofs.waiting.first_wait.Reads as first-wait-reads
 
--- src/lib.rt:51:9
 returns : tie.Need-returns
 returns c =
     let start = c .before .before .before in
@@ -27,19 +26,15 @@ returns c =
     let d : FrameBench = frameBench (a .core) (a .memory .now) in
     drove-none m95512 (a .interval) (a .limit) (a .address) (a .bytes .now) d (c .if1 .taken)
 
--- src/lib.rt:56:9
 first-wait-requires : tie.Need-first-wait-requires
 first-wait-requires c κs = search needs
 
--- src/lib.rt:59:8
 wip-requires : tie.Need-wip-requires
 wip-requires c κs = search needs
 
--- src/lib.rt:60:9
 same-length : tie.Need-same-length
 same-length c = search needs
 
--- src/lib.rt:60:9
 returns-2 : tie.Need-returns-2
 returns-2 c =
     let start = c .before .before .before .before .before .before .before .before .before .before in
@@ -51,7 +46,6 @@ returns-2 c =
     drove-late m95512 (a .interval) (a .limit) (a .address) (a .bytes .now) d (wait .result .frames) y (c .before .before .before .before .before .before .before .if1 .left) e (wait .ensures .1 .1 .0)
     (sym (seen-wip (wait .result .status) (y .core) (wait .ensures .1 .0)) ∙ sym (c .before .wip .ensures) ∙ c .if2 .taken)
 
--- src/lib.rt:65:5
 write-parts-requires : tie.Need-write-parts-requires
 write-parts-requires c κs =
     let start = c .before .before .before .before .before .before .before .before .before .before .before in
@@ -63,11 +57,9 @@ write-parts-requires c κs =
     let most = first-most m95512 (a .interval) (a .limit) d (start .pre .1 .1 .0) in
     (ap length (wait .ensures .1 .1 .1) ∙ ready .whole, (ap (inRanges m95512) (wait .ensures .0) ∙ ready .ranges, (start .pre .1 .1, omega (arith, wait .ensures .1 .1 .0))))
 
--- src/lib.rt:43:1
 same-length-2 : tie.Need-same-length-2
 same-length-2 c = search needs
 
--- src/lib.rt:43:1
 returns-3 : tie.Need-returns-3
 returns-3 c =
     let start = c .before .before .before .before .before .before .before .before .before .before .before .before .before .before in

@@ -9,15 +9,12 @@ use Rattle.driver.proofs.write.Lts as lts
 use Rattle.driver.proofs.drive.Reads as drive-reads
 use Rattle.driver.proofs.refused.outcome.Reads as outcome-reads
 
--- src/lib.rt:76:11
 outcome-requires : tie.Need-outcome-requires
 outcome-requires c κs = search needs
 
--- src/lib.rt:77:38
 enum-told : tie.Need-enum-told
 enum-told c = search needs
 
--- src/lib.rt:77:26
 drive-requires : tie.Need-drive-requires
 drive-requires c κs =
     let a = c .before .before .before .before .before .before .args in
@@ -26,22 +23,18 @@ drive-requires c κs =
     (c .before .before .before .outcome .ensures) (c .before .enum-told .given .1) in
     (t .whole, (t .ranges, t .limits))
 
--- src/lib.rt:78:26
 enum-known-r : tie.Need-enum-known-r
 enum-known-r c = search needs
 
--- src/lib.rt:71:1
 same-length : tie.Need-same-length
 same-length c = search needs
 
--- src/lib.rt:71:1
 returns : tie.Need-returns
 returns c =
     let a = c .before .before .before .before .before .before .before .before .before .args in
     let drive = c .before .before .drive in
     drove m95512 (a .core) (a .memory .now) (a .address) (a .bytes .now) (a .interval) (a .limit) (drive .result) (drive .last .1 .0) (c .before .before .before .before .before .before .outcome .ensures) (c .before .before .before .before .enum-told .given .1) (drive .ensures .0) (drive .ensures .1)
 
--- src/lib.rt:71:1
 returns-2 : tie.Need-returns-2
 returns-2 c =
     let a = c .before .before .before .before .before .before .args in

@@ -6,7 +6,6 @@ use Rattle.driver.proofs.pages.wel.Tie as tie
 use Rattle.driver.proofs.pages.wel.Reads as reads
 use Rattle.driver.proofs.pages.wel.Lts as lts
 
--- src/pages.rt:71:1
 returns : tie.Need-returns
 returns c = ap on (masked-bit 1 (c .args .status))
 

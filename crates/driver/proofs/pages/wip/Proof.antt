@@ -6,7 +6,6 @@ use Rattle.driver.proofs.pages.wip.Tie as tie
 use Rattle.driver.proofs.pages.wip.Reads as reads
 use Rattle.driver.proofs.pages.wip.Lts as lts
 
--- src/pages.rt:65:1
 returns : tie.Need-returns
 returns c = ap on (low-bit (c .args .status))
 

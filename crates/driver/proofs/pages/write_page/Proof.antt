@@ -24,15 +24,12 @@ use Rattle.driver.proofs.sending.send_write.Reads as send-write-reads
 use Rattle.driver.proofs.waiting.Waited.and_sent.Reads as and-sent-reads
 use Rattle.driver.proofs.waiting.page_wait.Reads as page-wait-reads
 
--- src/pages.rt:40:38
 slice-aggregate-send : tie.Need-slice-aggregate-send
 slice-aggregate-send c = search needs
 
--- src/pages.rt:40:9
 send-requires : tie.Need-send-requires
 send-requires c κs = search needs
 
--- src/pages.rt:41:9
 send-write-requires : tie.Need-send-write-requires
 send-write-requires c κs =
     let start = c .before .before .before .before .before .before in
@@ -40,7 +37,6 @@ send-write-requires c κs =
     let ready = ready-acted-all m95512 m95512-sound (wren ∷ []) d (record { whole = start .pre .0; ranges = start .pre .1 .0 }) in
     (start .pre .0, (ap (inRanges m95512) (c .before .send .ensures) ∙ ready .ranges, (start .pre .1 .1 .0, start .pre .1 .1 .1 .0)))
 
--- src/pages.rt:42:5
 page-wait-requires : tie.Need-page-wait-requires
 page-wait-requires c κs =
     let start = c .before .before .before .before .before .before .before .before in
@@ -51,7 +47,6 @@ page-wait-requires c κs =
     let begun = c .before .send-write .ensures ∙ ap (λ (x : Core). after m95512 (running x) true x (writeBytes m95512 (a .address) (a .bytes .now)) (8 * length (writeBytes m95512 (a .address) (a .bytes .now)))) (c .before .before .before .send .ensures) in
     (start .pre .0, (ap (inRanges m95512) begun ∙ ready .ranges, start .pre .1 .1 .1 .1))
 
--- src/pages.rt:42:5
 and-sent-requires : tie.Need-and-sent-requires
 and-sent-requires c κs =
     let start = c .before .before .before .before .before .before .before .before .before .before .before in
@@ -60,11 +55,9 @@ and-sent-requires c κs =
     let most = page-most m95512 (start .args .interval) (start .args .limit) x (start .pre .1 .1 .1 .1 .0) in
     omega (arith, wait .ensures .1 .1 .0)
 
--- src/pages.rt:28:1
 same-length : tie.Need-same-length
 same-length c = search needs
 
--- src/pages.rt:28:1
 returns : tie.Need-returns
 returns c =
     let start = c .before .before .before .before .before .before .before .before .before .before .before .before in

@@ -19,11 +19,9 @@ use Rattle.driver.proofs.pages.write_page.Reads as write-page-reads
 use Rattle.split.proofs.cartvesper_split_address.Reads as cartvesper-split-address-reads
 use Rattle.split.proofs.cartvesper_split_length.Reads as cartvesper-split-length-reads
 
--- src/pages.rt:57:9
 cartvesper-split-address-requires : tie.Need-cartvesper-split-address-requires
 cartvesper-split-address-requires c κs = search needs
 
--- src/pages.rt:58:17
 sub-from : tie.Need-sub-from
 sub-from c =
     let start = c .before .before .before in
@@ -32,11 +30,9 @@ sub-from c =
     let l = lies m95512 m95512-sound (a .address) (a .bytes .now) (a .k) (at .result) _ (start .pre .1 .1 .1) (at .ensures) refl in
     l .from
 
--- src/pages.rt:59:22
 cartvesper-split-length-requires : tie.Need-cartvesper-split-length-requires
 cartvesper-split-length-requires c κs = search needs
 
--- src/pages.rt:59:15
 add-end : tie.Need-add-end
 add-end c =
     let start = c .before .before .before .before in
@@ -48,15 +44,12 @@ add-end c =
     let inside = l .inside in
     omega arith
 
--- src/pages.rt:60:46
 sub-write-page : tie.Need-sub-write-page
 sub-write-page c = search needs
 
--- src/pages.rt:60:46
 part-write-page-start : tie.Need-part-write-page-start
 part-write-page-start c = search needs
 
--- src/pages.rt:60:46
 part-write-page-end : tie.Need-part-write-page-end
 part-write-page-end c =
     let start = c .before .before .before .before .before in
@@ -68,7 +61,6 @@ part-write-page-end c =
     let to = l .to in
     omega arith
 
--- src/pages.rt:60:5
 write-page-requires : tie.Need-write-page-requires
 write-page-requires c κs =
     let start = c .before .before .before .before .before .before in
@@ -81,11 +73,9 @@ write-page-requires c κs =
     let page = l .page in
     (start .pre .0, (start .pre .1 .0, (l .memory, (simp (length-take, length-drop) (omega arith), start .pre .1 .1 .0))))
 
--- src/pages.rt:46:1
 same-length : tie.Need-same-length
 same-length c = search needs
 
--- src/pages.rt:46:1
 returns : tie.Need-returns
 returns c =
     let start = c .before .before .before .before .before .before .before .before .before in

@@ -34,18 +34,15 @@ Inv-loop memory₀ address bytes interval limit sent parts next₀ frames₀ k�
 abbrev μ-loop : tie.MeasureT-loop
 μ-loop memory₀ address bytes interval limit sent parts next₀ frames₀ k₀ memory next frames k = parts - k
 
--- src/pages.rt:86:9
 cartvesper-split-parts-requires : tie.Need-cartvesper-split-parts-requires Inv-loop μ-loop
 cartvesper-split-parts-requires c κs = tt
 
--- src/pages.rt:90:5
 loop-holds : tie.Need-loop-holds Inv-loop μ-loop
 loop-holds c =
     let start = c .before .before .before in
     let parts = c .cartvesper-split-parts .ensures ∙ parts-asked 65536 128 (start .args .address) (length (start .args .bytes .now)) in
     (omega arith, (omega arith, (parts, (record { whole = start .pre .0; ranges = start .pre .1 .0 }, rest-first m95512 _ _ _ _ _ _ _))))
 
--- src/pages.rt:91:13
 write-part-requires : tie.Need-write-part-requires Inv-loop μ-loop
 write-part-requires c κs =
     let start = c .before .before .before .before .before .before in
@@ -54,7 +51,6 @@ write-part-requires c κs =
     let ready = l .inv .1 .1 .1 .0 in
     (ready .whole, (ready .ranges, (start .pre .1 .1 .0, subst (λ (n : ℕ). l .k < n) (l .inv .1 .1 .0) (c .before .loop-test .taken))))
 
--- src/pages.rt:93:9
 add-frames : tie.Need-add-frames Inv-loop μ-loop
 add-frames c =
     let start = c .before .before .before .before .before .before .before .before .before .before .before in
@@ -71,11 +67,9 @@ add-frames c =
     let counts = part .ensures .1 .1 .0 in
     omega (arith, l .inv .1 .0)
 
--- src/pages.rt:94:12
 wip-requires : tie.Need-wip-requires Inv-loop μ-loop
 wip-requires c κs = tt
 
--- src/pages.rt:96:56
 cast-t20 : tie.Need-cast-t20 Inv-loop μ-loop
 cast-t20 c =
     let start = c .before .before .before .before .before .before .before .before .before .before .before .before .before in
@@ -85,7 +79,6 @@ cast-t20 c =
     let all = l .inv .1 .1 .0 in
     omega (arith, l .inv .0)
 
--- src/pages.rt:95:13
 same-length : tie.Need-same-length Inv-loop μ-loop
 same-length c =
     let start = c .before .before .before .before .before .before .before .before .before .before .before .before .before in
@@ -100,7 +93,6 @@ same-length c =
     (ready-acted-all m95512 m95512-sound (partActs m95512 (a .interval) (a .limit) (a .address) (a .bytes .now) (l .k) d) d (l .inv .1 .1 .1 .0)) in
     ready .whole ∙ sym (start .pre .0)
 
--- src/pages.rt:95:13
 returns : tie.Need-returns Inv-loop μ-loop
 returns c =
     let start = c .before .before .before .before .before .before .before .before .before .before .before .before .before in
@@ -113,11 +105,9 @@ returns c =
     ended-of m95512 (a .interval) (a .limit) (a .address) (a .bytes .now) (c .before .before .before .before .before .before .before .before .before .before .cartvesper-split-parts .result) _ (a .sent) (frameBench (a .core) (a .memory .now)) (l .inv .1 .1 .0)
     (rest-late m95512 (a .interval) (a .limit) (a .address) (a .bytes .now) (c .before .before .before .before .before .before .before .before .before .before .cartvesper-split-parts .result) (a .sent) _ (l .k) (l .frames) (part .result .frames) d x (c .before .before .before .before .before .before .before .before .loop-test .taken) e (part .ensures .1 .1 .0) (sym (seen-wip (part .result .status) (x .core) (part .ensures .1 .0)) ∙ sym (c .before .wip .ensures) ∙ c .if1 .taken) (l .inv .1 .1 .1 .1))
 
--- src/pages.rt:100:12
 wel-requires : tie.Need-wel-requires Inv-loop μ-loop
 wel-requires c κs = tt
 
--- src/pages.rt:103:56
 cast-t24 : tie.Need-cast-t24 Inv-loop μ-loop
 cast-t24 c =
     let start = c .before .before .before .before .before .before .before .before .before .before .before .before .before .before .before in
@@ -127,7 +117,6 @@ cast-t24 c =
     let all = l .inv .1 .1 .0 in
     omega (arith, l .inv .0)
 
--- src/pages.rt:103:74
 add-t25 : tie.Need-add-t25 Inv-loop μ-loop
 add-t25 c =
     let start = c .before .before .before .before .before .before .before .before .before .before .before .before .before .before .before in
@@ -144,11 +133,9 @@ add-t25 c =
     let counts = part .ensures .1 .1 .0 in
     omega (arith, l .inv .1 .0)
 
--- src/pages.rt:104:42
 slice-aggregate-send : tie.Need-slice-aggregate-send Inv-loop μ-loop
 slice-aggregate-send c = refl
 
--- src/pages.rt:104:23
 send-requires : tie.Need-send-requires Inv-loop μ-loop
 send-requires c κs =
     let start = c .before .before .before .before .before .before .before .before .before .before .before .before .before .before .before .before .before in
@@ -163,7 +150,6 @@ send-requires c κs =
     (ready-acted-all m95512 m95512-sound (partActs m95512 (a .interval) (a .limit) (a .address) (a .bytes .now) (l .k) d) d (l .inv .1 .1 .1 .0)) in
     (ready .whole, (ready .ranges, omega arith))
 
--- src/pages.rt:102:13
 same-length-2 : tie.Need-same-length-2 Inv-loop μ-loop
 same-length-2 c =
     let start = c .before .before .before .before .before .before .before .before .before .before .before .before .before .before .before .before .before .before in
@@ -178,7 +164,6 @@ same-length-2 c =
     (ready-acted-all m95512 m95512-sound (partActs m95512 (a .interval) (a .limit) (a .address) (a .bytes .now) (l .k) d) d (l .inv .1 .1 .1 .0)) in
     ready .whole ∙ sym (start .pre .0)
 
--- src/pages.rt:102:13
 returns-2 : tie.Need-returns-2 Inv-loop μ-loop
 returns-2 c =
     let start = c .before .before .before .before .before .before .before .before .before .before .before .before .before .before .before .before .before .before in
@@ -192,7 +177,6 @@ returns-2 c =
     ended-of m95512 (a .interval) (a .limit) (a .address) (a .bytes .now) (c .before .before .before .before .before .before .before .before .before .before .before .before .before .before .before .cartvesper-split-parts .result) _ (a .sent) (frameBench (a .core) (a .memory .now)) (l .inv .1 .1 .0)
     (rest-untaken m95512 (a .interval) (a .limit) (a .address) (a .bytes .now) (c .before .before .before .before .before .before .before .before .before .before .before .before .before .before .before .cartvesper-split-parts .result) (a .sent) _ (l .k) (l .frames) (part .result .frames) d x y (c .before .before .before .before .before .before .before .before .before .before .before .before .before .loop-test .taken) e (part .ensures .1 .1 .0) (sym (seen-wip (part .result .status) (x .core) (part .ensures .1 .0)) ∙ sym (c .before .before .before .before .before .before .wip .ensures) ∙ c .before .before .before .before .before .if1 .left) (sym (seen-wel (part .result .status) (x .core) (part .ensures .1 .0)) ∙ sym (c .before .before .before .before .wel .ensures) ∙ c .before .before .before .if2 .taken) (bench-of (acted m95512 wrdi x) (c .send .ensures) refl) (l .inv .1 .1 .1 .1))
 
--- src/pages.rt:107:9
 add-k : tie.Need-add-k Inv-loop μ-loop
 add-k c =
     let start = c .before .before .before .before .before .before .before .before .before .before .before .before .before .before .before in
@@ -203,7 +187,6 @@ add-k c =
     let below = c .before .before .before .before .before .before .before .before .before .before .loop-test .taken in
     omega arith
 
--- src/pages.rt:90:5
 loop-less : tie.Need-loop-less Inv-loop μ-loop
 loop-less c =
     let start = c .before .before .before .before .before .before .before .before .before .before .before .before .before .before .before in
@@ -212,7 +195,6 @@ loop-less c =
     let below = c .before .before .before .before .before .before .before .before .before .before .loop-test .taken in
     omega arith
 
--- src/pages.rt:90:5
 loop-again : tie.Need-loop-again Inv-loop μ-loop
 loop-again c =
     let start = c .before .before .before .before .before .before .before .before .before .before .before .before .before .before .before in
@@ -230,7 +212,6 @@ loop-again c =
     let counts = part .ensures .1 .1 .0 in
     (omega arith, (omega (arith, l .inv .1 .0), (l .inv .1 .1 .0, (ready, rest-next m95512 (a .interval) (a .limit) (a .address) (a .bytes .now) (c .before .before .before .before .before .before .before .before .before .before .before .before .cartvesper-split-parts .result) (a .sent) _ (l .k) (l .frames) (part .result .frames) d x below e counts (sym (seen-wip (part .result .status) (x .core) (part .ensures .1 .0)) ∙ sym (c .before .before .before .wip .ensures) ∙ c .before .before .if1 .left) (sym (seen-wel (part .result .status) (x .core) (part .ensures .1 .0)) ∙ sym (c .before .wel .ensures) ∙ c .if2 .left) (l .inv .1 .1 .1 .1)))))
 
--- src/pages.rt:110:44
 cast-t33 : tie.Need-cast-t33 Inv-loop μ-loop
 cast-t33 c =
     let start = c .before .before .before .before .before in
@@ -240,7 +221,6 @@ cast-t33 c =
     let all = l .inv .1 .1 .0 in
     omega (arith, l .inv .0)
 
--- src/pages.rt:78:1
 same-length-3 : tie.Need-same-length-3 Inv-loop μ-loop
 same-length-3 c =
     let start = c .before .before .before .before .before in
@@ -248,7 +228,6 @@ same-length-3 c =
     let l = c .before .loop in
     l .inv .1 .1 .1 .0 .whole ∙ sym (start .pre .0)
 
--- src/pages.rt:78:1
 returns-3 : tie.Need-returns-3 Inv-loop μ-loop
 returns-3 c =
     let start = c .before .before .before .before .before in

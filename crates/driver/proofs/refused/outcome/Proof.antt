@@ -8,35 +8,27 @@ use Rattle.chip.proofs.Core.in_ranges.Reads as in-ranges-reads
 use Rattle.driver.proofs.refused.polls_fit.Reads as polls-fit-reads
 use Rattle.driver.proofs.refused.run_fits.Reads as run-fits-reads
 
--- src/refused.rt:31:12
 in-ranges-requires : tie.Need-in-ranges-requires
 in-ranges-requires c κs = search needs
 
--- src/refused.rt:32:16
 run-fits-requires : tie.Need-run-fits-requires
 run-fits-requires c κs = search needs
 
--- src/refused.rt:33:20
 polls-fit-requires : tie.Need-polls-fit-requires
 polls-fit-requires c κs = search needs
 
--- src/refused.rt:34:21
 returns : tie.Need-returns
 returns c = search arms depth 12
 
--- src/refused.rt:36:17
 returns-2 : tie.Need-returns-2
 returns-2 c = search arms depth 12
 
--- src/refused.rt:38:13
 returns-3 : tie.Need-returns-3
 returns-3 c = search arms depth 12
 
--- src/refused.rt:40:9
 returns-4 : tie.Need-returns-4
 returns-4 c = search arms depth 12
 
--- src/refused.rt:27:1
 returns-5 : tie.Need-returns-5
 returns-5 c = search arms depth 12
 

@@ -9,15 +9,12 @@ use Rattle.driver.proofs.refused.run_fits.Tie as tie
 use Rattle.driver.proofs.refused.run_fits.Reads as reads
 use Rattle.driver.proofs.refused.run_fits.Lts as lts
 
--- src/refused.rt:16:27
 sub-result : tie.Need-sub-result
 sub-result c = search needs
 
--- src/refused.rt:16:9
 returns : tie.Need-returns
 returns c = fits-either (c .before .args .address) (c .before .args .len) 65536 (omega arith)
 
--- src/refused.rt:12:1
 returns-2 : tie.Need-returns-2
 returns-2 c =
     let a = c .before .args in

@@ -14,23 +14,18 @@ use Rattle.driver.proofs.sending.poll.Reads as reads
 use Rattle.driver.proofs.sending.poll.Lts as lts
 use Rattle.frames.proofs.frame.Reads as frame-reads
 
--- src/sending.rt:45:52
 slice-aggregate-frame : tie.Need-slice-aggregate-frame
 slice-aggregate-frame c = search needs
 
--- src/sending.rt:45:64
 slice-aggregate-frame-2 : tie.Need-slice-aggregate-frame-2
 slice-aggregate-frame-2 c = search needs
 
--- src/sending.rt:45:9
 frame-requires : tie.Need-frame-requires
 frame-requires c κs = search needs
 
--- src/sending.rt:48:17
 array-read-t13 : tie.Need-array-read-t13
 array-read-t13 c = search needs
 
--- src/sending.rt:38:1
 returns : tie.Need-returns
 returns c =
     let f = c .before .before .frame in

@@ -13,31 +13,24 @@ use Rattle.driver.proofs.sending.send.Lts as lts
 use Rattle.driver.proofs.sending.room.Reads as room-reads
 use Rattle.frames.proofs.frame.Reads as frame-reads
 
--- src/sending.rt:31:19
 room-requires : tie.Need-room-requires
 room-requires c κs = search needs
 
--- src/sending.rt:33:59
 mul-frame : tie.Need-mul-frame
 mul-frame c = search needs
 
--- src/sending.rt:33:66
 sub-frame : tie.Need-sub-frame
 sub-frame c = search needs
 
--- src/sending.rt:33:66
 part-out-start : tie.Need-part-out-start
 part-out-start c = search needs
 
--- src/sending.rt:33:66
 part-out-end : tie.Need-part-out-end
 part-out-end c = search needs
 
--- src/sending.rt:33:9
 frame-requires : tie.Need-frame-requires
 frame-requires c κs = search needs
 
--- src/sending.rt:25:1
 returns : tie.Need-returns
 returns c =
     let f = c .before .before .frame in

@@ -36,62 +36,48 @@ head-bytes (x ∷ y ∷ z ∷ b) bytes a h r =
     let low : a % 256 ≡ a / 256 ^ 0 % 256 = omega arith in
     ap (λ (k : ℕ). 0x02 ∷ k ∷ (a % 256) ∷ bytes) high ∙ ap (λ (k : ℕ). 0x02 ∷ (a / 256 ^ 1 % 256) ∷ k ∷ bytes) low
 
--- src/sending.rt:68:21
 room-requires : tie.Need-room-requires
 room-requires c κs = search needs
 
--- src/sending.rt:69:15
 add-end : tie.Need-add-end
 add-end c = search needs
 
--- src/sending.rt:70:5
 array-write-frame : tie.Need-array-write-frame
 array-write-frame c = search needs
 
--- src/sending.rt:71:16
 cast-frame : tie.Need-cast-frame
 cast-frame c = search needs
 
--- src/sending.rt:71:5
 array-write-frame-2 : tie.Need-array-write-frame-2
 array-write-frame-2 c = search needs
 
--- src/sending.rt:72:16
 cast-frame-2 : tie.Need-cast-frame-2
 cast-frame-2 c = search needs
 
--- src/sending.rt:72:5
 array-write-frame-3 : tie.Need-array-write-frame-3
 array-write-frame-3 c = search needs
 
--- src/sending.rt:73:24
 sub-copy : tie.Need-sub-copy
 sub-copy c = search needs
 
--- src/sending.rt:73:24
 part-frame-start : tie.Need-part-frame-start
 part-frame-start c = search needs
 
--- src/sending.rt:73:24
 part-frame-end : tie.Need-part-frame-end
 part-frame-end c =
     let a = c .before .before .before .args in
     let long : length (headed (c .room .result) (a .address)) ≡ length (c .room .result) = head-length (c .room .result) (a .address) in
     omega arith
 
--- src/sending.rt:73:5
 copy-requires : tie.Need-copy-requires
 copy-requires c κs = search needs
 
--- src/sending.rt:74:24
 sub-send : tie.Need-sub-send
 sub-send c = search needs
 
--- src/sending.rt:74:24
 part-send-start : tie.Need-part-send-start
 part-send-start c = search needs
 
--- src/sending.rt:74:24
 part-send-end : tie.Need-part-send-end
 part-send-end c =
     let start = c .before .before .before .before .before .before .before in
@@ -105,7 +91,6 @@ part-send-end c =
     frame-room b (a .bytes .now) (copy .last .1 .0) 3 (n + 3 - 3) (omega arith) (omega arith) (copy .ensures .1) in
     omega arith
 
--- src/sending.rt:74:5
 send-requires : tie.Need-send-requires
 send-requires c κs =
     let start = c .before .before .before .before .before .before .before .before in
@@ -120,7 +105,6 @@ send-requires c κs =
     ∙ head-bytes (room .result) (a .bytes .now) (a .address) (start .pre .1 .1 .0) (omega arith) in
     (start .pre .0, (start .pre .1 .0, rw built (omega arith)))
 
--- src/sending.rt:61:1
 returns : tie.Need-returns
 returns c =
     let start = c .before .before .before .before .before .before .before .before .before in

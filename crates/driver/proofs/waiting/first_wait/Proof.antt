@@ -17,22 +17,18 @@ use Rattle.driver.proofs.sending.poll.Reads as poll-reads
 use Rattle.driver.proofs.waiting.Waited.and_sent.Reads as and-sent-reads
 use Rattle.driver.proofs.waiting.poll_on.Reads as poll-on-reads
 
--- src/waiting.rt:81:9
 poll-requires : tie.Need-poll-requires
 poll-requires c κs = search needs
 
--- src/waiting.rt:82:37
 sub-poll-on : tie.Need-sub-poll-on
 sub-poll-on c = search needs
 
--- src/waiting.rt:82:5
 poll-on-requires : tie.Need-poll-on-requires
 poll-on-requires c κs =
     let start = c .before .before .before .before in
     let poll = c .before .poll in
     (start .pre .0, (ap (inRanges m95512) (poll .ensures .1) ∙ start .pre .1 .0, poll .ensures .0 ∙ ap status (sym (poll .ensures .1))))
 
--- src/waiting.rt:82:5
 and-sent-requires : tie.Need-and-sent-requires
 and-sent-requires c κs =
     let start = c .before .before .before .before .before .before .before in
@@ -40,11 +36,9 @@ and-sent-requires c κs =
     let x : FrameBench = frameBench (c .before .before .before .before .poll .result .core) (start .args .memory .now) in
     omega (arith, wait .ensures .1 .1 .0, sent-most m95512 (start .args .interval) (start .args .limit - 1) x)
 
--- src/waiting.rt:72:1
 same-length : tie.Need-same-length
 same-length c = search needs
 
--- src/waiting.rt:72:1
 returns : tie.Need-returns
 returns c =
     let start = c .before .before .before .before .before .before .before .before in

@@ -19,15 +19,12 @@ use Rattle.chip.proofs.clock_reading.Reads as clock-reading-reads
 use Rattle.driver.proofs.sending.poll.Reads as poll-reads
 use Rattle.std.proofs.num.wrapping_add_u32.Reads as wrapping-add-u32-reads
 
--- src/waiting.rt:29:9
 wrapping-add-u32-requires : tie.Need-wrapping-add-u32-requires
 wrapping-add-u32-requires c κs = search needs
 
--- src/waiting.rt:30:9
 clock-reading-requires : tie.Need-clock-reading-requires
 clock-reading-requires c κs = search needs
 
--- src/waiting.rt:32:5
 poll-requires : tie.Need-poll-requires
 poll-requires c κs =
     let start = c .before .before .before .before .before .before .before .before in
@@ -39,11 +36,9 @@ poll-requires c κs =
     let memory = clock .ensures .1 .1 ∙ reading-memory m95512 (d .core) (d .memory) t (start .pre .0) (start .pre .1) in
     (ap length memory ∙ ready .whole, ap (inRanges m95512) core ∙ ready .ranges)
 
--- src/waiting.rt:22:1
 same-length : tie.Need-same-length
 same-length c = search needs
 
--- src/waiting.rt:22:1
 returns : tie.Need-returns
 returns c =
     let start = c .before .before .before .before .before .before .before .before .before in

@@ -19,15 +19,12 @@ use Rattle.driver.proofs.waiting.Waited.and_sent.Reads as and-sent-read
 use Rattle.driver.proofs.waiting.late_poll.Reads as late-poll-reads
 use Rattle.driver.proofs.waiting.poll_on.Reads as poll-on-reads
 
--- src/waiting.rt:95:9
 late-poll-requires : tie.Need-late-poll-requires
 late-poll-requires c κs = search needs
 
--- src/waiting.rt:96:37
 sub-poll-on : tie.Need-sub-poll-on
 sub-poll-on c = search needs
 
--- src/waiting.rt:96:5
 poll-on-requires : tie.Need-poll-on-requires
 poll-on-requires c κs =
     let start = c .before .before .before .before .before .before in
@@ -36,7 +33,6 @@ poll-on-requires c κs =
     let ready = ready-acted-all m95512 m95512-sound (latePoll (start .args .interval) d) d (record { whole = start .pre .0; ranges = start .pre .1 .0 }) in
     (ap length (poll .ensures .1 .1) ∙ ready .whole, (ap (inRanges m95512) (poll .ensures .0) ∙ ready .ranges, poll .ensures .1 .0))
 
--- src/waiting.rt:96:5
 and-sent-requires : tie.Need-and-sent-requires
 and-sent-requires c κs =
     let start = c .before .before .before .before .before .before .before .before .before in
@@ -45,11 +41,9 @@ and-sent-requires c κs =
     let x : FrameBench = frameBench (poll .result .core) (poll .last .1 .0) in
     omega (arith, wait .ensures .1 .1 .0, sent-most m95512 (start .args .interval) (start .args .limit - 1) x)
 
--- src/waiting.rt:86:1
 same-length : tie.Need-same-length
 same-length c = search needs
 
--- src/waiting.rt:86:1
 returns : tie.Need-returns
 returns c =
     let start = c .before .before .before .before .before .before .before .before .before .before in

@@ -24,19 +24,16 @@ Inv-loop memory₀ interval left polled₀ polls₀ memory polled polls =
 abbrev μ-loop : tie.MeasureT-loop
 μ-loop memory₀ interval left polled₀ polls₀ memory polled polls = left - polls
 
--- src/waiting.rt:47:5
 loop-holds : tie.Need-loop-holds Inv-loop μ-loop
 loop-holds c =
     let start = c .before in
     (omega arith, (start .pre .1 .1, (record { whole = start .pre .0; ranges = start .pre .1 .0 }, onward-first m95512 _ _ _)))
 
--- src/waiting.rt:48:9
 late-poll-requires : tie.Need-late-poll-requires Inv-loop μ-loop
 late-poll-requires c κs =
     let inv = c .before .before .before .loop .inv in
     (inv .1 .1 .0 .whole, inv .1 .1 .0 .ranges)
 
--- src/waiting.rt:49:9
 add-polls : tie.Need-add-polls Inv-loop μ-loop
 add-polls c =
     let l = c .before .before .before .before .before .before .loop in
@@ -45,7 +42,6 @@ add-polls c =
     let most = c .before .before .before .before .before .before .before .before .good in
     omega (arith, on .0)
 
--- src/waiting.rt:47:5
 loop-less : tie.Need-loop-less Inv-loop μ-loop
 loop-less c =
     let l = c .before .before .before .before .before .before .loop in
@@ -53,7 +49,6 @@ loop-less c =
     let on = goes-on (l .polls) (a .left) (l .polled .status) (l .polled .core) (l .inv .1 .0) (c .before .before .before .before .if1 .taken) in
     omega (arith, on .0)
 
--- src/waiting.rt:47:5
 loop-again : tie.Need-loop-again Inv-loop μ-loop
 loop-again c =
     let l = c .before .before .before .before .before .before .loop in
@@ -67,13 +62,11 @@ loop-again c =
     let rest = onward-next m95512 (a .interval) (a .left) _ (l .polls) d _ e (on .0) (on .1) (l .inv .1 .1 .1) in
     (omega (arith, on .0), (poll .ensures .1 .0, (ready, rest)))
 
--- src/waiting.rt:36:1
 same-length : tie.Need-same-length Inv-loop μ-loop
 same-length c =
     let start = c .before .before .before .before .before in
     c .before .before .before .loop .inv .1 .1 .0 .whole ∙ sym (start .pre .0)
 
--- src/waiting.rt:36:1
 returns : tie.Need-returns Inv-loop μ-loop
 returns c =
     let l = c .before .before .before .loop in

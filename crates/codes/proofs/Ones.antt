@@ -1,0 +1,62 @@
+-- Each call allows one result, and one content of what it is lent to write.
+use Rattle.laws.specs.One.{OneResult, same}
+use Rattle.codes.proofs.Refusal.number.Kinds as refusal-number
+use Rattle.codes.proofs.Refusal.number.Reads as refusal-number-reads
+use Rattle.codes.proofs.Outcome.number.Kinds as outcome-number
+use Rattle.codes.proofs.Outcome.number.Reads as outcome-number-reads
+use Rattle.codes.proofs.instructions.decode.Kinds as decode
+use Rattle.codes.proofs.instructions.decode.Reads as decode-reads
+use Rattle.codes.proofs.protect.lowest_protected.Kinds as lowest-protected
+use Rattle.codes.proofs.protect.lowest_protected.Reads as lowest-protected-reads
+use Rattle.codes.proofs.status.status_byte.Kinds as status-byte
+use Rattle.codes.proofs.status.status_byte.Reads as status-byte-reads
+use Rattle.codes.proofs.status.writable.Kinds as writable
+use Rattle.codes.proofs.status.writable.Reads as writable-reads
+use Rattle.codes.proofs.status.srwd_of.Kinds as srwd-of
+use Rattle.codes.proofs.status.srwd_of.Reads as srwd-of-reads
+use Rattle.codes.proofs.status.bp1_of.Kinds as bp1-of
+use Rattle.codes.proofs.status.bp1_of.Reads as bp1-of-reads
+use Rattle.codes.proofs.status.bp0_of.Kinds as bp0-of
+use Rattle.codes.proofs.status.bp0_of.Reads as bp0-of-reads
+use Rattle.codes.proofs.status.wide.Kinds as wide
+use Rattle.codes.proofs.status.wide.Reads as wide-reads
+use Rattle.codes.proofs.verdicts.judge.Kinds as judge
+use Rattle.codes.proofs.verdicts.judge.Reads as judge-reads
+use Rattle.codes.proofs.Verdict.is_executed.Kinds as verdict-is-executed
+use Rattle.codes.proofs.Verdict.is_executed.Reads as verdict-is-executed-reads
+
+pub refusal-number-one : OneResult refusal-number.ps refusal-number.r refusal-number-reads.Post
+refusal-number-one κs a z z′ e e′ p q = same p q
+
+pub outcome-number-one : OneResult outcome-number.ps outcome-number.r outcome-number-reads.Post
+outcome-number-one κs a z z′ e e′ p q = same p q
+
+pub decode-one : OneResult decode.ps decode.r decode-reads.Post
+decode-one κs a z z′ e e′ p q = same p q
+
+pub lowest-protected-one : OneResult lowest-protected.ps lowest-protected.r lowest-protected-reads.Post
+lowest-protected-one κs a z z′ e e′ p q = same p q
+
+pub status-byte-one : OneResult status-byte.ps status-byte.r status-byte-reads.Post
+status-byte-one κs a z z′ e e′ p q = same p q
+
+pub writable-one : OneResult writable.ps writable.r writable-reads.Post
+writable-one κs a z z′ e e′ p q = same p q
+
+pub srwd-of-one : OneResult srwd-of.ps srwd-of.r srwd-of-reads.Post
+srwd-of-one κs a z z′ e e′ p q = same p q
+
+pub bp1-of-one : OneResult bp1-of.ps bp1-of.r bp1-of-reads.Post
+bp1-of-one κs a z z′ e e′ p q = same p q
+
+pub bp0-of-one : OneResult bp0-of.ps bp0-of.r bp0-of-reads.Post
+bp0-of-one κs a z z′ e e′ p q = same p q
+
+pub wide-one : OneResult wide.ps wide.r wide-reads.Post
+wide-one κs a z z′ e e′ p q = same p q
+
+pub judge-one : OneResult judge.ps judge.r judge-reads.Post
+judge-one κs a z z′ e e′ p q = same p q
+
+pub verdict-is-executed-one : OneResult verdict-is-executed.ps verdict-is-executed.r verdict-is-executed-reads.Post
+verdict-is-executed-one κs a z z′ e e′ p q = same p q

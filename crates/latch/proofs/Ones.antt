@@ -1,0 +1,36 @@
+-- Each call allows one result, and one content of what it is lent to write.
+use denote.Ref.{now}
+use Rattle.laws.specs.One.{OneResult, OneExit, same}
+use Rattle.latch.proofs.Latch.none.Kinds as latch-none
+use Rattle.latch.proofs.Latch.none.Reads as latch-none-reads
+use Rattle.latch.proofs.Latch.with.Kinds as latch-with
+use Rattle.latch.proofs.Latch.with.Reads as latch-with-reads
+use Rattle.latch.proofs.Latch.fits.Kinds as latch-fits
+use Rattle.latch.proofs.Latch.fits.Reads as latch-fits-reads
+use Rattle.latch.proofs.Latch.store.Kinds as latch-store
+use Rattle.latch.proofs.Latch.store.Reads as latch-store-reads
+use Rattle.latch.proofs.pages.latch_byte.Kinds as latch-byte
+use Rattle.latch.proofs.pages.latch_byte.Reads as latch-byte-reads
+use Rattle.latch.proofs.pages.next_cell.Kinds as next-cell
+use Rattle.latch.proofs.pages.next_cell.Reads as next-cell-reads
+
+pub latch-none-one : OneResult latch-none.ps latch-none.r latch-none-reads.Post
+latch-none-one κs a z z′ e e′ p q = same p q
+
+pub latch-with-one : OneResult latch-with.ps latch-with.r latch-with-reads.Post
+latch-with-one κs a z z′ e e′ p q = same p q
+
+pub latch-fits-one : OneResult latch-fits.ps latch-fits.r latch-fits-reads.Post
+latch-fits-one κs a z z′ e e′ p q = same p q
+
+pub latch-store-memory : OneExit latch-store.ps latch-store.r latch-store-reads.Post (λ κs e. now (e .1 .1 .0))
+latch-store-memory κs a z z′ e e′ p q = same p q
+
+pub latch-byte-bytes : OneExit latch-byte.ps latch-byte.r latch-byte-reads.Post (λ κs e. now (e .0))
+latch-byte-bytes κs a z z′ e e′ p q = same (p .0) (q .0)
+
+pub latch-byte-marks : OneExit latch-byte.ps latch-byte.r latch-byte-reads.Post (λ κs e. now (e .1 .0))
+latch-byte-marks κs a z z′ e e′ p q = same (p .1) (q .1)
+
+pub next-cell-one : OneResult next-cell.ps next-cell.r next-cell-reads.Post
+next-cell-one κs a z z′ e e′ p q = same p q
