@@ -2,7 +2,7 @@
 use Prim.Native.Nat.{ℕ, _*_, _-_, _<_, _≤_}
 use mathlib.Core.Bool.{Bool, true, _&&_}
 use mathlib.Core.List.{List, []}
-use mathlib.Core.Path.{_≡_, refl, sym, ap, _∙_, subst⁻¹}
+use mathlib.Core.Path.{_≡_, refl, sym, ap, ap₂, _∙_, subst⁻¹}
 use lib.Dec.{leb}
 use lib.ListN.{take, length, replicate, length-replicate}
 use borrow.Author.Tests.{eq-eqb, le-leb, eqb-true, leb-true}
@@ -21,25 +21,27 @@ use Rattle.frames.specs.Bytes.{instruction, address}
 use Rattle.frames.specs.After.{after}
 use Rattle.frames.specs.Shown.{byteOut, output}
 use Rattle.frames.specs.Answers.{frameOutcome, framed, framedOutput}
-use Rattle.frames.specs.Play.{frame, frameBench, acted}
+use Rattle.frames.specs.Play.{frame, FrameBench, frameBench, acted}
 use Rattle.frames.proofs.Padding.{few-unused}
 use Rattle.frames.proofs.Kept.{after-within}
 use Rattle.pins.specs.declared.Pins.{Pins}
 use Rattle.pins.specs.declared.Device.{Device}
+use Rattle.edges.specs.declared.Level.{Level}
 use Rattle.edges.specs.Frames.{noFrame}
 use Rattle.pins.specs.Devices.{pinsAt, withPins, withHeldAt}
 use Rattle.pins.specs.Answers.{pinBench}
 use Rattle.pins.specs.Ranges.{pinsFit, heldFits, emptyFits, ranFits, deviceFits}
 use Rattle.edges.specs.Ranges.{frameFits}
 use Rattle.agree.specs.Drawings.{Sendable, flat, bitsOf}
-use Rattle.agree.specs.Reports.{shared, watched, framesPlayed, Agreement}
+use Rattle.agree.specs.Reports.{shared, asOne, watched, outputBits, levelled, outputLevels, framesPlayed, SameSeen, Agreement, LevelAgreement}
 use Rattle.codes.proofs.Sound.{Sound, m95512-sound}
 use Rattle.agree.proofs.Facts.{bit-on}
 use Rattle.agree.proofs.Ticks.{seenOf, endOf, decides}
-use Rattle.agree.proofs.Bytes.{none, seen-bytes, end-bytes}
+use Rattle.agree.proofs.Bytes.{onQ, shown-bit, none, seen-bytes, end-bytes}
 use Rattle.agree.proofs.Seen.{seen-table}
 use Rattle.agree.proofs.Ends.{end-table}
 use Rattle.agree.proofs.Pad.{pad-bits}
+use Rattle.agree.proofs.Levels.{frame-levels}
 use Rattle.agree.proofs.Waves.{says}
 
 module _ (P : Part) (sound : Sound P) where
@@ -61,10 +63,10 @@ module _ (P : Part) (sound : Sound P) where
     unfolding framedOutput
     framed-output = at-yes _ _ (ap isDone (done (length (replicate (length s) 0)) (length-replicate (length s) 0)))
 
-    frame-seen : seenOf P m c (noFrame P) (bitsOf s n) ≡ bitsOf (framedOutput P c m s n (replicate (length s) 0)) n
+    frame-seen : seenOf asOne P m c (noFrame P) (bitsOf s n) ≡ bitsOf (framedOutput P c m s n (replicate (length s) 0)) n
     frame-seen =
         let few = few-unused (length s) n (sendable .counted) in
-        seen-bytes P sound m c s n (noFrame P) none (sendable .bytes)
+        seen-bytes P sound m c asOne onQ shown-bit s n (noFrame P) none (sendable .bytes)
         ∙ ap (λ l. take n (flat l)) (seen-table P sound m c s)
         ∙ sym (ap (λ l. take n (flat l)) framed-output ∙ padding (few .0) (few .1))
       where
@@ -73,6 +75,12 @@ module _ (P : Part) (sound : Sound P) where
 
         padding : n ≤ 8 * length s → 8 * length s - n < 8 → take n (flat (output P (running c) (λ j. status c) m s n)) ≡ take n (flat (table (length s) shown))
         padding h k = unfold output table in pad-bits shown (length s) (8 * length s - n) k (length s) 0 n (omega arith) (omega arith)
+
+    frame-levels-seen : seenOf (λ l. l) P m c (noFrame P) (bitsOf s n) ≡ outputLevels P (frameBench c m) s n
+    frame-levels-seen =
+        let few = few-unused (length s) n (sendable .counted) in
+        frame-levels P sound m c s n (sendable .bytes) (few .0)
+        ∙ ap₂ levelled (sym (at-yes _ _ (ap isDone (done (length s) refl)))) frame-seen
 
     frame-core : decides P c w (endOf P m c (noFrame P) (bitsOf s n)) ≡ after P (running c) w c s n
     frame-core =
@@ -114,20 +122,33 @@ module _ (P : Part) (sound : Sound P) where
     unheld : p .s ≡ 1 → x .held ≡ 0
     unheld e = eqb-true _ _ (sym (at-yes _ _ (ap on e)) ∙ parts .1 .0)
 
-  pub agrees : Agreement P
-  unfolding Agreement
-  agrees b ks es u r =
+  -- what is noted of each frame is what the ticks see of it: so it is with any list
+  same-seen : {A : Type 0} (look : Level → A) (note : Part → FrameBench → List ℕ → ℕ → List A)
+      → ((w : Bool) (c : Core) (m : List ℕ) (s : List ℕ) (n : ℕ) → Within P c → length m ≡ P .size → Sendable P s n
+      → seenOf look P m c (noFrame P) (bitsOf s n) ≡ note P (frameBench c m) s n)
+      → SameSeen look note P
+  unfolding SameSeen
+  same-seen look note noted b ks es u r =
       let x = b .device in
       let p = x .pins in
       let l = levels x (u .fits) in
-      subst⁻¹ (λ y. watched P es [] y ≡ framesPlayed P ks (shared b))
+      subst⁻¹ (λ y. watched look P es [] y ≡ framesPlayed note P ks (shared b))
       (λ i. pinBench
       (withPins (pinsAt (u .up i) (bit-on (p .c) (l .0) i) (bit-on (p .d) (l .1 .0) i) (bit-on (p .w) (l .1 .1) i) (u .free i))
       (withHeldAt (unheld x (u .fits) (u .up) i) x))
       (b .memory))
-      (says P x
-      (λ w c m s n k e h. (frame-seen w c m s n k e h, (frame-core w c m s n k e h, after-within P sound w c s n (running c) (λ r. r) k)))
+      (says look note P x
+      (λ w c m s n k e h. (noted w c m s n k e h, (frame-core w c m s n k e h, after-within P sound w c s n (running c) (λ r. r) k)))
       r (x .frame) (x .core) (b .memory) (within P (x .core) (parts x (u .fits) .1 .1)) (u .memory))
+
+  pub agrees : Agreement P
+  agrees = same-seen asOne outputBits frame-seen
+
+  pub levels-agree : LevelAgreement P
+  levels-agree = same-seen (λ l. l) outputLevels frame-levels-seen
 
 pub agreement : Agreement m95512
 agreement = agrees m95512 m95512-sound
+
+pub level-agreement : LevelAgreement m95512
+level-agreement = levels-agree m95512 m95512-sound

@@ -19,6 +19,7 @@ use Rattle.chip.specs.declared.Core.{Core}
 use Rattle.latch.specs.declared.Latch.{Latch}
 use Rattle.codes.specs.declared.Instruction.{Instruction}
 use Rattle.edges.specs.declared.Frame.{Frame}
+use Rattle.edges.specs.declared.Level.{Level}
 use Rattle.edges.specs.declared.Level.the-variants.{Zero, One}
 use Rattle.edges.specs.Frames.{noFrame, withBits, withOut}
 use Rattle.edges.specs.Rising.{risen, wholeByte, shiftedIn}
@@ -111,7 +112,7 @@ unfolding pick
 as-level true = refl
 as-level false = refl
 
-all-ones : (k : ℕ) → k ≤ 7 → true ≡ on (bitOf (7 - k) 255)
+pub all-ones : (k : ℕ) → k ≤ 7 → true ≡ on (bitOf (7 - k) 255)
 all-ones zero h = refl
 all-ones (suc zero) h = refl
 all-ones (suc (suc zero)) h = refl
@@ -122,7 +123,7 @@ all-ones (suc (suc (suc (suc (suc (suc zero)))))) h = refl
 all-ones (suc (suc (suc (suc (suc (suc (suc zero))))))) h = refl
 all-ones (suc (suc (suc (suc (suc (suc (suc (suc k)))))))) h = absurd (omega arith)
 
-shown-bit : (b : Bool) (k a : ℕ) (f : Frame) → k ≤ 7 → asOne (shows (midByte b k a f)) ≡ on (bitOf (7 - k) (onQ b f))
+pub shown-bit : (b : Bool) (k a : ℕ) (f : Frame) → k ≤ 7 → asOne (shows (midByte b k a f)) ≡ on (bitOf (7 - k) (onQ b f))
 unfolding shows
 shown-bit true k a f h =
     let next : 8 - suc k ≡ 7 - k = omega arith in
@@ -191,18 +192,6 @@ module _ (P : Part) (sound : Sound P) (m : List ℕ) (c : Core) where
   twice-below : (k a : ℕ) (d : Bool) → a < 2 ^ k → 2 * a + bit d < 2 ^ suc k
   twice-below k a d h = omega (arith, bit-most d, pow-suc 2 k)
 
-  mid-seen : (bs rest : List Bool) (b : Bool) (f : Frame) (k a : ℕ) → drivesOf f ≡ b → k + length bs ≤ 7 → a < 2 ^ k
-      → seenOf P m c (midByte b k a f) (bs ++ rest)
-      ≡ shownBits (onQ b f) k (length bs) ++ seenOf P m c (midByte b (k + length bs) (joined a bs) f) rest
-  unfolding seenOf joined shownBits
-  mid-seen [] rest b f k a e h l = ap (λ n. seenOf P m c (midByte b n a f) rest) (omega arith)
-  mid-seen (d ∷ bs) rest b f k a e h l =
-      let next : suc k + length bs ≡ k + suc (length bs) = omega arith in
-      ap₂ (λ x l. x ∷ l) (shown-bit b k a f (omega arith))
-      (ap (λ g. seenOf P m c g (bs ++ rest)) (mid-tick b d f k a e (omega arith) (below-128 k a (omega arith) l))
-      ∙ mid-seen bs rest b f (suc k) (2 * a + bit d) e (omega arith) (twice-below k a d l)
-      ∙ ap (λ n. shownBits (onQ b f) (suc k) (length bs) ++ seenOf P m c (midByte b n (joined (2 * a + bit d) bs) f) rest) next)
-
   mid-end : (bs rest : List Bool) (b : Bool) (f : Frame) (k a : ℕ) → drivesOf f ≡ b → k + length bs ≤ 7 → a < 2 ^ k
       → endOf P m c (midByte b k a f) (bs ++ rest) ≡ endOf P m c (midByte b (k + length bs) (joined a bs) f) rest
   unfolding endOf joined
@@ -218,9 +207,9 @@ module _ (P : Part) (sound : Sound P) (m : List ℕ) (c : Core) where
   unfoldable pub step : ℕ → Frame → Frame
   step v f = stepByte P sound m c (drivesOf f) v f
 
-  unfoldable pub bytesSeen : Frame → List ℕ → List ℕ
-  bytesSeen f [] = []
-  bytesSeen f (v ∷ vs) = onQ (drivesOf f) f ∷ bytesSeen (step v f) vs
+  unfoldable pub bytesSeen : (Bool → Frame → ℕ) → Frame → List ℕ → List ℕ
+  bytesSeen over f [] = []
+  bytesSeen over f (v ∷ vs) = over (drivesOf f) f ∷ bytesSeen over (step v f) vs
 
   unfoldable pub bytesEnd : Frame → List ℕ → Frame
   bytesEnd f [] = f
@@ -252,32 +241,47 @@ module _ (P : Part) (sound : Sound P) (m : List ℕ) (c : Core) where
   reached-step u f none = subst⁻¹ Reached (step-first (decode P u) u refl) (some u 1 _ _ _ _ (omega arith))
   reached-step u f (some v j a x o l h) = subst⁻¹ Reached (step-more (decode P v) u v j a x o _ l refl h) (some v (suc j) _ _ _ _ (omega arith))
 
-  cons-seen : (f : Frame) (v : ℕ) (vs : List ℕ) (n : ℕ) → v < 256
-      → ((k : ℕ) → seenOf P m c (step v f) (take k (flat vs)) ≡ take k (flat (bytesSeen (step v f) vs)))
-      → seenOf P m c (midByte (drivesOf f) 0 0 f) (take n (flat (v ∷ vs))) ≡ take n (flat (bytesSeen f (v ∷ vs)))
-  unfolding flat bytesSeen seenOf shownBits step
-  cons-seen f v vs zero h ih = mid-seen ([]) [] (drivesOf f) f 0 0 refl (omega arith) (omega arith)
-  cons-seen f v vs (suc zero) h ih = mid-seen (take 1 (high7 v)) [] (drivesOf f) f 0 0 refl (omega arith) (omega arith)
-  cons-seen f v vs (suc (suc zero)) h ih = mid-seen (take 2 (high7 v)) [] (drivesOf f) f 0 0 refl (omega arith) (omega arith)
-  cons-seen f v vs (suc (suc (suc zero))) h ih = mid-seen (take 3 (high7 v)) [] (drivesOf f) f 0 0 refl (omega arith) (omega arith)
-  cons-seen f v vs (suc (suc (suc (suc zero)))) h ih = mid-seen (take 4 (high7 v)) [] (drivesOf f) f 0 0 refl (omega arith) (omega arith)
-  cons-seen f v vs (suc (suc (suc (suc (suc zero))))) h ih = mid-seen (take 5 (high7 v)) [] (drivesOf f) f 0 0 refl (omega arith) (omega arith)
-  cons-seen f v vs (suc (suc (suc (suc (suc (suc zero)))))) h ih = mid-seen (take 6 (high7 v)) [] (drivesOf f) f 0 0 refl (omega arith) (omega arith)
-  cons-seen f v vs (suc (suc (suc (suc (suc (suc (suc zero))))))) h ih = mid-seen (high7 v) [] (drivesOf f) f 0 0 refl (omega arith) (omega arith)
-  cons-seen f v vs (suc (suc (suc (suc (suc (suc (suc (suc n)))))))) h ih =
-      let b = drivesOf f in
-      let a = joined 0 (high7 v) in
-      mid-seen (high7 v) (on (bitOf 0 v) ∷ take n (flat vs)) b f 0 0 refl (omega arith) (omega arith)
-      ∙ ap₂ (λ x l. shownBits (onQ b f) 0 7 ++ (x ∷ l)) (shown-bit b 7 a f (omega arith))
-      (ap (λ g. seenOf P m c g (take n (flat vs))) (last-tick b (on (bitOf 0 v)) f a v (joined-eight v h) h) ∙ ih n)
+  -- what is seen of the ticks: look of each level, and the byte that has those bits over a byte of the frame
+  module _ (look : Level → Bool) (over : Bool → Frame → ℕ)
+      (looks : (b : Bool) (k a : ℕ) (f : Frame) → k ≤ 7 → look (shows (midByte b k a f)) ≡ on (bitOf (7 - k) (over b f))) where
+    mid-seen : (bs rest : List Bool) (b : Bool) (f : Frame) (k a : ℕ) → drivesOf f ≡ b → k + length bs ≤ 7 → a < 2 ^ k
+        → seenOf look P m c (midByte b k a f) (bs ++ rest)
+        ≡ shownBits (over b f) k (length bs) ++ seenOf look P m c (midByte b (k + length bs) (joined a bs) f) rest
+    unfolding seenOf joined shownBits
+    mid-seen [] rest b f k a e h l = ap (λ n. seenOf look P m c (midByte b n a f) rest) (omega arith)
+    mid-seen (d ∷ bs) rest b f k a e h l =
+        let next : suc k + length bs ≡ k + suc (length bs) = omega arith in
+        ap₂ (λ x l. x ∷ l) (looks b k a f (omega arith))
+        (ap (λ g. seenOf look P m c g (bs ++ rest)) (mid-tick b d f k a e (omega arith) (below-128 k a (omega arith) l))
+        ∙ mid-seen bs rest b f (suc k) (2 * a + bit d) e (omega arith) (twice-below k a d l)
+        ∙ ap (λ n. shownBits (over b f) (suc k) (length bs) ++ seenOf look P m c (midByte b n (joined (2 * a + bit d) bs) f) rest) next)
 
-  pub seen-bytes : (s : List ℕ) (n : ℕ) (f : Frame) → Reached f → ((i : ℕ) → getD s i 0 < 256)
-      → seenOf P m c f (take n (flat s)) ≡ take n (flat (bytesSeen f s))
-  unfolding flat bytesSeen seenOf
-  seen-bytes [] n f r h = rw take-nil
-  seen-bytes (v ∷ vs) n f r h =
-      ap (λ g. seenOf P m c g (take n (flat (v ∷ vs)))) (as-mid f r)
-      ∙ cons-seen f v vs n (h 0) (λ k. seen-bytes vs k (step v f) (reached-step v f r) (λ i. h (suc i)))
+    cons-seen : (f : Frame) (v : ℕ) (vs : List ℕ) (n : ℕ) → v < 256
+        → ((k : ℕ) → seenOf look P m c (step v f) (take k (flat vs)) ≡ take k (flat (bytesSeen over (step v f) vs)))
+        → seenOf look P m c (midByte (drivesOf f) 0 0 f) (take n (flat (v ∷ vs))) ≡ take n (flat (bytesSeen over f (v ∷ vs)))
+    unfolding flat bytesSeen seenOf shownBits step
+    cons-seen f v vs zero h ih = mid-seen ([]) [] (drivesOf f) f 0 0 refl (omega arith) (omega arith)
+    cons-seen f v vs (suc zero) h ih = mid-seen (take 1 (high7 v)) [] (drivesOf f) f 0 0 refl (omega arith) (omega arith)
+    cons-seen f v vs (suc (suc zero)) h ih = mid-seen (take 2 (high7 v)) [] (drivesOf f) f 0 0 refl (omega arith) (omega arith)
+    cons-seen f v vs (suc (suc (suc zero))) h ih = mid-seen (take 3 (high7 v)) [] (drivesOf f) f 0 0 refl (omega arith) (omega arith)
+    cons-seen f v vs (suc (suc (suc (suc zero)))) h ih = mid-seen (take 4 (high7 v)) [] (drivesOf f) f 0 0 refl (omega arith) (omega arith)
+    cons-seen f v vs (suc (suc (suc (suc (suc zero))))) h ih = mid-seen (take 5 (high7 v)) [] (drivesOf f) f 0 0 refl (omega arith) (omega arith)
+    cons-seen f v vs (suc (suc (suc (suc (suc (suc zero)))))) h ih = mid-seen (take 6 (high7 v)) [] (drivesOf f) f 0 0 refl (omega arith) (omega arith)
+    cons-seen f v vs (suc (suc (suc (suc (suc (suc (suc zero))))))) h ih = mid-seen (high7 v) [] (drivesOf f) f 0 0 refl (omega arith) (omega arith)
+    cons-seen f v vs (suc (suc (suc (suc (suc (suc (suc (suc n)))))))) h ih =
+        let b = drivesOf f in
+        let a = joined 0 (high7 v) in
+        mid-seen (high7 v) (on (bitOf 0 v) ∷ take n (flat vs)) b f 0 0 refl (omega arith) (omega arith)
+        ∙ ap₂ (λ x l. shownBits (over b f) 0 7 ++ (x ∷ l)) (looks b 7 a f (omega arith))
+        (ap (λ g. seenOf look P m c g (take n (flat vs))) (last-tick b (on (bitOf 0 v)) f a v (joined-eight v h) h) ∙ ih n)
+
+    pub seen-bytes : (s : List ℕ) (n : ℕ) (f : Frame) → Reached f → ((i : ℕ) → getD s i 0 < 256)
+        → seenOf look P m c f (take n (flat s)) ≡ take n (flat (bytesSeen over f s))
+    unfolding flat bytesSeen seenOf
+    seen-bytes [] n f r h = rw take-nil
+    seen-bytes (v ∷ vs) n f r h =
+        ap (λ g. seenOf look P m c g (take n (flat (v ∷ vs)))) (as-mid f r)
+        ∙ cons-seen f v vs n (h 0) (λ k. seen-bytes vs k (step v f) (reached-step v f r) (λ i. h (suc i)))
 
   cons-end : (f : Frame) (v : ℕ) (vs : List ℕ) (n : ℕ) (w : Bool) → v < 256 → n ≤ 8 * suc (length vs)
       → ((k : ℕ) → k ≤ 8 * length vs

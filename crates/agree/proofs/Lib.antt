@@ -8,6 +8,7 @@ pub mod Seen
 pub mod Pages
 pub mod Ends
 pub mod Pad
+pub mod Levels
 pub mod Agree
 pub mod Drawn
 pub mod Shown

@@ -34,7 +34,7 @@ module _ (P : Part) (sound : Sound P) (m : List ℕ) (c : Core) where
 
   -- ---- data output or not
 
-  drives-bytes : (i : Instruction) (v j a x o z : ℕ) (l : Latch) → decode P v ≡ i
+  pub drives-bytes : (i : Instruction) (v j a x o z : ℕ) (l : Latch) → decode P v ≡ i
       → drivesOf P sound m c (afterBytes P sound m c v j a x o z l) ≡ drives P sound m c i j
   drives-bytes i v j a x o z l e = ap₂ (λ d r. outputs P d (min (P .most) j) r) e (on-bit (running c))
 
@@ -59,12 +59,12 @@ module _ (P : Part) (sound : Sound P) (m : List ℕ) (c : Core) where
   Hushed i = (n : ℕ) → outputs P i n (running c) ≡ false
 
   hush-seen : (i : Instruction) (us : List ℕ) (n v j a x o z : ℕ) (l : Latch) → decode P v ≡ i → 1 ≤ j → Hushed i
-      → bytesSeen P sound m c (afterBytes P sound m c v j a x o z l) us ≡ from n (length us) (λ _. 255)
+      → bytesSeen P sound m c onQ (afterBytes P sound m c v j a x o z l) us ≡ from n (length us) (λ _. 255)
   unfolding bytesSeen from
   hush-seen i [] n v j a x o z l e k q = refl
   hush-seen i (u ∷ us) n v j a x o z l e k q =
       ap₂ (λ b r. b ∷ r) (ap (λ t. onQ t (afterBytes P sound m c v j a x o z l)) (drives-bytes i v j a x o z l e ∙ q _))
-      (ap (λ f. bytesSeen P sound m c f us) (step-more P sound m c i u v j a x o z l e k)
+      (ap (λ f. bytesSeen P sound m c onQ f us) (step-more P sound m c i u v j a x o z l e k)
       ∙ hush-seen i us (suc n) v (suc j) _ _ _ _ _ e (omega arith) q)
 
   -- ---- RDSR
@@ -73,14 +73,14 @@ module _ (P : Part) (sound : Sound P) (m : List ℕ) (c : Core) where
   rdsr-on j k = leb-min (P .most) j 1 (omega (arith, sound .counted)) ∙ le-leb 1 j k
 
   rdsr-seen : (us : List ℕ) (v j a x A : ℕ) (l : Latch) → decode P v ≡ Rdsr → 1 ≤ j
-      → bytesSeen P sound m c (afterBytes P sound m c v j a x (status c) 1 l) us ≡ from j (length us) (byteOut P Rdsr (running c) (λ _. status c) m A)
+      → bytesSeen P sound m c onQ (afterBytes P sound m c v j a x (status c) 1 l) us ≡ from j (length us) (byteOut P Rdsr (running c) (λ _. status c) m A)
   unfolding bytesSeen from
   rdsr-seen [] v j a x A l e k = refl
   rdsr-seen (u ∷ us) v j a x A l e k =
       ap₂ (λ b r. b ∷ r)
       (ap (λ t. onQ t (afterBytes P sound m c v j a x (status c) 1 l)) (drives-bytes Rdsr v j a x (status c) 1 l e ∙ rdsr-on j k)
       ∙ sym (at-yes _ _ (le-leb 1 j k)))
-      (ap (λ f. bytesSeen P sound m c f us) (step-more P sound m c Rdsr u v j a x (status c) 1 l e k
+      (ap (λ f. bytesSeen P sound m c onQ f us) (step-more P sound m c Rdsr u v j a x (status c) 1 l e k
       ∙ rdsr-fall v (suc j) a x (status c) l (rdsr-on (suc j) (omega arith)))
       ∙ rdsr-seen us v (suc j) a x A l e (omega arith))
 
@@ -112,7 +112,7 @@ module _ (P : Part) (sound : Sound P) (m : List ℕ) (c : Core) where
 
   read-cells : (us : List ℕ) (v j a A : ℕ) → decode P v ≡ Read → running c ≡ false → P .addressBytes + 1 ≤ j
       → a ≡ (A + (j - (P .addressBytes + 1))) % P .size
-      → bytesSeen P sound m c (cellLoaded v j a) us ≡ from j (length us) (Cell A)
+      → bytesSeen P sound m c onQ (cellLoaded v j a) us ≡ from j (length us) (Cell A)
   unfolding bytesSeen from
   read-cells [] v j a A e b k q = refl
   read-cells (u ∷ us) v j a A e b k q =
@@ -124,7 +124,7 @@ module _ (P : Part) (sound : Sound P) (m : List ℕ) (c : Core) where
       ap₂ (λ x r. x ∷ r)
       (ap (λ t. onQ t (cellLoaded v j a)) (drives-bytes Read v j a′ 0 (getD m a 0) 1 unlatched e ∙ read-on j b k)
       ∙ ap (λ y. getD m y 0) q ∙ sym (cell-on A j b k))
-      (ap (λ f. bytesSeen P sound m c f us) (step-more P sound m c Read u v j a′ 0 (getD m a 0) 1 unlatched e (omega arith)
+      (ap (λ f. bytesSeen P sound m c onQ f us) (step-more P sound m c Read u v j a′ 0 (getD m a 0) 1 unlatched e (omega arith)
       ∙ ap (λ y. afterFall P sound m c Read v (suc j) y 0 (getD m a 0) unlatched) (at-no _ _ past)
       ∙ read-fall v (suc j) a′ 0 (getD m a 0) unlatched (read-on (suc j) b (omega arith)))
       ∙ read-cells us v (suc j) a′ A e b (omega arith)
@@ -160,7 +160,7 @@ module _ (P : Part) (sound : Sound P) (m : List ℕ) (c : Core) where
 
     read-seen : (us : List ℕ) (v r k : ℕ) → decode P v ≡ Read → running c ≡ false → k + r ≡ P .addressBytes
         → ((i : ℕ) → getD us i 0 ≡ getD s (suc k + i) 0)
-        → bytesSeen P sound m c (Read-at v r k) us ≡ from (suc k) (length us) (Cell (address P s))
+        → bytesSeen P sound m c onQ (Read-at v r k) us ≡ from (suc k) (length us) (Cell (address P s))
     unfolding bytesSeen from
     read-seen us v zero k e b q tail =
         let all : k ≡ P .addressBytes = omega arith in
@@ -174,7 +174,7 @@ module _ (P : Part) (sound : Sound P) (m : List ℕ) (c : Core) where
         ap₂ (λ x l. x ∷ l)
         (ap (λ t. onQ t (afterBytes P sound m c v (suc k) a 0 0 0 unlatched)) (drives-bytes Read v (suc k) a 0 0 0 unlatched e ∙ read-off (suc k) (omega arith))
         ∙ sym (cell-off (address P s) (suc k) (omega arith)))
-        (ap (λ f. bytesSeen P sound m c f us) (read-address u v r k e b q (tail 0 ∙ ap (λ y. getD s y 0) here))
+        (ap (λ f. bytesSeen P sound m c onQ f us) (read-address u v r k e b q (tail 0 ∙ ap (λ y. getD s y 0) here))
         ∙ read-seen us v r (suc k) e b (omega arith)
         (λ i. let there : suc k + suc i ≡ suc (suc k) + i = omega arith in tail (suc i) ∙ ap (λ y. getD s y 0) there))
 
@@ -184,26 +184,27 @@ module _ (P : Part) (sound : Sound P) (m : List ℕ) (c : Core) where
   Out i A n = byteOut P i (running c) (λ _. status c) m A n
 
   hush-table : (i : Instruction) (v A : ℕ) (vs : List ℕ) → decode P v ≡ i → Hushed i → ((n : ℕ) → 255 ≡ Out i A n)
-      → bytesSeen P sound m c (step P sound m c v (noFrame P)) vs ≡ from 1 (length vs) (Out i A)
+      → bytesSeen P sound m c onQ (step P sound m c v (noFrame P)) vs ≡ from 1 (length vs) (Out i A)
   hush-table i v A vs e q d =
-      ap (λ f. bytesSeen P sound m c f vs) (step-first P sound m c i v e)
+      ap (λ f. bytesSeen P sound m c onQ f vs) (step-first P sound m c i v e)
       ∙ hush-seen i vs 1 v 1 _ _ _ _ _ e (omega arith) q
       ∙ ap (λ g. from 1 (length vs) g) (fun-ext d)
 
   read-table : (v k : ℕ) (vs : List ℕ) → decode P v ≡ Read → running c ≡ false → k ≡ P .addressBytes
-      → bytesSeen P sound m c (step P sound m c v (noFrame P)) vs ≡ from 1 (length vs) (Cell (address P (v ∷ vs)))
+      → bytesSeen P sound m c onQ (step P sound m c v (noFrame P)) vs ≡ from 1 (length vs) (Cell (address P (v ∷ vs)))
   read-table v zero vs e b q = absurd (omega (arith, sound .bytes-some))
   read-table v (suc r) vs e b q =
-      ap (λ f. bytesSeen P sound m c f vs) (step-first P sound m c Read v e ∙ quiet-fall Read v 1 0 0 0 unlatched (read-off 1 (omega (arith, sound .bytes-some))))
+      let quiet = quiet-fall Read v 1 0 0 0 unlatched (read-off 1 (omega (arith, sound .bytes-some))) in
+      ap (λ f. bytesSeen P sound m c onQ f vs) (step-first P sound m c Read v e ∙ quiet)
       ∙ read-seen (v ∷ vs) vs v (suc r) 0 e b (omega arith) (λ i. let next : suc i ≡ suc 0 + i = omega arith in ap (λ y. getD (v ∷ vs) y 0) next)
 
   tail-table : (i : Instruction) (b : Bool) (v : ℕ) (vs : List ℕ) → decode P v ≡ i → running c ≡ b
-      → bytesSeen P sound m c (step P sound m c v (noFrame P)) vs ≡ from 1 (length vs) (Out i (address P (v ∷ vs)))
+      → bytesSeen P sound m c onQ (step P sound m c v (noFrame P)) vs ≡ from 1 (length vs) (Out i (address P (v ∷ vs)))
   unfolding pick
   tail-table Wren b v vs e r = hush-table Wren v (address P (v ∷ vs)) vs e (λ n. refl) (λ n. refl)
   tail-table Wrdi b v vs e r = hush-table Wrdi v (address P (v ∷ vs)) vs e (λ n. refl) (λ n. refl)
   tail-table Rdsr b v vs e r =
-      ap (λ f. bytesSeen P sound m c f vs) (step-first P sound m c Rdsr v e ∙ rdsr-fall v 1 0 0 0 unlatched (rdsr-on 1 (omega arith)))
+      ap (λ f. bytesSeen P sound m c onQ f vs) (step-first P sound m c Rdsr v e ∙ rdsr-fall v 1 0 0 0 unlatched (rdsr-on 1 (omega arith)))
       ∙ rdsr-seen vs v 1 0 0 (address P (v ∷ vs)) unlatched e (omega arith)
   tail-table Wrsr b v vs e r = hush-table Wrsr v (address P (v ∷ vs)) vs e (λ n. refl) (λ n. refl)
   tail-table Read true v vs e r =
@@ -224,7 +225,7 @@ module _ (P : Part) (sound : Sound P) (m : List ℕ) (c : Core) where
   head-table Write A = refl
   head-table Silence A = refl
 
-  pub seen-table : (s : List ℕ) → bytesSeen P sound m c (noFrame P) s ≡ table (length s) (Out (instruction P s) (address P s))
+  pub seen-table : (s : List ℕ) → bytesSeen P sound m c onQ (noFrame P) s ≡ table (length s) (Out (instruction P s) (address P s))
   unfolding bytesSeen table from decode pick
   seen-table [] = refl
   seen-table (v ∷ vs) = ap₂ (λ b l. b ∷ l) (head-table (decode P v) (address P (v ∷ vs))) (tail-table (decode P v) (running c) v vs refl refl)

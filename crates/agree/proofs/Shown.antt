@@ -24,7 +24,7 @@ use Rattle.pins.specs.Devices.{resting}
 use Rattle.pins.specs.Ranges.{deviceFits}
 use Rattle.pins.specs.Answers.{PinBench, pinBench}
 use Rattle.agree.specs.Drawings.{flat, Wave, between}
-use Rattle.agree.specs.Reports.{Report, watched, framesPlayed, Unselected, Agreement}
+use Rattle.agree.specs.Reports.{Report, asOne, watched, outputBits, framesPlayed, Unselected, SameSeen}
 use Rattle.agree.proofs.Agree.{agreement}
 
 -- with W high: WREN; WRITE of 00h at 0000h; RDSR; the clock reads 5,000; RDSR; READ at 0000h
@@ -34,18 +34,18 @@ acts =
     ∷ frame true (0x05 ∷ 0x00 ∷ []) 16 ∷ frame true (0x03 ∷ 0x00 ∷ 0x00 ∷ 0x00 ∷ []) 32 ∷ []
 
 -- a device as delivered
-pub run : List Report
-run = framesPlayed m95512 acts (frameBench (delivered m95512) (deliveredMemory m95512))
+pub run : List (Report Bool)
+run = framesPlayed outputBits m95512 acts (frameBench (delivered m95512) (deliveredMemory m95512))
 
-abbrev pub bitsSeen : List Report → List (List Bool)
+abbrev pub bitsSeen : List (Report Bool) → List (List Bool)
 bitsSeen [] = []
-bitsSeen (r ∷ rs) = r .bits ∷ bitsSeen rs
+bitsSeen (r ∷ rs) = r .seen ∷ bitsSeen rs
 
-abbrev pub statuses : List Report → List ℕ
+abbrev pub statuses : List (Report Bool) → List ℕ
 statuses [] = []
 statuses (r ∷ rs) = status (r .bench .core) ∷ statuses rs
 
-abbrev pub firstCells : List Report → List ℕ
+abbrev pub firstCells : List (Report Bool) → List ℕ
 firstCells [] = []
 firstCells (r ∷ rs) = getD (r .bench .memory) 0 0 ∷ firstCells rs
 
@@ -56,7 +56,7 @@ abbrev pub none : List Bool
 none = false ∷ false ∷ false ∷ false ∷ false ∷ false ∷ false ∷ false ∷ []
 
 -- what a bench sees: the status 03h and then 00h on Q, and the cell's 00h; a write enable latch and a cycle that come and go; a cell from FFh to 00h
-pub record Seen (rs : List Report) : Type 0 where
+pub record Seen (rs : List (Report Bool)) : Type 0 where
   pub bits :
       bitsSeen rs
       ≡ ones ∷ (ones ++ ones ++ ones ++ ones) ∷ (ones ++ (false ∷ false ∷ false ∷ false ∷ false ∷ false ∷ true ∷ true ∷ [])) ∷ (ones ++ none)
@@ -77,6 +77,6 @@ unselected : Unselected m95512 deliveredBench
 unfolding deviceFits inRanges each pick decode zeros
 unselected = record { fits = refl; up = refl; free = refl; memory = length-replicate {A = ℕ} (m95512 .size) 0xff }
 
-pub pins-seen : (es : List Event) → Wave m95512 (between false) false true [] acts es → Seen (watched m95512 es [] deliveredBench)
-unfolding Agreement run
+pub pins-seen : (es : List Event) → Wave m95512 (between false) false true [] acts es → Seen (watched asOne m95512 es [] deliveredBench)
+unfolding SameSeen run
 pins-seen es r = subst Seen (sym (agreement deliveredBench acts es unselected r)) frames-seen

@@ -17,7 +17,6 @@ use Rattle.edges.specs.declared.Level.{Level}
 use Rattle.edges.specs.declared.Level.the-variants.{Z}
 use Rattle.edges.specs.Rising.{risen}
 use Rattle.edges.specs.Falling.{fallen, levelOf}
-use Rattle.agree.specs.Reports.{asOne}
 
 abbrev pub tick : Part → List ℕ → Core → Bool → Frame → Frame
 tick P m c b f = fallen P m c (risen P (running c) (bit b) f)
@@ -26,10 +25,10 @@ tick P m c b f = fallen P m c (risen P (running c) (bit b) f)
 unfoldable pub shows : Frame → Level
 shows f = pick (leb 1 (f .shown)) (levelOf (bitOf (8 - f .shown) (f .out))) Z
 
--- the bits seen at the counted clocks
-unfoldable pub seenOf : Part → List ℕ → Core → Frame → List Bool → List Bool
-seenOf P m c f [] = []
-seenOf P m c f (b ∷ bs) = asOne (shows f) ∷ seenOf P m c (tick P m c b f) bs
+-- what is seen at the counted clocks
+unfoldable pub seenOf : {A : Type 0} → (Level → A) → Part → List ℕ → Core → Frame → List Bool → List A
+seenOf look P m c f [] = []
+seenOf look P m c f (b ∷ bs) = look (shows f) ∷ seenOf look P m c (tick P m c b f) bs
 
 unfoldable pub endOf : Part → List ℕ → Core → Frame → List Bool → Frame
 endOf P m c f [] = f

@@ -4,7 +4,7 @@ use mathlib.Core.Bool.{Bool, true, false, not, _&&_, Bool·beq}
 use mathlib.Core.List.{List, [], _∷_, _++_, append-nil, append-assoc}
 use mathlib.Core.Path.{_≡_, refl, sym, ap, ap₂, _∙_, subst}
 use lib.Dec.{T, leb, ltb}
-use lib.ListN.{length, replicate}
+use lib.ListN.{length}
 use Rattle.laws.specs.Pick.{pick, pick-case, pick-same}
 use Rattle.codes.specs.Part.{Part}
 use Rattle.codes.specs.Status.{bit, on}
@@ -20,9 +20,9 @@ use Rattle.codes.specs.declared.Instruction.the-variants.{Wren, Wrdi, Rdsr, Wrs
 use Rattle.chip.proofs.Within.{Within}
 use Rattle.chip.proofs.Passing.{timed-within, timed-length}
 use Rattle.frames.specs.After.{after}
-use Rattle.frames.specs.Answers.{framedOutput}
-use Rattle.frames.specs.Play.{Act, frameBench}
+use Rattle.frames.specs.Play.{Act, FrameBench, frameBench}
 use Rattle.edges.specs.declared.Frame.{Frame}
+use Rattle.edges.specs.declared.Level.{Level}
 use Rattle.pins.specs.declared.Device.{Device}
 use Rattle.pins.specs.declared.Event.{Event}
 use Rattle.pins.specs.declared.Event.the-variants.{S, C, D, W, Hold, Time}
@@ -34,7 +34,7 @@ use Rattle.pins.specs.Devices.{pinsAt, withPins, withHeld, withFrame, withCore,
 use Rattle.pins.specs.Events.{onS, onC, onD, onW, onHold, onTime}
 use Rattle.pins.specs.Answers.{PinBench, pinBench}
 use Rattle.agree.specs.Drawings.{mode0, mode3, Phase, between, inside, paused, sOf, cOf, holdOf, stays, Sendable, bitsOf, Wave, data′, stay′, end′, clock′, protect′, reading′, select′, rise′, fall′, deselect′, hold′, idle′, resume′}
-use Rattle.agree.specs.Reports.{Report, report, asOne, watched, framesPlayed}
+use Rattle.agree.specs.Reports.{Report, report, watched, framesPlayed}
 use Rattle.agree.proofs.Ticks.{tick, shows, seenOf, endOf, decidesAt, decides}
 
 -- a bench: the device x but for its pins at these levels, held or not, its frame part and its record
@@ -46,14 +46,14 @@ benchAt x s c d w hold held f k m =
 abbrev pub benchIn : Device → Phase → Bool → Bool → Frame → Core → List ℕ → PinBench
 benchIn x p d w f k m = benchAt x (sOf p) (cOf p) d w (holdOf p) (not (holdOf p)) f k m
 
-module _ (P : Part) (x : Device) where
+module _ {A : Type 0} (look : Level → A) (note : Part → FrameBench → List ℕ → ℕ → List A) (P : Part) (x : Device) where
   -- a frame's report, and then the acts
-  pub reportThen : List Act → List ℕ → List Bool → Core → List Report
-  reportThen ks m bits c = report bits (frameBench c m) ∷ framesPlayed P ks (frameBench c m)
+  pub reportThen : List Act → List ℕ → List A → Core → List (Report A)
+  reportThen ks m bits c = report bits (frameBench c m) ∷ framesPlayed note P ks (frameBench c m)
 
   -- the ticks' account of a frame with bs still to come, from the frame part f, then the acts
-  pub ticksThen : List Bool → List Act → Bool → Frame → Core → List ℕ → List Bool → List Report
-  ticksThen bs ks w f c m seen = reportThen ks m (seen ++ seenOf P m c f bs) (decides P c w (endOf P m c f bs))
+  pub ticksThen : List Bool → List Act → Bool → Frame → Core → List ℕ → List A → List (Report A)
+  ticksThen bs ks w f c m seen = reportThen ks m (seen ++ seenOf look P m c f bs) (decides P c w (endOf P m c f bs))
 
   -- the frame leaves a record inside the ranges, and the memory has its size
   abbrev pub Kept : List Bool → Bool → Frame → Core → List ℕ → Type 0
@@ -63,37 +63,37 @@ module _ (P : Part) (x : Device) where
   abbrev pub Says : Phase → Bool → Bool → List Bool → List Act → List Event → Type 0
   Says (between l) d w bs ks es =
       (f : Frame) (c : Core) (m : List ℕ) → Within P c → length m ≡ P .size
-      → watched P es [] (benchIn x (between l) d w f c m) ≡ framesPlayed P ks (frameBench c m)
+      → watched look P es [] (benchIn x (between l) d w f c m) ≡ framesPlayed note P ks (frameBench c m)
   Says (inside o false) d w bs ks es =
-      (f : Frame) (c : Core) (m : List ℕ) (seen : List Bool) → Kept bs w f c m
-      → watched P es seen (benchIn x (inside o false) d w f c m) ≡ ticksThen bs ks w f c m seen
+      (f : Frame) (c : Core) (m : List ℕ) (seen : List A) → Kept bs w f c m
+      → watched look P es seen (benchIn x (inside o false) d w f c m) ≡ ticksThen bs ks w f c m seen
   Says (inside o true) d w bs ks es =
-      (f : Frame) (c : Core) (m : List ℕ) (seen : List Bool) → Kept bs w (fallen P m c f) c m
-      → watched P es seen (benchIn x (inside o true) d w f c m) ≡ ticksThen bs ks w (fallen P m c f) c m seen
+      (f : Frame) (c : Core) (m : List ℕ) (seen : List A) → Kept bs w (fallen P m c f) c m
+      → watched look P es seen (benchIn x (inside o true) d w f c m) ≡ ticksThen bs ks w (fallen P m c f) c m seen
   Says (paused o l) d w bs ks es =
-      (f : Frame) (c : Core) (m : List ℕ) (seen : List Bool) → Kept bs w f c m
-      → watched P es seen (benchIn x (paused o l) d w f c m) ≡ ticksThen bs ks w f c m seen
+      (f : Frame) (c : Core) (m : List ℕ) (seen : List A) → Kept bs w f c m
+      → watched look P es seen (benchIn x (paused o l) d w f c m) ≡ ticksThen bs ks w f c m seen
 
   -- ---- setting a pin to the level that it has
 
-  stay-s : (b s c d w h z : Bool) (f : Frame) (k : Core) (m : List ℕ) (es : List Event) (seen : List Bool) → T (Bool·beq b s)
-      → watched P (S b ∷ es) seen (benchAt x s c d w h z f k m) ≡ watched P es seen (benchAt x s c d w h z f k m)
+  stay-s : (b s c d w h z : Bool) (f : Frame) (k : Core) (m : List ℕ) (es : List Event) (seen : List A) → T (Bool·beq b s)
+      → watched look P (S b ∷ es) seen (benchAt x s c d w h z f k m) ≡ watched look P es seen (benchAt x s c d w h z f k m)
   unfolding watched onS pick
   stay-s true true c d w h z f k m es seen t = refl
   stay-s true false c d w h z f k m es seen t = absurd t
   stay-s false true c d w h z f k m es seen t = absurd t
   stay-s false false c d w h z f k m es seen t = refl
 
-  stay-c : (b s c d w h z : Bool) (f : Frame) (k : Core) (m : List ℕ) (es : List Event) (seen : List Bool) → T (Bool·beq b c)
-      → watched P (C b ∷ es) seen (benchAt x s c d w h z f k m) ≡ watched P es seen (benchAt x s c d w h z f k m)
+  stay-c : (b s c d w h z : Bool) (f : Frame) (k : Core) (m : List ℕ) (es : List Event) (seen : List A) → T (Bool·beq b c)
+      → watched look P (C b ∷ es) seen (benchAt x s c d w h z f k m) ≡ watched look P es seen (benchAt x s c d w h z f k m)
   unfolding watched onC pick
   stay-c true s true d w h z f k m es seen t = refl
   stay-c true s false d w h z f k m es seen t = absurd t
   stay-c false s true d w h z f k m es seen t = absurd t
   stay-c false s false d w h z f k m es seen t = refl
 
-  stay-w : (b s c d w h z : Bool) (f : Frame) (k : Core) (m : List ℕ) (es : List Event) (seen : List Bool) → T (Bool·beq b w)
-      → watched P (W b ∷ es) seen (benchAt x s c d w h z f k m) ≡ watched P es seen (benchAt x s c d w h z f k m)
+  stay-w : (b s c d w h z : Bool) (f : Frame) (k : Core) (m : List ℕ) (es : List Event) (seen : List A) → T (Bool·beq b w)
+      → watched look P (W b ∷ es) seen (benchAt x s c d w h z f k m) ≡ watched look P es seen (benchAt x s c d w h z f k m)
   unfolding watched onW
   stay-w true s c d true h z f k m es seen t = refl
   stay-w true s c d false h z f k m es seen t = absurd t
@@ -101,8 +101,8 @@ module _ (P : Part) (x : Device) where
   stay-w false s c d false h z f k m es seen t = refl
 
   -- HOLD: held follows it, and does so already
-  stay-hold : (p : Phase) (b d w : Bool) (f : Frame) (k : Core) (m : List ℕ) (es : List Event) (seen : List Bool) → T (Bool·beq b (holdOf p))
-      → watched P (Hold b ∷ es) seen (benchIn x p d w f k m) ≡ watched P es seen (benchIn x p d w f k m)
+  stay-hold : (p : Phase) (b d w : Bool) (f : Frame) (k : Core) (m : List ℕ) (es : List Event) (seen : List A) → T (Bool·beq b (holdOf p))
+      → watched look P (Hold b ∷ es) seen (benchIn x p d w f k m) ≡ watched look P es seen (benchIn x p d w f k m)
   unfolding watched onHold pick
   stay-hold (between true) true d w f k m es seen t = refl
   stay-hold (between false) true d w f k m es seen t = refl
@@ -114,8 +114,8 @@ module _ (P : Part) (x : Device) where
   stay-hold (paused o true) false d w f k m es seen t = refl
   stay-hold (paused o false) false d w f k m es seen t = refl
 
-  stay : (p : Phase) (w : Bool) (e : Event) → T (stays p w e) → (d : Bool) (f : Frame) (k : Core) (m : List ℕ) (es : List Event) (seen : List Bool)
-      → watched P (e ∷ es) seen (benchIn x p d w f k m) ≡ watched P es seen (benchIn x p d w f k m)
+  stay : (p : Phase) (w : Bool) (e : Event) → T (stays p w e) → (d : Bool) (f : Frame) (k : Core) (m : List ℕ) (es : List Event) (seen : List A)
+      → watched look P (e ∷ es) seen (benchIn x p d w f k m) ≡ watched look P es seen (benchIn x p d w f k m)
   stay p w (S b) t d f k m es seen = stay-s b (sOf p) (cOf p) d w (holdOf p) (not (holdOf p)) f k m es seen t
   stay p w (C b) t d f k m es seen = stay-c b (sOf p) (cOf p) d w (holdOf p) (not (holdOf p)) f k m es seen t
   stay p w (D b) t d f k m es seen = absurd t
@@ -164,11 +164,11 @@ module _ (P : Part) (x : Device) where
 
   -- ---- the drawing
 
-  -- of every frame that is not refused: the ticks see its output bits, deselect leaves what the frame model leaves, and that is inside the ranges
+  -- of every frame that is not refused: the ticks see what is noted of it, deselect leaves what the frame model leaves, and that is inside the ranges
   abbrev pub EachFrame : Type 0
   EachFrame =
       (w : Bool) (c : Core) (m : List ℕ) (s : List ℕ) (n : ℕ) → Within P c → length m ≡ P .size → Sendable P s n
-      → (seenOf P m c (noFrame P) (bitsOf s n) ≡ bitsOf (framedOutput P c m s n (replicate (length s) 0)) n)
+      → (seenOf look P m c (noFrame P) (bitsOf s n) ≡ note P (frameBench c m) s n)
       × ((decides P c w (endOf P m c (noFrame P) (bitsOf s n)) ≡ after P (running c) w c s n)
       × Within P (after P (running c) w c s n))
 
@@ -199,9 +199,9 @@ module _ (P : Part) (x : Device) where
         ∙ ap (λ g. ticksThen (bitsOf s n) ks w g c m []) (fall-none m c)
         ∙ ap₂ (reportThen ks m) (z .0) (z .1 .0)
     says (rise′ {d = d} {w = w} {bs = bs} {ks = ks} r) = λ f c m seen k.
-        says r (risen P (running c) (bit d) f) c m (seen ++ (asOne (shows f) ∷ [])) k
+        says r (risen P (running c) (bit d) f) c m (seen ++ (look (shows f) ∷ [])) k
         ∙ ap (λ b. reportThen ks m b (decides P c w (endOf P m c (tick P m c d f) bs)))
-        (append-assoc seen (asOne (shows f) ∷ []) (seenOf P m c (tick P m c d f) bs))
+        (append-assoc seen (look (shows f) ∷ []) (seenOf look P m c (tick P m c d f) bs))
     says (fall′ r) = λ f c m seen k. says r (fallen P m c f) c m seen k
     says (deselect′ {m = mode0} {w = w} {ks = ks} r) = λ f c m seen k.
         ap (λ l. report seen (frameBench (decides P c w f) m) ∷ l) (says r (noFrame P) (decides P c w f) m (k .0) (k .1))

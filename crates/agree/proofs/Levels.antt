@@ -1,0 +1,251 @@
+-- The two models show the same levels: where Q is driven is seen of the ticks byte by byte, as its bits are, and a level is the two together.
+use Prim.Native.Nat.{ℕ, zero, suc, _+_, _*_, _-_, _≤_, _<_, min}
+use mathlib.Core.Bool.{Bool, true, false, not, _&&_, cond, and-true, and-false}
+use mathlib.Core.List.{List, [], _∷_, _++_, map}
+use mathlib.Core.Path.{_≡_, refl, sym, ap, ap₂, _∙_, fun-ext}
+use native.Mathlib.Decide.{decLe}
+use native.Mathlib.Omega.{arith}
+use lib.Dec.{leb}
+use lib.ListN.{take, length, getD}
+use lib.Seq.{length-take-le}
+use borrow.Author.Tests.{le-leb, lt-leb}
+use Rattle.laws.specs.Pick.{pick, at-yes, at-no, and-no-left}
+use Rattle.laws.specs.Table.{from, table}
+use Rattle.codes.specs.Part.{Part}
+use Rattle.codes.specs.Status.{on, bitOf}
+use Rattle.codes.specs.Instructions.{decode}
+use Rattle.codes.specs.Output.{outputs}
+use Rattle.codes.specs.declared.Instruction.{Instruction}
+use Rattle.codes.specs.declared.Instruction.the-variants.{Wren, Wrdi, Rdsr, Wrsr, Read, Write, Silence}
+use Rattle.latch.specs.declared.Latch.{Latch}
+use Rattle.chip.specs.Records.{running}
+use Rattle.chip.specs.declared.Core.{Core}
+use Rattle.codes.proofs.Sound.{Sound}
+use Rattle.frames.specs.Bytes.{instruction}
+use Rattle.frames.specs.Shown.{undriven}
+use Rattle.pins.specs.declared.Event.{Event}
+use Rattle.pins.specs.Devices.{q}
+use Rattle.pins.specs.Answers.{PinBench, next}
+use Rattle.edges.specs.declared.Frame.{Frame}
+use Rattle.edges.specs.declared.Level.{Level}
+use Rattle.edges.specs.declared.Level.the-variants.{Zero, One, Z}
+use Rattle.edges.specs.Frames.{noFrame}
+use Rattle.agree.specs.Drawings.{flat, bitsOf}
+use Rattle.agree.specs.Reports.{report, seenAs, shared, asOne, isCounted, isEnd, watched, levelled}
+use Rattle.agree.proofs.Facts.{leb-min}
+use Rattle.agree.proofs.Ticks.{tick, shows, seenOf}
+use Rattle.agree.proofs.Steps.{midByte, afterBytes, drives}
+use Rattle.agree.proofs.Bytes.{all-ones, bytesSeen, step-first, step-more, none, seen-bytes}
+use Rattle.agree.proofs.Seen.{drives-bytes}
+
+-- ---- driven or not
+
+abbrev pub isDriven : Level → Bool
+isDriven Zero = true
+isDriven One = true
+isDriven Z = false
+
+-- all eight bits of a byte
+abbrev eight : Bool → ℕ
+eight true = 255
+eight false = 0
+
+abbrev over : Bool → Frame → ℕ
+over b f = eight b
+
+no-ones : (k : ℕ) → k ≤ 7 → false ≡ on (bitOf (7 - k) 0)
+no-ones zero h = refl
+no-ones (suc zero) h = refl
+no-ones (suc (suc zero)) h = refl
+no-ones (suc (suc (suc zero))) h = refl
+no-ones (suc (suc (suc (suc zero)))) h = refl
+no-ones (suc (suc (suc (suc (suc zero))))) h = refl
+no-ones (suc (suc (suc (suc (suc (suc zero)))))) h = refl
+no-ones (suc (suc (suc (suc (suc (suc (suc zero))))))) h = refl
+no-ones (suc (suc (suc (suc (suc (suc (suc (suc k)))))))) h = absurd (omega arith)
+
+driven-level : (t : Bool) → isDriven (pick t One Zero) ≡ true
+unfolding pick
+driven-level true = refl
+driven-level false = refl
+
+driven-bit : (b : Bool) (k a : ℕ) (f : Frame) → k ≤ 7 → isDriven (shows (midByte b k a f)) ≡ on (bitOf (7 - k) (over b f))
+unfolding shows
+driven-bit true k a f h = ap isDriven (at-yes _ _ (le-leb 1 (suc k) (omega arith))) ∙ driven-level _ ∙ all-ones k h
+driven-bit false k a f h = ap isDriven (at-no _ _ (lt-leb 1 0 (omega arith))) ∙ no-ones k h
+
+-- a level is whether it is driven, and its bit
+level-of : (l : Level) (d : Bool) → isDriven l ≡ d → l ≡ pick d (pick (asOne l) One Zero) Z
+unfolding pick
+level-of Zero d e = ap (λ b. pick b Zero Z) e
+level-of One d e = ap (λ b. pick b One Z) e
+level-of Z d e = ap (λ b. pick b One Z) e
+
+-- ---- n clocks, of which the first u are undriven
+
+abbrev marks : ℕ → ℕ → List Bool
+marks u zero = []
+marks zero (suc n) = true ∷ marks zero n
+marks (suc u) (suc n) = false ∷ marks u n
+
+marks-take : (u k n : ℕ) → n ≤ k → take n (marks u k) ≡ marks u n
+marks-take u k zero h = refl
+marks-take u zero (suc n) h = absurd (omega arith)
+marks-take zero (suc k) (suc n) h = ap (λ l. true ∷ l) (marks-take zero k n (omega arith))
+marks-take (suc u) (suc k) (suc n) h = ap (λ l. false ∷ l) (marks-take u k n (omega arith))
+
+marks-min : (u n v : ℕ) → v ≡ min u n → marks u n ≡ marks v n
+marks-min u zero v e = refl
+marks-min zero (suc n) v e = let none : 0 ≡ v = omega arith in ap (λ w. marks w (suc n)) none
+marks-min (suc u) (suc n) zero e = absurd (omega arith)
+marks-min (suc u) (suc n) (suc v) e = ap (λ l. false ∷ l) (marks-min u n v (omega arith))
+
+abbrev more8 : ℕ → ℕ
+more8 n = suc (suc (suc (suc (suc (suc (suc (suc n)))))))
+
+-- driven from byte b on
+marks-from : (b k j : ℕ) → flat (from j k (λ i. eight (leb b i))) ≡ marks (8 * (b - j)) (8 * k)
+unfolding flat from
+marks-from b zero j = refl
+marks-from b (suc k) j =
+    let bits : more8 (8 * k) ≡ 8 * suc k = omega arith in
+    elim (decLe b j) [
+      | yes h ↦
+          let past : 8 * (b - suc j) ≡ 0 = omega arith in
+          let here : 0 ≡ 8 * (b - j) = omega arith in
+          ap (λ t. flat (eight t ∷ from (suc j) k (λ i. eight (leb b i)))) (le-leb b j h)
+          ∙ ap (λ l. true ∷ true ∷ true ∷ true ∷ true ∷ true ∷ true ∷ true ∷ l) (marks-from b k (suc j) ∙ ap (λ u. marks u (8 * k)) past)
+          ∙ ap₂ marks here bits
+      | no h ↦
+          let here : more8 (8 * (b - suc j)) ≡ 8 * (b - j) = omega arith in
+          ap (λ t. flat (eight t ∷ from (suc j) k (λ i. eight (leb b i)))) (lt-leb b j (omega arith))
+          ∙ ap (λ l. false ∷ false ∷ false ∷ false ∷ false ∷ false ∷ false ∷ false ∷ l) (marks-from b k (suc j))
+          ∙ ap₂ marks here bits
+    ]
+
+-- never driven
+marks-none : (k j : ℕ) → flat (from j k (λ _. 0)) ≡ marks (8 * k) (8 * k)
+unfolding flat from
+marks-none zero j = refl
+marks-none (suc k) j =
+    let bits : more8 (8 * k) ≡ 8 * suc k = omega arith in
+    ap (λ l. false ∷ false ∷ false ∷ false ∷ false ∷ false ∷ false ∷ false ∷ l) (marks-none k (suc j)) ∙ ap₂ marks bits bits
+
+module _ (k n : ℕ) (h : n ≤ 8 * k) where
+  never : take n (flat (table k (λ _. 0))) ≡ marks n n
+  unfolding table
+  never = ap (take n) (marks-none k 0) ∙ marks-take (8 * k) (8 * k) n h ∙ marks-min (8 * k) n n (omega arith)
+
+  from-byte : (b : ℕ) → take n (flat (table k (λ i. eight (leb b i)))) ≡ marks (min (8 * b) n) n
+  unfolding table
+  from-byte b = ap (take n) (marks-from b k 0) ∙ marks-take (8 * (b - 0)) (8 * k) n h ∙ marks-min (8 * (b - 0)) n (min (8 * b) n) (omega arith)
+
+  pub undriven-marks : (P : Part) (i : Instruction) (ran : Bool) → take n (flat (table k (λ j. eight (outputs P i j ran)))) ≡ marks (undriven P i ran n) n
+  unfolding pick
+  undriven-marks P Wren ran = never
+  undriven-marks P Wrdi ran = never
+  undriven-marks P Rdsr ran = from-byte 1
+  undriven-marks P Wrsr ran = never
+  undriven-marks P Read true =
+      ap (λ (g : ℕ → ℕ). take n (flat (table k g))) (fun-ext (λ j. ap eight (and-false (leb (P .addressBytes + 1) j)))) ∙ never
+  undriven-marks P Read false =
+      ap (λ (g : ℕ → ℕ). take n (flat (table k g))) (fun-ext (λ j. ap eight (and-true (leb (P .addressBytes + 1) j)))) ∙ from-byte (P .addressBytes + 1)
+  undriven-marks P Write ran = never
+  undriven-marks P Silence ran = never
+
+-- ---- a frame
+
+first : List Bool → Bool
+first [] = true
+first (b ∷ bs) = b
+
+rest : List Bool → List Bool
+rest [] = []
+rest (b ∷ bs) = bs
+
+flat-length : (s : List ℕ) → length (flat s) ≡ 8 * length s
+unfolding flat
+flat-length [] = refl
+flat-length (v ∷ vs) = omega (arith, flat-length vs)
+
+module _ (P : Part) (sound : Sound P) (m : List ℕ) (c : Core) where
+  -- no test sees the count of whole bytes stay at its most
+  drives-count : (i : Instruction) (j : ℕ) → drives P sound m c i j ≡ outputs P i j (running c)
+  drives-count Wren j = refl
+  drives-count Wrdi j = refl
+  drives-count Rdsr j = leb-min (P .most) j 1 (omega (arith, sound .counted))
+  drives-count Wrsr j = refl
+  drives-count Read j = ap (λ t. t && not (running c)) (leb-min (P .most) j (P .addressBytes + 1) (omega (arith, sound .counted)))
+  drives-count Write j = refl
+  drives-count Silence j = refl
+
+  none-first : (i : Instruction) → false ≡ outputs P i 0 (running c)
+  none-first Wren = refl
+  none-first Wrdi = refl
+  none-first Rdsr = refl
+  none-first Wrsr = refl
+  none-first Read = sym (and-no-left (leb (P .addressBytes + 1) 0) (not (running c)) (lt-leb (P .addressBytes + 1) 0 (omega arith)))
+  none-first Write = refl
+  none-first Silence = refl
+
+  driven-more : (i : Instruction) (us : List ℕ) (v j a x o z : ℕ) (l : Latch) → decode P v ≡ i → 1 ≤ j
+      → bytesSeen P sound m c over (afterBytes P sound m c v j a x o z l) us ≡ from j (length us) (λ n. eight (outputs P i n (running c)))
+  unfolding bytesSeen from
+  driven-more i [] v j a x o z l e k = refl
+  driven-more i (u ∷ us) v j a x o z l e k =
+      ap₂ (λ b r. b ∷ r) (ap eight (drives-bytes P sound m c i v j a x o z l e ∙ drives-count i j))
+      (ap (λ f. bytesSeen P sound m c over f us) (step-more P sound m c i u v j a x o z l e k)
+      ∙ driven-more i us v (suc j) _ _ _ _ _ e (omega arith))
+
+  driven-table : (s : List ℕ) → bytesSeen P sound m c over (noFrame P) s ≡ table (length s) (λ n. eight (outputs P (instruction P s) n (running c)))
+  unfolding bytesSeen table from decode pick
+  driven-table [] = refl
+  driven-table (v ∷ vs) =
+      ap₂ (λ b l. b ∷ l) (ap eight (none-first (decode P v)))
+      (ap (λ f. bytesSeen P sound m c over f vs) (step-first P sound m c (decode P v) v refl)
+      ∙ driven-more (decode P v) vs v 1 _ _ _ _ _ refl (omega arith))
+
+  -- the marks of the ticks, and their bits, are their levels
+  levels-are : (u : ℕ) (f : Frame) (bs : List Bool) → seenOf isDriven P m c f bs ≡ marks u (length bs)
+      → seenOf (λ l. l) P m c f bs ≡ levelled u (seenOf asOne P m c f bs)
+  unfolding seenOf pick first rest
+  levels-are u f [] e = refl
+  levels-are zero f (b ∷ bs) e =
+      ap₂ (λ x l. x ∷ l) (level-of (shows f) true (ap first e)) (levels-are zero (tick P m c b f) bs (ap rest e))
+  levels-are (suc u) f (b ∷ bs) e =
+      ap₂ (λ x l. x ∷ l) (level-of (shows f) false (ap first e)) (levels-are u (tick P m c b f) bs (ap rest e))
+
+  pub frame-levels : (s : List ℕ) (n : ℕ) → ((i : ℕ) → getD s i 0 < 256) → n ≤ 8 * length s
+      → seenOf (λ l. l) P m c (noFrame P) (bitsOf s n) ≡ levelled (undriven P (instruction P s) (running c) n) (seenOf asOne P m c (noFrame P) (bitsOf s n))
+  frame-levels s n small h =
+      let all : n ≤ length (flat s) = omega (arith, flat-length s) in
+      levels-are (undriven P (instruction P s) (running c) n) (noFrame P) (bitsOf s n)
+      (seen-bytes P sound m c isDriven over driven-bit s n (noFrame P) none small
+      ∙ ap (λ l. take n (flat l)) (driven-table s)
+      ∙ undriven-marks (length s) n h P (instruction P s) (running c)
+      ∙ ap (marks (undriven P (instruction P s) (running c) n)) (sym (length-take-le n (flat s) all)))
+
+-- ---- demand 3's bits are these levels, with Z as 1
+
+map-append : {A B : Type 0} (g : A → B) (xs ys : List A) → map g (xs ++ ys) ≡ map g xs ++ map g ys
+map-append g [] ys = refl
+map-append g (x ∷ xs) ys = ap (λ l. g x ∷ l) (map-append g xs ys)
+
+pub bits-of-levels : (P : Part) (es : List Event) (seen : List Level) (b : PinBench)
+    → watched asOne P es (map asOne seen) b ≡ seenAs asOne (watched (λ l. l) P es seen b)
+unfolding watched
+bits-of-levels P [] seen b = refl
+bits-of-levels P (e ∷ es) seen b = both (isEnd e (b .device)) (isCounted e (b .device)) (λ s. bits-of-levels P es s (next P e b))
+  where
+    y : PinBench
+    y = next P e b
+
+    l : Level
+    l = q (b .device)
+
+    both : (t k : Bool) → ((s : List Level) → watched asOne P es (map asOne s) y ≡ seenAs asOne (watched (λ x. x) P es s y))
+        → cond t (report (map asOne seen) (shared y) ∷ []) [] ++ watched asOne P es (cond t [] (cond k (map asOne seen ++ (asOne l ∷ [])) (map asOne seen))) y
+        ≡ seenAs asOne (cond t (report seen (shared y) ∷ []) [] ++ watched (λ x. x) P es (cond t [] (cond k (seen ++ (l ∷ [])) seen)) y)
+    both true k again = ap (λ rs. report (map asOne seen) (shared y) ∷ rs) (again [])
+    both false true again = ap (λ s. watched asOne P es s y) (sym (map-append asOne seen (l ∷ []))) ∙ again (seen ++ (l ∷ []))
+    both false false again = again seen
