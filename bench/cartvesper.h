@@ -194,7 +194,8 @@ cartvesper_value cartvesper_core_protected(cartvesper_core core, uint32_t addres
 cartvesper_device_answer cartvesper_device_power_up(uint32_t cycle, uint8_t srwd, uint8_t bp1, uint8_t bp0,
                                                     uint32_t reading);
 /* One pin to a level: S falling selects and S rising ends the frame; C rising takes the bit on D, C falling moves Q, so
- * it is lent the memory that a READ shows; HOLD pauses while C is low. */
+ * it is lent the memory that a READ shows; HOLD pauses while C is low. S rising in a pause drops the frame, unless it is
+ * a WRITE: that is executed where its count and its conditions allow, as it is outside a pause. */
 cartvesper_device_answer cartvesper_device_set_s(cartvesper_device device, uint8_t level);
 cartvesper_device_answer cartvesper_device_set_c(cartvesper_device device, uint8_t level, const uint8_t *memory,
                                                  size_t size);

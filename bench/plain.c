@@ -445,7 +445,7 @@ void plain_s(cartvesper_device *device, int level)
         return;
     device->pins.s = (uint8_t)level;
     if (level) {
-        if (!device->held) /* deselecting while held drops the frame */
+        if (!device->held || device->frame.code == WRITE) /* deselecting while held drops every frame but a WRITE */
             execute(device);
         device->held = 0;
         empty_frame(&device->frame);

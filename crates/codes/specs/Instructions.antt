@@ -35,15 +35,20 @@ writeCode = 0x02
 abbrev pub writeBits : Part → ℕ
 writeBits P = 8 * (P .addressBytes + 2)
 
--- bits at deselect; "no cycle"; "WEL 1"; what else stops it; whether the table has it
+-- a row that Hold at deselect does not stop (document 02, Item 3)
+abbrev pub inHold : Row → Row
+inHold r = record { count = r .count; idle = r .idle; wel = r .wel; guard = r .guard; hold = true; known = r .known }
+
+-- bits at deselect; "no cycle"; "WEL 1"; what else stops it; whether Hold does not; whether the table has it
 abbrev pub row : Part → Instruction → Row
-row P Wren = record { count = Exactly 8; idle = true; wel = false; guard = Nothing; known = true }
-row P Wrdi = record { count = Exactly 8; idle = true; wel = false; guard = Nothing; known = true }
-row P Rdsr = record { count = AnyBits; idle = false; wel = false; guard = Nothing; known = true }
-row P Wrsr = record { count = Exactly 16; idle = true; wel = true; guard = StatusLock; known = true }
-row P Read = record { count = AnyBits; idle = true; wel = false; guard = Nothing; known = true }
-row P Write = record { count = WholeBytes (writeBits P); idle = true; wel = true; guard = AddressLock; known = true }
-row P Silence = record { count = AnyBits; idle = false; wel = false; guard = Nothing; known = false }
+row P Wren = record { count = Exactly 8; idle = true; wel = false; guard = Nothing; hold = false; known = true }
+row P Wrdi = record { count = Exactly 8; idle = true; wel = false; guard = Nothing; hold = false; known = true }
+row P Rdsr = record { count = AnyBits; idle = false; wel = false; guard = Nothing; hold = false; known = true }
+row P Wrsr = record { count = Exactly 16; idle = true; wel = true; guard = StatusLock; hold = false; known = true }
+row P Read = record { count = AnyBits; idle = true; wel = false; guard = Nothing; hold = false; known = true }
+row P Write =
+    record { count = WholeBytes (writeBits P); idle = true; wel = true; guard = AddressLock; hold = true; known = true }
+row P Silence = record { count = AnyBits; idle = false; wel = false; guard = Nothing; hold = false; known = false }
 
 -- which row an instruction byte has
 unfoldable pub decode : Part → ℕ → Instruction

@@ -11,9 +11,9 @@ use Rattle.codes.specs.declared.Instruction.{Instruction}
 use Rattle.codes.specs.declared.Verdict.{Verdict}
 use Rattle.codes.specs.declared.Verdict.the-variants.{Executed, CycleRan, WelOff, WrongCount, Guarded, OnHold, UnknownCode}
 
--- the last tests: hold, and a code that the table lacks
+-- the last tests: hold, which does not stop a WRITE (004, 5.3), and a code that the table lacks
 abbrev pub letThrough : Row → Bool → Verdict
-letThrough r held = pick held OnHold (pick (r .known) Executed UnknownCode)
+letThrough r held = pick (held && not (r .hold)) OnHold (pick (r .known) Executed UnknownCode)
 
 -- n: bits counted; ran: a cycle ran at the eighth edge; locked: SRWD is 1 and W is low at deselect; protected: the
 -- address is; held: at deselect. Fewer than eight bits are no instruction.

@@ -1,7 +1,9 @@
 // The table of instructions: each code once, and a row for each instruction.
 ghost use mathlib.Core.Path.{_≡_};
+ghost use mathlib.Core.Bool.{true, false};
 ghost use Rattle.codes.specs.Part.{m95512};
-ghost use Rattle.codes.specs.Instructions.{decode, row};
+ghost use Rattle.codes.specs.declared.Instruction.the-variants.{Silence};
+ghost use Rattle.codes.specs.Instructions.{decode, inHold, row};
 use crate::Count;
 use crate::Guard;
 use crate::Instruction;
@@ -39,36 +41,60 @@ pub fn decode(code: u8) -> Instruction
 }
 
 impl Row {
-    fn new(count: Count, idle: bool, wel: bool, guard: Guard, known: bool) -> Row
-        ensures { λ r. ⌜ r ≡ record { count = count; idle = idle; wel = wel; guard = guard; known = known } ⌝ }
+    // A row of the table; Hold at deselect stops it.
+    fn known(count: Count, idle: bool, wel: bool, guard: Guard) -> Row
+        ensures { λ r. ⌜ r
+            ≡ record { count = count; idle = idle; wel = wel; guard = guard; hold = false; known = true } ⌝ }
     {
         Row {
             count: count,
             idle: idle,
             wel: wel,
             guard: guard,
-            known: known,
+            hold: false,
+            known: true,
         }
+    }
+
+    // A code that the table lacks.
+    fn unknown() -> Row
+        ensures { λ r. ⌜ r ≡ row m95512 Silence ⌝ }
+    {
+        Row {
+            count: Count::AnyBits,
+            idle: false,
+            wel: false,
+            guard: Guard::Nothing,
+            hold: false,
+            known: false,
+        }
+    }
+
+    // The row of an instruction that Hold at deselect does not stop.
+    fn in_hold(mut self) -> Row
+        ensures { λ r. ⌜ r ≡ inHold self ⌝ }
+    {
+        self.hold = true;
+        self
     }
 }
 
-// The table: bits at deselect, "no cycle", "WEL 1", what else stops it, whether the table has it.
+// The table: bits at deselect, "no cycle", "WEL 1", what else stops it.
 pub(crate) fn row(i: Instruction) -> Row
     ensures { λ r. ⌜ r ≡ row m95512 i ⌝ }
 {
     match i {
-        Instruction::Wren => Row::new(Count::Exactly(8), true, false, Guard::Nothing, true),
-        Instruction::Wrdi => Row::new(Count::Exactly(8), true, false, Guard::Nothing, true),
-        Instruction::Rdsr => Row::new(Count::AnyBits, false, false, Guard::Nothing, true),
-        Instruction::Wrsr => Row::new(Count::Exactly(16), true, true, Guard::StatusLock, true),
-        Instruction::Read => Row::new(Count::AnyBits, true, false, Guard::Nothing, true),
-        Instruction::Write => Row::new(
+        Instruction::Wren => Row::known(Count::Exactly(8), true, false, Guard::Nothing),
+        Instruction::Wrdi => Row::known(Count::Exactly(8), true, false, Guard::Nothing),
+        Instruction::Rdsr => Row::known(Count::AnyBits, false, false, Guard::Nothing),
+        Instruction::Wrsr => Row::known(Count::Exactly(16), true, true, Guard::StatusLock),
+        Instruction::Read => Row::known(Count::AnyBits, true, false, Guard::Nothing),
+        Instruction::Write => Row::known(
             Count::WholeBytes(WRITE_BITS),
             true,
             true,
             Guard::AddressLock,
-            true,
-        ),
-        Instruction::Silence => Row::new(Count::AnyBits, false, false, Guard::Nothing, false),
+        ).in_hold(),
+        Instruction::Silence => Row::unknown(),
     }
 }

@@ -83,6 +83,7 @@ pub struct Row {
     pub idle: bool,
     pub wel: bool,
     pub guard: Guard,
+    pub hold: bool,
     pub known: bool,
 }
 

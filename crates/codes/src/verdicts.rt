@@ -42,7 +42,7 @@ impl Row {
     fn let_through(self, held: bool) -> Verdict
         ensures { λ r. ⌜ r ≡ letThrough self held ⌝ }
     {
-        if held {
+        if held & !self.hold {
             return Verdict::OnHold;
         }
         if self.known {

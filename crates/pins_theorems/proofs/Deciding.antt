@@ -28,7 +28,7 @@ use Rattle.pins.specs.declared.Device.{Device}
 use Rattle.edges.specs.Ranges.{latches}
 use Rattle.pins.specs.Events.{judgedNow, executedNow, decided}
 use Rattle.pins_theorems.proofs.Parts.{FieldsFit, Fits}
-use Rattle.pins_theorems.proofs.HeldDrop.{passed-now}
+use Rattle.pins_theorems.proofs.InHold.{passed-now}
 use Rattle.pins_theorems.proofs.Fields.{bounded-below}
 
 -- ---- the tie "if a frame is past its eighth edge and a cycle runs now, one ran at that edge"

@@ -6,7 +6,7 @@ pub mod Unselected
 pub mod Untouched
 pub mod Showing
 pub mod Pausing
-pub mod HeldDrop
+pub mod InHold
 pub mod Fields
 pub mod Edges
 pub mod Deciding
