@@ -12,16 +12,18 @@ import sys
 
 PROVED = re.compile(r"^rt: (\w+) proved \((\d+) s\)")
 FUNCTIONS = re.compile(r"^logic=proved functions=(\d+) ")
+VERDICT = re.compile(r"^\d+ passed, \d+ failed$")
 EDIT = re.compile(r"^rt: must-fail (\w+)/(\w+): refused.*?(\d+) s\)")
 
 
 def read(path):
-    """(crate -> [functions, seconds of the proof, seconds of each edit], the last line)"""
-    rows, functions, last = {}, 0, ""
+    """(crate -> [functions, seconds of the proof, seconds of each edit], the verdict)"""
+    rows, functions, last = {}, 0, "no verdict"
     with open(path, encoding="utf-8", errors="replace") as log:
         for line in log:
-            last = line.strip() or last
-            if m := FUNCTIONS.match(line):
+            if VERDICT.match(line):
+                last = line.strip()
+            elif m := FUNCTIONS.match(line):
                 functions = int(m.group(1))
             elif m := PROVED.match(line):
                 rows[m.group(1)] = [functions, int(m.group(2)), []]
