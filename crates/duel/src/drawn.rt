@@ -150,17 +150,30 @@ fn deselect(device: Device, mode3: bool, memory: &Memory, run: &mut Run) -> Devi
     set(rested, S, true, memory, run)
 }
 
+// In Hold, with C and D free in it; HOLD is high again afterwards.
+fn deselect_in_hold(device: Device, memory: &Memory, run: &mut Run) -> Device {
+    let low = set(device, C, false, memory, run);
+    let paused = set(low, HOLD, false, memory, run);
+    let moved = move_some(paused, true, below(9, run), memory, run);
+    let ended = set(moved, S, true, memory, run);
+    set(ended, HOLD, true, memory, run)
+}
+
 // The whole frame, from a device that is not selected to one that is not selected.
 pub fn draw(
     device: Device,
     bytes: &[u8],
     out: &[u8],
     bits: usize,
+    held: bool,
     mode3: bool,
     memory: &Memory,
     run: &mut Run,
 ) -> Device {
     let begun = select(device, mode3, memory, run);
     let clocked = draw_bits(begun, bytes, out, bits, memory, run);
+    if held {
+        return deselect_in_hold(clocked, memory, run);
+    }
     deselect(clocked, mode3, memory, run)
 }

@@ -80,6 +80,19 @@ pub fn bits(length: usize, run: &mut Run) -> usize
     8 * length - below(8, run) as usize
 }
 
+// The count of a frame that is deselected in Hold: often a WRITE's of one byte, one bit more, or two bytes.
+pub fn bits_in_hold(length: usize, run: &mut Run) -> usize
+    requires { ⌜ length ≤ 65536 ⌝ }
+{
+    let r = below(5, run);
+    match r {
+        0 => 32,
+        1 => 33,
+        2 => 40,
+        _ => bits(length, run),
+    }
+}
+
 // Often around the edge of a page, a quarter or the memory, or in one of a few pages, so that reads meet writes.
 fn address(run: &mut Run) -> u64
     ensures { λ r. ⌜ r ≤ 65535 ⌝ }

@@ -1,6 +1,7 @@
 // The two proved models against each other on random lists of frames, clock readings and levels of Write Protect: the
-// frame model takes whole frames, the pin model the same frames drawn as single pin changes. The gate compares the
-// summary with the file stdout; the first difference would stand before it, with its round and act, and end the run.
+// frame model takes whole frames, the pin model the same frames drawn as single pin changes, some of them deselected in
+// Hold. The gate compares the summary with the file stdout; the first difference would stand before it, with its round
+// and act, and end the run.
 use crate::cells::Memory;
 use crate::cells::changed;
 use crate::cells::fill;
@@ -18,6 +19,7 @@ mod cells;
 mod chance;
 mod compared;
 mod drawn;
+mod held;
 mod made;
 mod rounds;
 mod run;

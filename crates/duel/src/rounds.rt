@@ -1,5 +1,4 @@
 // A round's acts: each is made on both models, and then they are compared.
-ghost use Prim.Native.Nat.{_≤_};
 use crate::cells::Memory;
 use crate::cells::memories;
 use crate::chance::below;
@@ -10,6 +9,8 @@ use crate::compared::records;
 use crate::drawn::W;
 use crate::drawn::draw;
 use crate::drawn::set;
+use crate::held::count_held;
+use crate::held::left_by;
 use crate::made;
 use crate::run::ACTS;
 use crate::run::DIFFERENCES;
@@ -30,6 +31,7 @@ use crate::run::same;
 use chip::Core;
 use chip::Timed;
 use codes::LONGEST_CYCLE;
+use codes::WRITE;
 use frames::Framed;
 use frames::frame;
 use pins::Device;
@@ -206,10 +208,11 @@ fn ask(
     frame(core, frame_side, w, &bytes[..n], bits, &mut out[..n])
 }
 
-// The pin model's frame against the frame model's answer and output.
+// The pin model's frame, deselected in Hold or not, against the frame model's answer and output.
 fn meet(
     pair: Pair,
     framed: Framed,
+    held: bool,
     pin_side: &Memory,
     bytes: &[u8],
     bits: usize,
@@ -222,7 +225,7 @@ fn meet(
     same(b"number of a frame", answer.number(), 0, run);
     begin(bits, mode3, answer.undriven(), run);
     padding(out, bits, run);
-    let device = draw(pair.device, bytes, out, bits, mode3, pin_side, run);
+    let device = draw(pair.device, bytes, out, bits, held, mode3, pin_side, run);
     records(core, device, run);
     Pair {
         core: core,
@@ -231,32 +234,55 @@ fn meet(
     }
 }
 
-// A frame of n bytes for both.
-fn send_bytes(
+// As many bytes as so many bits take.
+fn bytes_for(bits: usize) -> usize {
+    let whole = bits / 8;
+    if bits % 8 > 0 { whole + 1 } else { whole }
+}
+
+// A frame for both, of so many bits of some bytes.
+fn send_bits(
     pair: Pair,
+    held: bool,
     frame_side: &Memory,
     pin_side: &Memory,
     bytes: &Memory,
-    n: usize,
+    bits: usize,
     out: &mut Memory,
     run: &mut Run,
-) -> Pair
-    requires { ⌜ n ≤ 65536 ⌝ }
-{
+) -> Pair {
     let core = pair.core;
-    let bits = made::bits(n, run);
-    let framed = ask(core, pair.w, frame_side, bytes, n, bits, out);
+    let asked = ask(core, pair.w, frame_side, bytes, bytes_for(bits), bits, out);
+    let framed = left_by(asked, core, held & (bytes[0] != WRITE));
     let next = framed.core;
     count_begun(core, next, run);
-    meet(pair, framed, pin_side, bytes, bits, out, run)
+    if held {
+        count_held(core, next, bytes, bits, run);
+    }
+    meet(pair, framed, held, pin_side, bytes, bits, out, run)
 }
 
-// A random frame.
+// A random frame, one in eight deselected in Hold.
 fn send(pair: Pair, frame_side: &mut Memory, pin_side: &mut Memory, run: &mut Run) -> Pair {
     let mut bytes = io::large_buffer();
     let mut out = io::large_buffer();
     let n = made::compose(pair.core.wel == 1, &mut bytes, run);
-    send_bytes(pair, frame_side, pin_side, &bytes, n, &mut out, run)
+    let held = below(8, run) == 0;
+    let bits = if held {
+        made::bits_in_hold(n, run)
+    } else {
+        made::bits(n, run)
+    };
+    send_bits(
+        pair,
+        held,
+        frame_side,
+        pin_side,
+        &bytes,
+        bits,
+        &mut out,
+        run,
+    )
 }
 
 // What comes next: a clock reading, every second time where a cycle runs; seldom a level of W; else a frame. Nothing

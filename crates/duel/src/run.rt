@@ -35,27 +35,47 @@ pub const ENDED: usize = 14;
 
 pub const CELLS: usize = 15;
 
-pub const DIFFERENCES: usize = 16;
+// deselects in Hold; of these the WRITEs, by their count, by what stops them, and those that begin a cycle
+pub const HELD: usize = 16;
+
+pub const HELD_WRITES: usize = 17;
+
+pub const HELD_32: usize = 18;
+
+pub const HELD_33: usize = 19;
+
+pub const HELD_40: usize = 20;
+
+pub const HELD_NO_WEL: usize = 21;
+
+pub const HELD_PROTECTED: usize = 22;
+
+pub const HELD_BEGUN: usize = 23;
+
+pub const DIFFERENCES: usize = 24;
 
 // the generator's state
-pub const CHANCE: usize = 17;
+pub const CHANCE: usize = 25;
 
 // of the frame in hand: in how many of a hundred places pin changes stray, and how many leading bits the frame model
 // left undriven
-pub const LIVELY: usize = 18;
+pub const LIVELY: usize = 26;
 
-pub const UNDRIVEN: usize = 19;
+pub const UNDRIVEN: usize = 27;
 
-pub type Run = [u64; 20];
+// how many numbers there are
+const NUMBERS: usize = 28;
+
+pub type Run = [u64; NUMBERS];
 
 pub fn begun() -> Run {
-    let mut run: Run = [0; 20];
+    let mut run: Run = [0; NUMBERS];
     run[CHANCE] = 0x9e3779b97f4a7c15;
     run
 }
 
 pub fn count(what: usize, run: &mut Run) {
-    let at = what % 20;
+    let at = what % NUMBERS;
     let sum = std::num::wrapping_add_u64(run[at], 1);
     run[at] = sum;
 }
@@ -114,7 +134,7 @@ fn row(labels: &[u8], i: usize, number: u64) {
 fn rows(labels: &[u8], first: usize, run: &Run) {
     let mut i: usize = 0;
     while i < 8 {
-        row(labels, i, run[(first % 20 + i) % 20]);
+        row(labels, i, run[(first % NUMBERS + i) % NUMBERS]);
         i += 1;
     }
 }
@@ -136,8 +156,18 @@ pub fn summary(run: &Run) {
         run,
     );
     rows(
-        b"page cycles begun   status cycles begun cycles ended        cells changed       differences         ",
+        b"page cycles begun   status cycles begun cycles ended        cells changed       ",
         PAGES,
+        run,
+    );
+    rows(
+        b"deselected in Hold  WRITEs among them   with 32 bits        with 33 bits        with 40 bits        ",
+        HELD,
+        run,
+    );
+    rows(
+        b"without WEL         to a protected cell begun in Hold       differences         ",
+        HELD_NO_WEL,
         run,
     );
 }
