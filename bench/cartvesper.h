@@ -28,7 +28,7 @@ extern "C" {
 enum {
     CARTVESPER_DONE = 0,
     CARTVESPER_MEMORY_LENGTH = 1, /* memory is not 65,536 bytes */
-    CARTVESPER_RECORD_RANGE = 2,  /* record, level or flag outside its range */
+    CARTVESPER_RECORD_RANGE = 2,  /* record, level or flag outside its range, or no event */
     CARTVESPER_FRAME_LENGTH = 3,  /* slice above 65,540 bytes */
     CARTVESPER_BIT_COUNT = 4,     /* bit count doesn't fit the slice */
     CARTVESPER_OUTPUT_LENGTH = 5, /* output length differs */
@@ -211,9 +211,9 @@ cartvesper_value cartvesper_device_q(cartvesper_device device);
 cartvesper_value cartvesper_device_status(cartvesper_device device);
 /* number 0 and value 1 where the device is inside its ranges, else number 2 */
 cartvesper_value cartvesper_device_in_ranges(cartvesper_device device);
-/* A list of events at once, each a number that cartvesper_event makes: bits 32 to 34 are the kind (5 to 7 a clock
- * reading), the low 32 bits the reading, or the level in the lowest. out has the list's length and gets Q after each
- * event: 0, 1, or CARTVESPER_Z. */
+/* A list of events at once, each a number that cartvesper_event makes: the kind, 0 to 5, above the low 32 bits, which
+ * are the level, 0 or 1, or the reading. Any other number in the list gets refusal 2, and nothing is played. out has
+ * the list's length and gets Q after each event: 0, 1, or CARTVESPER_Z. */
 cartvesper_device_answer cartvesper_device_play(cartvesper_device device, uint8_t *memory, size_t size,
                                                 const uint64_t *events, size_t count, uint8_t *out, size_t room);
 

@@ -64,7 +64,7 @@ static uint8_t frame_bytes[LONGEST + 3];
 /* ---- counts */
 
 static struct {
-    uint64_t calls, frames, executed, events, readings, lists, listed, cycles, cells, driven, drawn, unreached, damaged, damaged_calls, swept;
+    uint64_t calls, frames, executed, events, readings, lists, listed, spoiled, cycles, cells, driven, drawn, unreached, damaged, damaged_calls, swept;
     uint64_t runs, pages, sent, parts; /* of the driver and the split */
     uint64_t numbers[11];              /* answers by their number */
 } counts;
@@ -1010,16 +1010,34 @@ static void new_script(const cartvesper_device *device)
         draw_something();
 }
 
-/* bits that the list call does not look at: above the kind, and above a level's lowest */
-static void dirty_script(void)
+/* a number near an event that is none: a level above 1, a kind above the last, or a bit above the kind */
+static uint64_t no_event(uint64_t event)
 {
-    for (size_t i = 0; i < script_count; i++) {
-        script[i] |= next64() << 35;
-        if ((script[i] >> 32 & 7) < CLOCK)
-            script[i] |= random32() & ~1u;
-        else
-            script[i] = (script[i] & ~(7ULL << 32)) | (uint64_t)(CLOCK + below(3)) << 32; /* 5 to 7 are a reading */
+    switch (below(3)) {
+    case 0:
+        return cartvesper_event(below(CLOCK), percent(50) ? 2 + below(2) : random32() | 1u << (1 + below(31)));
+    case 1:
+        return cartvesper_event(CLOCK + 1 + below(2), percent(50) ? below(2) : random32());
+    default:
+        return event | 1ULL << (35 + below(29));
     }
+}
+
+/* a list with one number that is no event: refused, and nothing played */
+static void spoil_script(const cartvesper_device *device)
+{
+    if (script_count == 0)
+        return;
+    cartvesper_device copy = *device;
+    size_t i = percent(20) ? script_count - 1 : below((uint32_t)script_count);
+    uint64_t event = script[i];
+    script[i] = no_event(event);
+    if (try_play(&copy, script, script_count, off_by_one(script_count, 20), MEMORY) != 2)
+        fail("a number that is no event, played");
+    if (memcmp(&lib_memory, &start_memory, sizeof lib_memory) != 0)
+        fail("a list that was refused moved the memory");
+    script[i] = event;
+    counts.spoiled++;
 }
 
 /* the script event by event, then the same as a list */
@@ -1037,7 +1055,7 @@ static void run_script(cartvesper_device *device)
     singles_memory = lib_memory;
     lib_memory = plain_memory = start_memory;
     if (percent(30))
-        dirty_script();
+        spoil_script(&start);
     if (percent(10))
         try_play(&refused, script, script_count, off_by_one(script_count, 70), random_size(50));
     lib_memory = plain_memory = start_memory;
@@ -1322,7 +1340,9 @@ static void try_device_calls(const cartvesper_device *device)
         copy = *device;
         try_event(&copy, kind, kind == CLOCK ? random_reading(&device->core) : percent(15) ? random32() : (uint32_t)percent(50), random_size(15));
     }
-    uint64_t events[4] = {next64(), next64(), next64(), next64()};
+    uint64_t events[4];
+    for (int i = 0; i < 4; i++)
+        events[i] = percent(10) ? next64() : cartvesper_event(below(CLOCK + 1), below(2));
     size_t count = below(4);
     copy = *device;
     try_play(&copy, events, count, off_by_one(count, 20), random_size(20));
@@ -1672,8 +1692,8 @@ static void print_summary(uint64_t rounds)
 {
     printf("no difference: seed %" PRIu64 ", %" PRIu64 " rounds, %" PRIu64 " calls compared\n", seed, rounds, counts.calls);
     printf("frames %" PRIu64 ", executed writes %" PRIu64 ", bits driven %" PRIu64 "\n", counts.frames, counts.executed, counts.driven);
-    printf("events %" PRIu64 ", in lists again %" PRIu64 " (%" PRIu64 " lists), clock readings %" PRIu64 "\n", counts.events, counts.listed,
-           counts.lists, counts.readings);
+    printf("events %" PRIu64 ", in lists again %" PRIu64 " (%" PRIu64 " lists, %" PRIu64 " spoiled by a number), clock readings %" PRIu64 "\n", counts.events,
+           counts.listed, counts.lists, counts.spoiled, counts.readings);
     printf("cycles ended %" PRIu64 ", cells changed %" PRIu64 "\n", counts.cycles, counts.cells);
     printf("frames drawn at the pins against the frame call %" PRIu64 "\n", counts.drawn);
     printf("records inside the ranges built by hand %" PRIu64 ", damaged records %" PRIu64 " (%" PRIu64 " calls), fields set to an edge %" PRIu64 "\n",

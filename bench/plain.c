@@ -824,19 +824,31 @@ cartvesper_value plain_device_in_ranges_call(cartvesper_device device)
     return value_or_2(plain_device_ok(&device), 1);
 }
 
-static uint32_t play_refusal(const cartvesper_device *device, size_t size, size_t count, size_t room)
+/* a level above 1, a kind above 5 and anything above the kind are no event */
+static int is_event(uint64_t event)
+{
+    uint32_t kind = event >> 32 & 7, value = (uint32_t)event;
+    if (event >> 35 != 0 || kind > 5)
+        return 0;
+    return kind == 5 || value <= 1;
+}
+
+static uint32_t play_refusal(const cartvesper_device *device, size_t size, const uint64_t *events, size_t count, size_t room)
 {
     if (size != MEMORY)
         return 1;
     if (!plain_device_ok(device))
         return 2;
+    for (size_t i = 0; i < count; i++)
+        if (!is_event(events[i]))
+            return 2;
     return room != count ? 5 : 0;
 }
 
 cartvesper_device_answer plain_device_play_call(cartvesper_device device, uint8_t *memory, size_t size, const uint64_t *events, size_t count,
                                                 uint8_t *out, size_t room)
 {
-    cartvesper_device_answer answer = {play_refusal(&device, size, count, room), device};
+    cartvesper_device_answer answer = {play_refusal(&device, size, events, count, room), device};
     if (answer.number == 0)
         plain_play(&answer.device, memory, events, count, out);
     return answer;

@@ -104,7 +104,7 @@ abbrev pub deviceInRangesCall : Part → Device → Value
 deviceInRangesCall P x = pick (deviceFits P x) (valueAnswer 0 1) (valueAnswer 2 0)
 
 abbrev pub playCall : Part → Device → List ℕ → List ℕ → List ℕ → DeviceAnswer
-playCall P x m es d = deviceAnswer (playNumber P x m (length es) (length d)) (playAnswer P x m es d .device)
+playCall P x m es d = deviceAnswer (playNumber P x m es (length d)) (playAnswer P x m es d .device)
 
 -- ---- the driver
 

@@ -1,11 +1,11 @@
 -- The line in hand: what its ranges say, and that every byte keeps them.
 use mathlib.Core.Path.{_≡_, refl, sym, _∙_}
-use mathlib.Core.Bool.{Bool, true, false, _&&_, true≢false}
+use mathlib.Core.Bool.{Bool, true, false, _&&_, _||_, true≢false}
 use mathlib.Core.List.{List, [], _∷_}
 use Prim.Native.Nat.{ℕ, zero, suc, _+_, _-_, _*_, _^_, _<_, _≤_, min}
 use native.Mathlib.Omega.{arith}
 use lib.Dec.{eqb, leb, ltb}
-use borrow.Author.Tests.{le-leb, leb-true, lt-ltb, ltb-true, eq-eqb, ne-eqb, le-ltb, ltb-false}
+use borrow.Author.Tests.{le-leb, leb-true, lt-ltb, ltb-true, eq-eqb, eqb-true, ne-eqb, le-ltb, ltb-false}
 use Rattle.laws.specs.Pick.{pick, pick-case, and-left, and-right}
 use Rattle.laws.specs.And.{and-3-out, and-3-in}
 use Rattle.lines.specs.declared.Line.{Line}
@@ -111,6 +111,47 @@ pub read-fits : (l : Line) (x : List ℕ) → Fit l → Fit (read l x)
 unfolding read
 read-fits l [] f = f
 read-fits l (b ∷ x) f = read-fits (next l b) x (next-fits l b f)
+
+-- ---- a value is at most 4294967295, as its type says of the first
+
+abbrev Small : Line → Type 0
+Small l = l .value < 2 ^ 32
+
+small-at : (w p k v b : ℕ) → v < 2 ^ 32 → Small (next (lineAt w p k v) b)
+unfolding pick next
+small-at w zero k v b h = pick-case Small (ltb w 1000000 && ltb (kindOf b) 6) (λ e. omega arith) (λ e. omega arith)
+small-at w (suc zero) k v b h = pick-case Small (eqb b 9) (λ e. omega arith) (λ e. omega arith)
+small-at w (suc (suc zero)) k v b h =
+    pick-case Small (eqb b 48) (λ e. omega arith)
+    (λ e. pick-case Small (ltb k 5) (λ i. pick-case Small (eqb b 49) (λ j. omega arith) (λ j. omega arith))
+    (λ i. pick-case Small (isDigit b) (λ j. omega (arith, leb-true b 57 (and-right (leb 48 b) (leb b 57) j))) (λ j. omega arith)))
+small-at w (suc (suc (suc zero))) k v b h = pick-case Small (eqb b 10) (λ e. omega arith) (λ e. omega arith)
+small-at w (suc (suc (suc (suc zero)))) k v b h =
+    pick-case Small (isDigit b)
+    (λ e. pick-case Small (ltb (v * 10 + (b - 48)) (2 ^ 32)) (λ i. ltb-true (v * 10 + (b - 48)) (2 ^ 32) i) (λ i. omega arith))
+    (λ e. pick-case Small (eqb b 10) (λ i. omega arith) (λ i. omega arith))
+small-at w (suc (suc (suc (suc (suc p))))) k v b h =
+    let not : (n : ℕ) → n < 5 → eqb (suc (suc (suc (suc (suc p))))) n ≡ false = λ n i. ne-eqb (suc (suc (suc (suc (suc p))))) n (λ e. omega arith) in
+    rw (not 0 (omega arith), not 1 (omega arith), not 2 (omega arith), not 3 (omega arith), not 4 (omega arith)) h
+
+pub next-small : (l : Line) (b : ℕ) → Small l → Small (next l b)
+next-small l b h = small-at (l .whole) (l .place) (l .kind) (l .value) b h
+
+-- ---- a whole value is a level, 0 or 1, or a reading
+
+value-at : (w p k v : ℕ) → Fit (lineAt w p k v) → (eqb p 3 || eqb p 4) ≡ true → (k ≤ 5) × (k < 5 → v ≤ 1)
+unfolding pick lineFits
+value-at w zero k v f e = absurd (true≢false (sym e))
+value-at w (suc zero) k v f e = absurd (true≢false (sym e))
+value-at w (suc (suc zero)) k v f e = absurd (true≢false (sym e))
+value-at w (suc (suc (suc zero))) k v f e = let h = hand-out w k (leb v 1) f in (h .1 .0, λ i. leb-true v 1 (h .1 .1))
+value-at w (suc (suc (suc (suc zero)))) k v f e = let h = hand-out w k (eqb k 5) f in (h .1 .0, λ i. omega (arith, eqb-true k 5 (h .1 .1)))
+value-at w (suc (suc (suc (suc (suc p))))) k v f e =
+    let not : (n : ℕ) → n < 5 → eqb (suc (suc (suc (suc (suc p))))) n ≡ false = λ n i. ne-eqb (suc (suc (suc (suc (suc p))))) n (λ j. omega arith) in
+    absurd (true≢false (sym e ∙ rw (not 3 (omega arith), not 4 (omega arith)) refl))
+
+pub value-out : (l : Line) → Fit l → (eqb (l .place) 3 || eqb (l .place) 4) ≡ true → (l .kind ≤ 5) × (l .kind < 5 → l .value ≤ 1)
+value-out l f e = value-at (l .whole) (l .place) (l .kind) (l .value) f e
 
 -- ---- at most a million lines are whole
 

@@ -13,30 +13,32 @@ use Rattle.pins.specs.declared.Device.{Device}
 use Rattle.pins.specs.Devices.{q}
 use Rattle.pins.specs.declared.Stepped.{Stepped}
 use Rattle.pins.specs.Answers.{PinBench, pinBench, afterEvent, played, memoryChoice, answer, answerMemory}
+use Rattle.lists.specs.Events.{areEvents}
 
 -- Q after each event of a list
 unfoldable pub playedQ : Part → List ℕ → PinBench → List ℕ
 playedQ P [] b = []
 playedQ P (e ∷ es) b = levelNumber (q (afterEvent P e b .device)) ∷ playedQ P es (afterEvent P e b)
 
--- what stands for refusals 1, 2, and 5 for an output that has not the list's length, and for none
-abbrev pub playChoice : {A : Type 0} → Part → Device → List ℕ → ℕ → ℕ → A → A → A → A → A
-playChoice P x m len room one two five done = memoryChoice P x m one two (pick (eqb room len) done five)
+-- what stands for refusals 1, 2 (for the device, or for a number that is no event), and 5 for an output that has not the
+-- list's length, and for none
+abbrev pub playChoice : {A : Type 0} → Part → Device → List ℕ → List ℕ → ℕ → A → A → A → A → A
+playChoice P x m es room one two five done =
+    memoryChoice P x m one two (pick (areEvents es) (pick (eqb room (length es)) done five) two)
 
-abbrev pub playOutcome : Part → Device → List ℕ → ℕ → ℕ → Outcome
-playOutcome P x m len room =
-    playChoice P x m len room (Refused MemoryLength) (Refused RecordRange) (Refused OutputLength) Done
+abbrev pub playOutcome : Part → Device → List ℕ → List ℕ → ℕ → Outcome
+playOutcome P x m es room =
+    playChoice P x m es room (Refused MemoryLength) (Refused RecordRange) (Refused OutputLength) Done
 
-abbrev pub playNumber : Part → Device → List ℕ → ℕ → ℕ → ℕ
-playNumber P x m len room = playChoice P x m len room 1 2 5 0
+abbrev pub playNumber : Part → Device → List ℕ → List ℕ → ℕ → ℕ
+playNumber P x m es room = playChoice P x m es room 1 2 5 0
 
 -- the list es over a device x, with a lent memory m and a lent output d: what is handed back, and what is left of both
 abbrev pub playAnswer : Part → Device → List ℕ → List ℕ → List ℕ → Stepped
-playAnswer P x m es d = answer (playOutcome P x m (length es) (length d)) (played P es (pinBench x m) .device) x
+playAnswer P x m es d = answer (playOutcome P x m es (length d)) (played P es (pinBench x m) .device) x
 
 abbrev pub playMemory : Part → Device → List ℕ → List ℕ → List ℕ → List ℕ
-playMemory P x m es d =
-    answerMemory (playOutcome P x m (length es) (length d)) (played P es (pinBench x m) .memory) m
+playMemory P x m es d = answerMemory (playOutcome P x m es (length d)) (played P es (pinBench x m) .memory) m
 
 abbrev pub playOutput : Part → Device → List ℕ → List ℕ → List ℕ → List ℕ
-playOutput P x m es d = answerMemory (playOutcome P x m (length es) (length d)) (playedQ P es (pinBench x m)) d
+playOutput P x m es d = answerMemory (playOutcome P x m es (length d)) (playedQ P es (pinBench x m)) d

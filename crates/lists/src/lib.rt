@@ -1,6 +1,7 @@
 // A list of events at once, with Q after each: the pin model for long traces.
 //
 // Public call, for every input: play.
+mod events;
 mod fronts;
 mod listed;
 

@@ -6,6 +6,7 @@ ghost use Rattle.codes.specs.Refusals.{number};
 ghost use Rattle.pins.specs.Events.{eventOf};
 ghost use Rattle.pins.specs.Answers.{played, pinBench};
 ghost use Rattle.lists.specs.Answers.{playAnswer, playMemory, playNumber, playOutput, playedQ};
+use crate::events::are_events;
 use crate::fronts::front_of;
 use codes::Outcome;
 use codes::Refusal;
@@ -15,8 +16,8 @@ use pins::Device;
 use pins::Event;
 use pins::Stepped;
 
-// Every number stands for one event: the low 32 bits are the reading, or the level in the lowest; the three above them
-// are the kind.
+// The event that a number stands for: the low 32 bits are the reading, or the level in the lowest; the three above them
+// are the kind. A number that stands for none is not played.
 fn event_of(number: u64) -> Event
     ensures { λ r. ⌜ r ≡ eventOf number ⌝ }
 {
@@ -65,11 +66,12 @@ fn play_all(device: Device, memory: &mut [u8], events: &[u64], out: &mut [u8]) -
 }
 
 // A lent list of events, each a number, and a lent output for Q after each: 0, 1, or 2 for Z.
-// Refusals 1, 2, and 5 for an output of another length, with everything as it was.
+// Refusals 1, 2 for a device outside its ranges or a number that is no event, and 5 for an output of another length,
+// with everything as it was.
 pub fn play(device: Device, memory: &mut [u8], events: &[u64], out: &mut [u8]) -> Stepped
     ensures { λ r. ⌜ r ≡ playAnswer m95512 device (now (memory .entry)) (now (events .entry)) (now (out .entry)) ⌝ }
     ensures { λ r. ⌜ number (r .outcome)
-        ≡ playNumber m95512 device (now (memory .entry)) (length (now (events .entry))) (length (now (out .entry))) ⌝ }
+        ≡ playNumber m95512 device (now (memory .entry)) (now (events .entry)) (length (now (out .entry))) ⌝ }
     ensures { λ _. ⌜ now (memory .exit)
         ≡ playMemory m95512 device (now (memory .entry)) (now (events .entry)) (now (out .entry)) ⌝ }
     ensures { λ _. ⌜ now (out .exit)
@@ -77,15 +79,21 @@ pub fn play(device: Device, memory: &mut [u8], events: &[u64], out: &mut [u8]) -
 {
     if memory.len() == SIZE {
         if device.in_ranges() {
-            if out.len() == events.len() {
-                let next = play_all(device, memory, events, out);
+            if are_events(events) {
+                if out.len() == events.len() {
+                    let next = play_all(device, memory, events, out);
+                    return Stepped {
+                        outcome: Outcome::Done,
+                        device: next,
+                    };
+                }
                 return Stepped {
-                    outcome: Outcome::Done,
-                    device: next,
+                    outcome: Outcome::Refused(Refusal::OutputLength),
+                    device: device,
                 };
             }
             return Stepped {
-                outcome: Outcome::Refused(Refusal::OutputLength),
+                outcome: Outcome::Refused(Refusal::RecordRange),
                 device: device,
             };
         }

@@ -107,7 +107,7 @@ steppedMemory P (W level) x m = m
 steppedMemory P (Hold level) x m = m
 steppedMemory P (Time t) x m = timedMemory P t (x .core) m
 
--- ---- a list of events as numbers: every number stands for one
+-- ---- an event as a number: what it stands for. Which numbers stand for one is asked of a list (lists/Events)
 
 -- the low 32 bits are the reading, or the level in the lowest; the three above them are the kind: S, C, D, W, HOLD,
 -- and from 5 on a clock reading

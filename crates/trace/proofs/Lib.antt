@@ -3,6 +3,7 @@ pub mod Cases
 pub mod Plays
 pub mod Chunking
 pub mod Choosing
+pub mod Said
 pub mod Whole
 pub mod Cut
 pub mod Ones

@@ -6,6 +6,7 @@ ghost use lib.ListN.{length};
 ghost use lib.Dec.{leb};
 ghost use Rattle.codes.specs.Part.{m95512};
 ghost use Rattle.pins.specs.Answers.{played, pinBench};
+ghost use Rattle.lists.specs.Events.{areEvents};
 ghost use Rattle.lists.specs.Answers.{playedQ};
 ghost use Rattle.pins.specs.Ranges.{deviceFits};
 ghost use Rattle.lines.specs.Reading.{read, lineFits};
@@ -33,7 +34,7 @@ fn marked(device: Device) -> bool
 // What playing some events leaves: the pin model's promise for a list, where nothing is refused.
 fn play_some(device: Device, memory: &mut [u8], events: &[u64], qs: &mut [u8]) -> Device
     requires { ⌜ (length (now memory) ≡ m95512 .size) × (deviceFits m95512 device ≡ true)
-        × (length (now qs) ≡ length (now events)) ⌝ }
+        × (areEvents (now events) ≡ true) × (length (now qs) ≡ length (now events)) ⌝ }
     ensures { λ r. ⌜ r ≡ played m95512 (now (events .entry)) (pinBench device (now (memory .entry))) .device ⌝ }
     ensures { λ _. ⌜ now (memory .exit)
         ≡ played m95512 (now (events .entry)) (pinBench device (now (memory .entry))) .memory ⌝ }
@@ -62,7 +63,8 @@ fn show(
     n: u32,
 ) -> Shown
     requires { ⌜ (length (now memory) ≡ m95512 .size) × (deviceFits m95512 device ≡ true)
-        × (length (now qs) ≡ length (now events)) × (at + 10 * length (now events) ≤ length (now out)) ⌝ }
+        × (areEvents (now events) ≡ true) × (length (now qs) ≡ length (now events))
+        × (at + 10 * length (now events) ≤ length (now out)) ⌝ }
     ensures { λ r. ⌜ (r .device ≡ played m95512 (now (events .entry)) (pinBench device (now (memory .entry))) .device)
         × (deviceFits m95512 (r .device) ≡ true) ⌝ }
     ensures { λ _. ⌜ now (memory .exit)

@@ -1,17 +1,20 @@
 use mathlib.Core.Path.{_≡_, ap, sym, _∙_}
+use mathlib.Core.Bool.{true}
 use mathlib.Core.List.{List}
-use Prim.Native.Nat.{ℕ, _+_, _≤_}
+use Prim.Native.Nat.{ℕ, _+_, _^_, _<_, _≤_}
 use native.Mathlib.Omega.{arith}
 use lib.ListN.{length, take}
 use lib.Seq.{length-take-le}
 use Rattle.codes.specs.Part.{m95512}
 use Rattle.pins.specs.Answers.{PinBench, played, pinBench}
+use Rattle.lists.specs.Events.{areEvents}
 use Rattle.lists.specs.Answers.{playedQ}
 use Rattle.printing.specs.Printing.{printed}
 use Rattle.printing.specs.Put.{put}
 use Rattle.lines.proofs.Hand.{read-fits, whole-small}
 use Rattle.lines.proofs.Runs.{found-length}
 use Rattle.trace.specs.Chunks.{playedLines, shownLines}
+use Rattle.trace.proofs.Said.{found-are}
 use borrow.Author.Needs.{needs}
 use Rattle.trace.proofs.chunks.piece.Statement.{statement}
 use Rattle.trace.proofs.chunks.piece.Tie as tie
@@ -47,7 +50,9 @@ show-requires c κs =
     let n : length (take (p .result .count) (p .last .1 .1 .0)) ≡ p .result .count = ap length (p .ensures .1 .0) ∙ sym (p .ensures .1 .1 .0) in
     let few : p .result .count ≤ length (a .text .now) = p .ensures .1 .1 .1 in
     let qs : length (take (p .result .count) (a .qs .now)) ≡ p .result .count = length-take-le (p .result .count) (a .qs .now) (omega (arith, pre .1 .1, few)) in
-    (pre .0 .0, pre .0 .1, qs ∙ sym n, omega (arith, n, few, pre .1 .2))
+    let small : a .line .value < 2 ^ 32 = let good = c .before .before .before .before .before .before .before .before .before .before .before .before .before .before .good in omega arith in
+    let are : areEvents (take (p .result .count) (p .last .1 .1 .0)) ≡ true = ap areEvents (p .ensures .1 .0) ∙ found-are (a .line) (a .text .now) (pre .0 .2) small in
+    (pre .0 .0, pre .0 .1, are, qs ∙ sym n, omega (arith, n, few, pre .1 .2))
 
 same-length : tie.Need-same-length
 same-length c = search needs

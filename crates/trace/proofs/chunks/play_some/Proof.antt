@@ -32,7 +32,7 @@ returns c =
     let x = c .before .before .before .before .before .play in
     let es = a .events .now in
     let b : PinBench = pinBench (a .device) (a .memory .now) in
-    let o = play-done m95512 (a .device) (a .memory .now) (length es) (length (a .qs .now)) (pre .0) (pre .1) (pre .2) in
+    let o = play-done m95512 (a .device) (a .memory .now) es (length (a .qs .now)) (pre .0) (pre .1) (pre .2) (pre .3) in
     let d : x .result .device ≡ played m95512 es b .device = done-device (played m95512 es b .device) (a .device) o (x .ensures .0) in (
       d,
       (

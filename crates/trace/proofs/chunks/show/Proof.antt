@@ -42,7 +42,7 @@ returns c =
     let qs = p .last .1 .1 .1 .0 in
     let qs-are : qs ≡ playedQ m95512 es b = p .ensures .1 .1 .0 in
     let as-many : length qs ≡ length es = ap length qs-are ∙ playedQ-length m95512 es b in
-    let room : a .at + 10 * length qs ≤ length d = omega (arith, s .pre .3) in (
+    let room : a .at + 10 * length qs ≤ length d = omega (arith, s .pre .4) in (
       (p .ensures .0, p .ensures .1 .1 .1),
       (
         p .ensures .1 .0,
