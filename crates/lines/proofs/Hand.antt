@@ -9,8 +9,7 @@ use borrow.Author.Tests.{le-leb, leb-true, lt-ltb, ltb-true, eq-eqb, eqb-true, n
 use Rattle.laws.specs.Pick.{pick, pick-case, and-left, and-right}
 use Rattle.laws.specs.And.{and-3-out, and-3-in}
 use Rattle.lines.specs.declared.Line.{Line}
-use Rattle.lines.specs.Lines.{kindOf, isDigit}
-use Rattle.lines.specs.Reading.{lineAt, fresh, stopped, named, tabbed, begun, closed, counted, next, read, ended, lineFits}
+use Rattle.lines.specs.Reading.{kindOf, isDigit, lineAt, fresh, stopped, named, tabbed, begun, closed, counted, next, read, ended, lineFits}
 
 pub digit-low : (b : ℕ) → isDigit b ≡ true → 48 ≤ b
 digit-low b e = leb-true 48 b (and-left (leb 48 b) (leb b 57) e)

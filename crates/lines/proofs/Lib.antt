@@ -1,5 +1,4 @@
 -- Theorems on a line, and the facts that the functions' proofs share.
-pub mod Cases
 pub mod Hand
 pub mod Runs
 pub mod Ones

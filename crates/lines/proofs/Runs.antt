@@ -12,8 +12,7 @@ use lib.Dec.{eqb, ltb}
 use borrow.Author.Tests.{ne-eqb}
 use Rattle.laws.specs.Pick.{pick, pick-case, and-both, and-no-left, and-no-right}
 use Rattle.lines.specs.declared.Line.{Line}
-use Rattle.lines.specs.Lines.{kindOf, isDigit}
-use Rattle.lines.specs.Reading.{lineAt, closed, next, closes, said, read, found, lineFits}
+use Rattle.lines.specs.Reading.{kindOf, isDigit, lineAt, closed, next, closes, said, read, found, lineFits}
 use Rattle.lines.proofs.Hand.{digit-low, one-more, in-hand, next-fits, read-fits, past-fits, whole-small}
 
 pub read-append : (l : Line) (x y : List ℕ) → read l (x ++ y) ≡ read (read l x) y

@@ -1,3 +1,2 @@
--- A line of the trace text: what it says; and the same, a byte at a time.
-pub mod Lines
+-- A line of the trace text, a byte at a time.
 pub mod Reading

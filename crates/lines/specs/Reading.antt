@@ -6,7 +6,21 @@ use mathlib.Core.List.{List, [], _∷_, _++_}
 use lib.Dec.{eqb, leb, ltb}
 use Rattle.laws.specs.Pick.{pick}
 use Rattle.lines.specs.declared.Line.{Line}
-use Rattle.lines.specs.Lines.{kindOf, eventNumber, isDigit}
+
+-- the kind of event that a name gives, as the pin model's list of events numbers them: S, C, D, W and H set a pin, T
+-- reads the clock; 6 is no name
+unfoldable pub kindOf : ℕ → ℕ
+kindOf b =
+    pick (eqb b 83) 0 (pick (eqb b 67) 1 (pick (eqb b 68) 2 (pick (eqb b 87) 3 (pick (eqb b 72) 4 (pick (eqb b 84) 5 6)))))
+
+-- the number of an event in such a list: the kind above the low 32 bits, which are the level or the reading
+abbrev pub eventNumber : ℕ → ℕ → ℕ
+eventNumber kind value = kind * 2 ^ 32 + value
+
+abbrev pub isDigit : ℕ → Bool
+isDigit b = leb 48 b && leb b 57
+
+-- ---- the line in hand
 
 abbrev pub lineAt : ℕ → ℕ → ℕ → ℕ → Line
 lineAt whole place kind value = record { whole = whole; place = place; kind = kind; value = value }

@@ -1,17 +1,21 @@
--- A list of numbers that are events: one number more at its end, two lists one after the other; and which kinds and
--- values make an event.
+-- A list of numbers that are events: one number more at its end, two lists one after the other; which kinds and
+-- values make an event; and that numbers and events stand for one another.
 use mathlib.Core.Path.{_≡_, refl, ap, sym, _∙_}
-use mathlib.Core.Bool.{Bool, true, false, _&&_, _||_, and-true, and-assoc}
+use mathlib.Core.Bool.{Bool, true, false, _&&_, _||_, and-true, and-assoc, or-false, true≢false}
 use mathlib.Core.List.{List, [], _∷_, _++_}
-use Prim.Native.Nat.{ℕ, suc, _+_, _*_, _/_, _%_, _^_, _<_, _≤_}
+use Prim.Native.Nat.{ℕ, zero, suc, _+_, _*_, _/_, _%_, _^_, _<_, _≤_}
 use native.Mathlib.Omega.{arith}
 use lib.ListN.{length, take, getD}
 use lib.Seq.{take-suc}
 use lib.Dec.{eqb, leb, ltb}
-use borrow.Author.Tests.{le-leb, ltb-true, ltb-false, eq-eqb}
-use Rattle.laws.specs.Pick.{and-both}
+use borrow.Author.Tests.{le-leb, leb-true, lt-ltb, ltb-true, ltb-false, le-ltb, eq-eqb, ne-eqb}
+use Rattle.laws.specs.Pick.{pick, and-both}
 use Rattle.laws.specs.And.{or-left, or-right}
-use Rattle.lists.specs.Events.{isEvent, areEvents}
+use Rattle.codes.specs.Status.{bit, on}
+use Rattle.pins.specs.declared.Event.{Event}
+use Rattle.pins.specs.declared.Event.the-variants.{S, C, D, W, Hold, Time}
+use Rattle.pins.specs.Events.{eventOf}
+use Rattle.lists.specs.Events.{isEvent, areEvents, numberOf, hasNumber}
 
 pub none-are : true ≡ areEvents []
 unfolding areEvents
@@ -44,3 +48,57 @@ event-is k v h l s = rw (kind-of k v s, value-of k v s) (by-kind (ltb k 5) refl)
     by-kind : (t : Bool) → ltb k 5 ≡ t → (ltb k 5 && leb v 1 || eqb k 5) ≡ true
     by-kind true e = or-left (ltb k 5 && leb v 1) (eqb k 5) (and-both (ltb k 5) (leb v 1) e (le-leb v 1 (l (ltb-true k 5 e))))
     by-kind false e = or-right (ltb k 5 && leb v 1) (eqb k 5) (eq-eqb k 5 (omega (arith, ltb-false k 5 e)))
+
+-- ---- the number that stands for an event is one, and means that event; and no other number is one
+
+pub number-is : (e : Event) → hasNumber e ≡ true → isEvent (numberOf e) ≡ true
+number-is (S true) h = refl
+number-is (S false) h = refl
+number-is (C true) h = refl
+number-is (C false) h = refl
+number-is (D true) h = refl
+number-is (D false) h = refl
+number-is (W true) h = refl
+number-is (W false) h = refl
+number-is (Hold true) h = refl
+number-is (Hold false) h = refl
+number-is (Time t) h = event-is 5 t (omega arith) (λ i. absurd (omega arith)) (ltb-true t (2 ^ 32) h)
+
+pub number-means : (e : Event) → hasNumber e ≡ true → eventOf (numberOf e) ≡ e
+unfolding pick
+number-means (S true) h = refl
+number-means (S false) h = refl
+number-means (C true) h = refl
+number-means (C false) h = refl
+number-means (D true) h = refl
+number-means (D false) h = refl
+number-means (W true) h = refl
+number-means (W false) h = refl
+number-means (Hold true) h = refl
+number-means (Hold false) h = refl
+number-means (Time t) h = let s = ltb-true t (2 ^ 32) h in rw (kind-of 5 t s, value-of 5 t s) refl
+
+-- a level is what it was
+level-of : (v : ℕ) → v ≤ 1 → bit (on v) ≡ v
+level-of zero h = refl
+level-of (suc zero) h = refl
+level-of (suc (suc v)) h = absurd (omega arith)
+
+pin-out : (k v : ℕ) → k < 5 → (ltb k 5 && leb v 1 || eqb k 5) ≡ true → v ≤ 1
+pin-out k v i h = leb-true v 1 (sym (rw (lt-ltb k 5 i, ne-eqb k 5 (λ e. omega arith)) (or-false (leb v 1))) ∙ h)
+
+-- a number that is an event is the one that stands for what it means
+pub means-number : (n : ℕ) → isEvent n ≡ true → numberOf (eventOf n) ≡ n
+unfolding pick
+means-number n h = by-kind (n / 2 ^ 32) refl h
+  where
+    by-kind : (k : ℕ) → n / 2 ^ 32 ≡ k → (ltb k 5 && leb (n % 2 ^ 32) 1 || eqb k 5) ≡ true → numberOf (eventOf n) ≡ n
+    by-kind zero p h = let v = pin-out 0 (n % 2 ^ 32) (omega arith) h in rw p (omega (arith, level-of (n % 2) (omega arith)))
+    by-kind (suc zero) p h = let v = pin-out 1 (n % 2 ^ 32) (omega arith) h in rw p (omega (arith, level-of (n % 2) (omega arith)))
+    by-kind (suc (suc zero)) p h = let v = pin-out 2 (n % 2 ^ 32) (omega arith) h in rw p (omega (arith, level-of (n % 2) (omega arith)))
+    by-kind (suc (suc (suc zero))) p h = let v = pin-out 3 (n % 2 ^ 32) (omega arith) h in rw p (omega (arith, level-of (n % 2) (omega arith)))
+    by-kind (suc (suc (suc (suc zero)))) p h = let v = pin-out 4 (n % 2 ^ 32) (omega arith) h in rw p (omega (arith, level-of (n % 2) (omega arith)))
+    by-kind (suc (suc (suc (suc (suc zero))))) p h = rw p (omega arith)
+    by-kind (suc (suc (suc (suc (suc (suc k)))))) p h =
+        let six = suc (suc (suc (suc (suc (suc k))))) in
+        absurd (true≢false (sym h ∙ rw (le-ltb six 5 (omega arith), ne-eqb six 5 (λ e. omega arith)) refl))

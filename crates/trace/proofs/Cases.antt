@@ -8,16 +8,16 @@ use Rattle.pins.specs.Events.{onS, onC}
 use Rattle.edges.specs.Rising.{risen}
 use Rattle.pins.specs.Devices.{q}
 use Rattle.printing.specs.Digits.{digits, decimal}
-use Rattle.lines.specs.Lines.{kindOf, digitsSay, lineSays}
+use Rattle.trace.specs.Lines.{digitsSay, lineSays}
 use Rattle.printing.specs.Printing.{header, goodLine, badLine, printed}
 use Rattle.trace.specs.Texts.{firstLine, afterLine, goodLines, hasBad, textOutput}
 
 -- S⇥0, C⇥1, X⇥1
 example : textOutput (83 ∷ 9 ∷ 48 ∷ 10 ∷ 67 ∷ 9 ∷ 49 ∷ 10 ∷ 88 ∷ 9 ∷ 49 ∷ 10 ∷ [])
     ≡ (108 ∷ 105 ∷ 110 ∷ 101 ∷ 9 ∷ 113 ∷ 10 ∷ 49 ∷ 9 ∷ 90 ∷ 10 ∷ 50 ∷ 9 ∷ 90 ∷ 10 ∷ 51 ∷ 9 ∷ 98 ∷ 97 ∷ 100 ∷ 10 ∷ [])
-unfolding pick played playedQ onS onC risen q digits decimal kindOf digitsSay lineSays firstLine afterLine goodLines hasBad header goodLine badLine printed textOutput
+unfolding pick played playedQ onS onC risen q digits decimal digitsSay lineSays firstLine afterLine goodLines hasBad header goodLine badLine printed textOutput
 example = refl
 
 pub nothing : textOutput [] ≡ header
-unfolding pick played playedQ onS onC q digits decimal kindOf digitsSay lineSays firstLine afterLine goodLines hasBad header goodLine badLine printed textOutput
+unfolding pick played playedQ onS onC q digits decimal digitsSay lineSays firstLine afterLine goodLines hasBad header goodLine badLine printed textOutput
 nothing = refl

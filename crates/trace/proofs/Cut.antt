@@ -16,13 +16,13 @@ use Rattle.pins.specs.Ranges.{deviceFits}
 use Rattle.codes.proofs.Sound.{m95512-sound}
 use Rattle.pins_theorems.proofs.Fits.{Sized, played-fits, played-sized, powered-fits}
 use Rattle.lines.specs.declared.Line.{Line}
-use Rattle.lines.specs.Lines.{lineSays}
+use Rattle.trace.specs.Lines.{lineSays}
 use Rattle.printing.specs.Printing.{header, badLine, printed}
 use Rattle.lines.specs.Reading.{fresh, stopped, read, found, ended, lineFits}
 use Rattle.lines.proofs.Hand.{read-fits, fresh-fits, ended-fits}
 use Rattle.lines.proofs.Runs.{read-append, read-still, found-still}
 use Rattle.trace.specs.declared.Player.{Player}
-use Rattle.trace.specs.Texts.{startBench, firstLine, goodLines, textEvents, textIsBad, textBench, textOutput}
+use Rattle.trace.specs.Texts.{startBench, firstLine, goodLines, textEvents, textNumbers, textIsBad, textBench, textOutput}
 use Rattle.trace.specs.Chunks.{playerOf, startPlayer, headed, badLineBetween, benchOf, playedLines, shownLines, chunkBench, chunkPlayer, chunkOutput, endPlayer, endOutput, headFits, playerFits, SoFar, afterChunk, afterChunks, beforeText, joined}
 use Rattle.trace.proofs.Cases.{nothing}
 use Rattle.trace.proofs.Chunking.{lines-played, lines-shown}
@@ -119,7 +119,7 @@ unfolding pick shownLines textOutput
 text-output x =
     let r = read (fresh 0) x in
     let s = shownLines (fresh 0) startBench x in
-    let shows : s ≡ printed 1 (playedQ m95512 (textEvents x) startBench) = ap (λ (es : List ℕ). printed 1 (playedQ m95512 es startBench)) (text-found x) in
+    let shows : s ≡ printed 1 (playedQ m95512 (textNumbers x) startBench) = ap (λ (es : List ℕ). printed 1 (playedQ m95512 es startBench)) (text-found x) in
     append-assoc header (s ++ badLineBetween (fresh 0) r) (badLineBetween r (ended r))
     ∙ ap (λ (k : List ℕ). header ++ k)
     (append-assoc s (badLineBetween (fresh 0) r) (badLineBetween r (ended r))

@@ -1,32 +1,35 @@
 -- A text byte by byte and line by line: the events that the bytes give are those of the good lines, and the text is stopped at the end exactly where it has a bad line.
 use mathlib.Core.Path.{_≡_, refl, ap, sym, subst, _∙_}
 use mathlib.Core.Bool.{Bool, true, false, _||_, true≢false}
-use mathlib.Core.List.{List, [], _∷_, _++_}
+use mathlib.Core.List.{List, [], _∷_, _++_, map}
 use Prim.Native.Nat.{ℕ, zero, suc, _+_, _-_, _*_, _^_, _<_, _≤_}
 use native.Mathlib.Nat.{add-zero}
 use native.Mathlib.Omega.{arith}
 use lib.ListN.{length}
 use lib.Dec.{eqb, leb, ltb}
 use borrow.Author.Tests.{eqb-true, leb-true, ltb-true, ltb-false, lt-ltb, le-ltb, ne-eqb}
-use Rattle.laws.specs.Pick.{pick, yes-so, no-so, pick-same, and-right, and-no-left, and-no-right}
+use Rattle.laws.specs.Pick.{pick, yes-so, no-so, and-right, and-no-left, and-no-right}
 use Rattle.lines.specs.declared.Line.{Line}
-use Rattle.lines.specs.Lines.{Said, event, bad, kindOf, isDigit, isEmpty, endSays, digitsSay, valueSays, tabSays, lineSays}
-use Rattle.lines.specs.Reading.{lineAt, fresh, stopped, next, closes, read, found, ended}
+use Rattle.pins.specs.declared.Event.{Event}
+use Rattle.pins.specs.declared.Event.the-variants.{S, C, D, W, Hold, Time}
+use Rattle.lists.specs.Events.{numberOf}
+use Rattle.lines.specs.Reading.{kindOf, eventNumber, isDigit, lineAt, fresh, stopped, next, closes, read, found, ended}
 use Rattle.lines.proofs.Hand.{digit-low, one-more}
 use Rattle.lines.proofs.Runs.{read-still, found-still, said-none}
+use Rattle.trace.specs.Lines.{Said, event, bad, isEmpty, endSays, levelSays, digitsSay, readingSays, tabSays, lineSays}
 use Rattle.trace.specs.Texts.{firstLine, afterLine, goodThen, goodLines, badThen, hasBad}
 
 pub split : {A : Type 0} (t : Bool) → (t ≡ true → A) → (t ≡ false → A) → A
 split true f g = f refl
 split false f g = g refl
 
--- ---- what the line in hand comes to, where the rest of it says S: an event, and the text goes on after the line; or the bad line
+-- ---- what the line in hand comes to, where the rest of it says A: an event, and the text goes on after the line; or the bad line
 
 abbrev Goes : Line → List ℕ → Said → Type 0
-Goes l x (event e) = (found l x ≡ e ∷ found (fresh (l .whole + 1)) (afterLine x)) × (read l x ≡ read (fresh (l .whole + 1)) (afterLine x))
+Goes l x (event e) = (found l x ≡ numberOf e ∷ found (fresh (l .whole + 1)) (afterLine x)) × (read l x ≡ read (fresh (l .whole + 1)) (afterLine x))
 Goes l x bad = (found l x ≡ []) × (ended (read l x) ≡ stopped (l .whole))
 
-goes-as : (l : Line) (x : List ℕ) {S S′ : Said} → S ≡ S′ → Goes l x S → Goes l x S′
+goes-as : (l : Line) (x : List ℕ) {A A′ : Said} → A ≡ A′ → Goes l x A → Goes l x A′
 goes-as l x e g = subst (Goes l x) e g
 
 goes-bad : (l : Line) (b : ℕ) (x : List ℕ) → closes l b ≡ false → next l b ≡ stopped (l .whole) → Goes l (b ∷ x) bad
@@ -37,7 +40,7 @@ goes-bad l b x shut e =
       ap (λ (k : Line). ended (read k x)) e ∙ ap ended (read-still s x refl),
     )
 
-goes-on : (l k : Line) (b : ℕ) (x : List ℕ) (S : Said) → k .whole ≡ l .whole → eqb b 10 ≡ false → next l b ≡ k → Goes k x S → Goes l (b ∷ x) S
+goes-on : (l k : Line) (b : ℕ) (x : List ℕ) (A : Said) → k .whole ≡ l .whole → eqb b 10 ≡ false → next l b ≡ k → Goes k x A → Goes l (b ∷ x) A
 unfolding pick found read afterLine
 goes-on l k b x (event e) w n q g =
     let no = and-no-left (eqb b 10) (eqb (l .place) 3 || eqb (l .place) 4) n in
@@ -46,19 +49,16 @@ goes-on l k b x bad w n q g =
     let no = and-no-left (eqb b 10) (eqb (l .place) 3 || eqb (l .place) 4) n in
     (rw (said-none l b no, q) (g .0), rw (q, ← w) (g .1))
 
-first-more : (b : ℕ) (x : List ℕ) → eqb b 10 ≡ false → firstLine (b ∷ x) ≡ b ∷ firstLine x
-unfolding pick firstLine
-first-more b x n = rw n refl
-
 -- ---- by the place in the line, which is not past the last
 
 module _ (w : ℕ) (h : w < 1000000) where
-  goes-end : (k v : ℕ) (x : List ℕ) → Goes (lineAt w 3 k v) x (endSays k v (firstLine x))
+  -- the value is whole, and stands for the event e
+  goes-end : (k v : ℕ) (e : Event) → eventNumber k v ≡ numberOf e → (x : List ℕ) → Goes (lineAt w 3 k v) x (endSays e (firstLine x))
   unfolding pick next found read ended firstLine afterLine
-  goes-end k v [] = (refl, refl)
-  goes-end k v (b ∷ x) =
-      split (eqb b 10) (λ e. rw (eqb-true b 10 e, one-more w h) (refl, refl))
-      (λ e. goes-as (lineAt w 3 k v) (b ∷ x) (no-so _ (and-no-left (eqb b 10) _ e) refl) (goes-bad (lineAt w 3 k v) b x (and-no-left (eqb b 10) true e) (rw e refl)))
+  goes-end k v e i [] = (refl, refl)
+  goes-end k v e i (b ∷ x) =
+      split (eqb b 10) (λ j. rw (eqb-true b 10 j, one-more w h) (ap (λ (n : ℕ). n ∷ found (fresh (w + 1)) x) i, refl))
+      (λ j. goes-as (lineAt w 3 k v) (b ∷ x) (no-so _ (and-no-left (eqb b 10) _ j) refl) (goes-bad (lineAt w 3 k v) b x (and-no-left (eqb b 10) true j) (rw j refl)))
 
   -- a reading that is too large stays so
   too-large : (v : ℕ) (l : List ℕ) → 2 ^ 32 ≤ v → digitsSay v l ≡ bad
@@ -94,50 +94,79 @@ module _ (w : ℕ) (h : w < 1000000) where
       (λ e. goes-as (lineAt w 4 5 v) (b ∷ x) (no-so _ d (yes-so _ (lt-ltb v (2 ^ 32) s) (no-so _ (and-no-left (eqb b 10) (isEmpty (pick (eqb b 10) [] (firstLine x))) e) refl)))
       (goes-bad (lineAt w 4 5 v) b x (and-no-left (eqb b 10) true e) (rw (d, e) refl))))
 
-  goes-value : (k v : ℕ) (x : List ℕ) → k ≤ 5 → Goes (lineAt w 2 k v) x (valueSays k (firstLine x))
-  unfolding pick next found read ended firstLine afterLine
-  goes-value k v [] m = goes-as (lineAt w 2 k v) [] (sym (pick-same (ltb k 5) bad)) (refl, refl)
-  goes-value k v (b ∷ x) m =
+  -- a level, of a kind whose numbers stand for the events that `sets` makes
+  Stands : ℕ → (Bool → Event) → Type 0
+  Stands k sets = (k < 5) × ((eventNumber k 0 ≡ numberOf (sets false)) × (eventNumber k 1 ≡ numberOf (sets true)))
+
+  goes-level : (k : ℕ) (sets : Bool → Event) → Stands k sets → (v : ℕ) (x : List ℕ) → Goes (lineAt w 2 k v) x (levelSays sets (firstLine x))
+  unfolding pick next found read ended firstLine afterLine Stands
+  goes-level k sets m v [] = (refl, refl)
+  goes-level k sets m v (b ∷ x) =
       let here = lineAt w 2 k v in
-      let shut = and-no-right (eqb b 10) false refl in
+      let pin : ltb k 5 ≡ true = lt-ltb k 5 (m .0) in
       split (eqb b 48)
       (λ z. let n = ne-eqb b 10 (λ i. omega (arith, eqb-true b 48 z)) in
-      let says : endSays k 0 (firstLine x) ≡ valueSays k (firstLine (b ∷ x)) =
-      split (ltb k 5) (λ i. yes-so _ i (yes-so _ z (rw n refl)))
-      (λ i. let five : k ≡ 5 = omega (arith, ltb-false k 5 i) in no-so _ i (yes-so _ z (rw (n, five) refl))) in
-      goes-as here (b ∷ x) says (goes-on here (lineAt w 3 k 0) b x (endSays k 0 (firstLine x)) refl n (rw z refl) (goes-end k 0 x)))
-      (λ z. split (ltb k 5)
-      (λ i. split (eqb b 49)
+      goes-as here (b ∷ x) {A = endSays (sets false) (firstLine x)} (yes-so _ z (rw n refl)) (goes-on here (lineAt w 3 k 0) b x (endSays (sets false) (firstLine x)) refl n (rw z refl) (goes-end k 0 (sets false) (m .1 .0) x)))
+      (λ z. split (eqb b 49)
       (λ o. let n = ne-eqb b 10 (λ j. omega (arith, eqb-true b 49 o)) in
-      goes-as here (b ∷ x) {S = endSays k 1 (firstLine x)} (yes-so _ i (no-so _ z (yes-so _ o (rw n refl)))) (goes-on here (lineAt w 3 k 1) b x (endSays k 1 (firstLine x)) refl n (rw (z, i, o) refl) (goes-end k 1 x)))
-      (λ o. goes-as here (b ∷ x) {S = bad} (yes-so _ i (no-so _ z (no-so _ o refl))) (goes-bad here b x shut (rw (z, i, o) refl))))
-      (λ i. let five : k ≡ 5 = omega (arith, ltb-false k 5 i) in
-      split (isDigit b)
-      (λ d. let n = digit-lf b d in
-      goes-as here (b ∷ x) {S = digitsSay (b - 48) (firstLine x)} (no-so _ i (no-so _ z (yes-so _ d (rw n refl))))
-      (goes-on here (lineAt w 4 5 (b - 48)) b x (digitsSay (b - 48) (firstLine x)) refl n (rw (z, i, d, five) refl) (goes-digits (b - 48) x (small b d))))
-      (λ d. goes-as here (b ∷ x) {S = bad} (no-so _ i (no-so _ z (no-so _ d refl))) (goes-bad here b x shut (rw (z, i, d) refl)))))
+      goes-as here (b ∷ x) {A = endSays (sets true) (firstLine x)} (no-so _ z (yes-so _ o (rw n refl))) (goes-on here (lineAt w 3 k 1) b x (endSays (sets true) (firstLine x)) refl n (rw (z, pin, o) refl) (goes-end k 1 (sets true) (m .1 .1) x)))
+      (λ o. goes-as here (b ∷ x) {A = bad} (no-so _ z (no-so _ o refl)) (goes-bad here b x (and-no-right (eqb b 10) false refl) (rw (z, pin, o) refl))))
 
-  goes-tab : (k v : ℕ) (x : List ℕ) → k ≤ 5 → Goes (lineAt w 1 k v) x (tabSays k (firstLine x))
+  goes-reading : (v : ℕ) (x : List ℕ) → Goes (lineAt w 2 5 v) x (readingSays (firstLine x))
   unfolding pick next found read ended firstLine afterLine
-  goes-tab k v [] m = (refl, refl)
-  goes-tab k v (b ∷ x) m =
+  goes-reading v [] = (refl, refl)
+  goes-reading v (b ∷ x) =
+      let here = lineAt w 2 5 v in
+      split (eqb b 48)
+      (λ z. let n = ne-eqb b 10 (λ i. omega (arith, eqb-true b 48 z)) in
+      goes-as here (b ∷ x) {A = endSays (Time 0) (firstLine x)} (yes-so _ z (rw n refl)) (goes-on here (lineAt w 3 5 0) b x (endSays (Time 0) (firstLine x)) refl n (rw z refl) (goes-end 5 0 (Time 0) refl x)))
+      (λ z. split (isDigit b)
+      (λ d. let n = digit-lf b d in
+      goes-as here (b ∷ x) {A = digitsSay (b - 48) (firstLine x)} (no-so _ z (yes-so _ d (rw n refl)))
+      (goes-on here (lineAt w 4 5 (b - 48)) b x (digitsSay (b - 48) (firstLine x)) refl n (rw (z, d) refl) (goes-digits (b - 48) x (small b d))))
+      (λ d. goes-as here (b ∷ x) {A = bad} (no-so _ z (no-so _ d refl)) (goes-bad here b x (and-no-right (eqb b 10) false refl) (rw (z, d) refl))))
+
+  -- the name and the tab, before a value that goes as `value` says
+  goes-tab : (k : ℕ) (value : List ℕ → Said) → ((v : ℕ) (x : List ℕ) → Goes (lineAt w 2 k v) x (value (firstLine x)))
+      → (v : ℕ) (x : List ℕ) → Goes (lineAt w 1 k v) x (tabSays value (firstLine x))
+  unfolding pick next found read ended firstLine afterLine
+  goes-tab k value g v [] = (refl, refl)
+  goes-tab k value g v (b ∷ x) =
       let here = lineAt w 1 k v in
       split (eqb b 9)
       (λ e. let n = ne-eqb b 10 (λ i. omega (arith, eqb-true b 9 e)) in
-      goes-as here (b ∷ x) {S = valueSays k (firstLine x)} (yes-so _ e (rw n refl)) (goes-on here (lineAt w 2 k 0) b x (valueSays k (firstLine x)) refl n (rw e refl) (goes-value k 0 x m)))
-      (λ e. goes-as here (b ∷ x) {S = bad} (no-so _ e refl) (goes-bad here b x (and-no-right (eqb b 10) false refl) (rw e refl)))
+      goes-as here (b ∷ x) {A = value (firstLine x)} (yes-so _ e (rw n refl)) (goes-on here (lineAt w 2 k 0) b x (value (firstLine x)) refl n (rw e refl) (g 0 x)))
+      (λ e. goes-as here (b ∷ x) {A = bad} (no-so _ e refl) (goes-bad here b x (and-no-right (eqb b 10) false refl) (rw e refl)))
+
+  goes-name : (b k : ℕ) (value : List ℕ → Said) → kindOf b ≡ k → k < 6 → ((v : ℕ) (x : List ℕ) → Goes (lineAt w 2 k v) x (value (firstLine x)))
+      → (x : List ℕ) → Goes (fresh w) (b ∷ x) (tabSays value (pick (eqb b 10) [] (firstLine x)))
+  unfolding pick next
+  goes-name b k value i m g x =
+      let name : ltb (kindOf b) 6 ≡ true = rw i (lt-ltb k 6 m) in
+      let n = name-lf b name in
+      let same : tabSays value (firstLine x) ≡ tabSays value (pick (eqb b 10) [] (firstLine x)) = rw n refl in
+      goes-as (fresh w) (b ∷ x) same
+      (goes-on (fresh w) (lineAt w 1 k 0) b x (tabSays value (firstLine x)) refl n (rw (lt-ltb w 1000000 h, name, i) refl) (goes-tab k value g 0 x))
 
   -- a line from its start
   goes-line : (b : ℕ) (x : List ℕ) → Goes (fresh w) (b ∷ x) (lineSays (firstLine (b ∷ x)))
-  unfolding pick next firstLine lineSays
+  unfolding pick next kindOf firstLine lineSays Stands
   goes-line b x =
       let here = fresh w in
-      let below : ltb w 1000000 ≡ true = lt-ltb w 1000000 h in
-      split (ltb (kindOf b) 6)
-      (λ e. let n = name-lf b e in
-      goes-as here (b ∷ x) {S = tabSays (kindOf b) (firstLine x)} (yes-so _ e (rw n refl)) (goes-on here (lineAt w 1 (kindOf b) 0) b x (tabSays (kindOf b) (firstLine x)) refl n (rw (below, e) refl) (goes-tab (kindOf b) 0 x (omega (arith, ltb-true (kindOf b) 6 e)))))
-      (λ e. goes-as here (b ∷ x) {S = bad} (no-so _ e refl) (goes-bad here b x (and-no-right (eqb b 10) false refl) (rw (below, e) refl)))
+      split (eqb b 83)
+      (λ s. goes-as here (b ∷ x) (yes-so _ s refl) (goes-name b 0 (levelSays S) (rw s refl) (omega arith) (goes-level 0 S (omega arith, (refl, refl))) x))
+      (λ s. split (eqb b 67)
+      (λ c. goes-as here (b ∷ x) (no-so _ s (yes-so _ c refl)) (goes-name b 1 (levelSays C) (rw (s, c) refl) (omega arith) (goes-level 1 C (omega arith, (refl, refl))) x))
+      (λ c. split (eqb b 68)
+      (λ d. goes-as here (b ∷ x) (no-so _ s (no-so _ c (yes-so _ d refl))) (goes-name b 2 (levelSays D) (rw (s, c, d) refl) (omega arith) (goes-level 2 D (omega arith, (refl, refl))) x))
+      (λ d. split (eqb b 87)
+      (λ k. goes-as here (b ∷ x) (no-so _ s (no-so _ c (no-so _ d (yes-so _ k refl)))) (goes-name b 3 (levelSays W) (rw (s, c, d, k) refl) (omega arith) (goes-level 3 W (omega arith, (refl, refl))) x))
+      (λ k. split (eqb b 72)
+      (λ p. goes-as here (b ∷ x) (no-so _ s (no-so _ c (no-so _ d (no-so _ k (yes-so _ p refl))))) (goes-name b 4 (levelSays Hold) (rw (s, c, d, k, p) refl) (omega arith) (goes-level 4 Hold (omega arith, (refl, refl))) x))
+      (λ p. split (eqb b 84)
+      (λ t. goes-as here (b ∷ x) (no-so _ s (no-so _ c (no-so _ d (no-so _ k (no-so _ p (yes-so _ t refl)))))) (goes-name b 5 readingSays (rw (s, c, d, k, p, t) refl) (omega arith) goes-reading x))
+      (λ t. goes-as here (b ∷ x) {A = bad} (no-so _ s (no-so _ c (no-so _ d (no-so _ k (no-so _ p (no-so _ t refl))))))
+      (goes-bad here b x (and-no-right (eqb b 10) false refl) (rw (lt-ltb w 1000000 h, s, c, d, k, p, t) refl))))))))
 
 -- ---- the whole text, from a line start with n lines left of the million
 
@@ -146,16 +175,16 @@ abbrev Ends : ℕ → Bool → Line
 Ends w t = pick t (stopped w) (fresh w)
 
 Right : (n w : ℕ) (x : List ℕ) → Type 0
-Right n w x = (found (fresh w) x ≡ goodLines n x) × (ended (read (fresh w) x) ≡ Ends (w + length (goodLines n x)) (hasBad n x))
+Right n w x = (found (fresh w) x ≡ map numberOf (goodLines n x)) × (ended (read (fresh w) x) ≡ Ends (w + length (goodLines n x)) (hasBad n x))
 
 -- what holds after the first line holds of the text
-after-first : (n w : ℕ) (b : ℕ) (x : List ℕ) (S : Said) → Goes (fresh w) (b ∷ x) S → Right n (w + 1) (afterLine (b ∷ x))
-    → (found (fresh w) (b ∷ x) ≡ goodThen S (λ _. goodLines n (afterLine (b ∷ x))))
-    × (ended (read (fresh w) (b ∷ x)) ≡ Ends (w + length (goodThen S (λ _. goodLines n (afterLine (b ∷ x))))) (badThen S (λ _. hasBad n (afterLine (b ∷ x)))))
+after-first : (n w : ℕ) (b : ℕ) (x : List ℕ) (A : Said) → Goes (fresh w) (b ∷ x) A → Right n (w + 1) (afterLine (b ∷ x))
+    → (found (fresh w) (b ∷ x) ≡ map numberOf (goodThen A (λ _. goodLines n (afterLine (b ∷ x)))))
+    × (ended (read (fresh w) (b ∷ x)) ≡ Ends (w + length (goodThen A (λ _. goodLines n (afterLine (b ∷ x))))) (badThen A (λ _. hasBad n (afterLine (b ∷ x)))))
 unfolding pick Right
 after-first n w b x (event e) g r =
     let more : w + 1 + length (goodLines n (afterLine (b ∷ x))) ≡ w + length (e ∷ goodLines n (afterLine (b ∷ x))) = omega arith in
-    (g .0 ∙ ap (λ (es : List ℕ). e ∷ es) (r .0), ap ended (g .1) ∙ r .1 ∙ ap (λ (k : ℕ). Ends k (hasBad n (afterLine (b ∷ x)))) more)
+    (g .0 ∙ ap (λ (es : List ℕ). numberOf e ∷ es) (r .0), ap ended (g .1) ∙ r .1 ∙ ap (λ (k : ℕ). Ends k (hasBad n (afterLine (b ∷ x)))) more)
 after-first n w b x bad g r = (g .0, g .1 ∙ ap stopped (sym (add-zero w)))
 
 right-none : (w : ℕ) (x : List ℕ) → w ≡ 1000000 → Right 0 w x
@@ -175,7 +204,7 @@ right : (n w : ℕ) (x : List ℕ) → w + n ≡ 1000000 → Right n w x
 right zero w x h = right-none w x (omega arith)
 right (suc n) w x h = right-more n w x (omega arith) (right n (w + 1) (afterLine x) (omega arith))
 
-pub text-found : (x : List ℕ) → found (fresh 0) x ≡ goodLines 1000000 x
+pub text-found : (x : List ℕ) → found (fresh 0) x ≡ map numberOf (goodLines 1000000 x)
 unfolding Right
 text-found x = right 1000000 0 x refl .0
 

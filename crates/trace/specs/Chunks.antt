@@ -1,7 +1,7 @@
 -- A text a chunk at a time: the player after a chunk, the memory, what is put out; the refusals; and what the end of
 -- the text adds.
 use Prim.Native.Nat.{ℕ, _+_, _*_}
-use mathlib.Core.Bool.{Bool, _&&_, _||_}
+use mathlib.Core.Bool.{Bool, false, _&&_, _||_}
 use mathlib.Core.List.{List, [], _∷_, _++_}
 use lib.ListN.{length}
 use lib.Dec.{eqb, leb}
@@ -178,3 +178,13 @@ beforeText = record { player = startPlayer; memory = startBench .memory; output 
 unfoldable pub joined : List (List ℕ) → List ℕ
 joined [] = []
 joined (x ∷ xs) = x ++ joined xs
+
+-- ---- the numbers that the chunks get, and last the end of the text; out x is the output that a chunk x is lent
+
+unfoldable pub numbersGiven : (List ℕ → List ℕ) → SoFar → List (List ℕ) → List ℕ
+numbersGiven out s [] = endNumber (s .player) (out []) ∷ []
+numbersGiven out s (x ∷ xs) = feedNumber (s .player) (s .memory) x (out x) ∷ numbersGiven out (afterChunk s x) xs
+
+unfoldable pub has11 : List ℕ → Bool
+has11 [] = false
+has11 (n ∷ ns) = eqb n 11 || has11 ns

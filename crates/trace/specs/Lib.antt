@@ -1,3 +1,4 @@
--- The trace text: what a whole text puts out; and the same, a chunk at a time.
+-- The trace text: what a line says, what a whole text puts out; and the same, a chunk at a time.
+pub mod Lines
 pub mod Texts
 pub mod Chunks

@@ -1,7 +1,7 @@
 -- The whole output of a whole text, from document 01's "Trace text".
 use Prim.Native.Nat.{ℕ, zero, suc, _+_}
 use mathlib.Core.Bool.{Bool, true, not, _&&_}
-use mathlib.Core.List.{List, [], _∷_, _++_}
+use mathlib.Core.List.{List, [], _∷_, _++_, map}
 use lib.ListN.{length}
 use lib.Dec.{eqb}
 use Rattle.laws.specs.Pick.{pick}
@@ -9,9 +9,11 @@ use Rattle.codes.specs.Part.{m95512}
 use Rattle.chip.specs.Power.{delivered, deliveredMemory}
 use Rattle.pins.specs.Devices.{resting}
 use Rattle.pins.specs.Answers.{PinBench, played, pinBench}
+use Rattle.pins.specs.declared.Event.{Event}
+use Rattle.lists.specs.Events.{numberOf}
 use Rattle.lists.specs.Answers.{playedQ}
-use Rattle.lines.specs.Lines.{Said, event, bad, isEmpty, lineSays}
 use Rattle.printing.specs.Printing.{header, badLine, printed}
+use Rattle.trace.specs.Lines.{Said, event, bad, isEmpty, lineSays}
 
 -- ---- lines: the first line of a text ends with its LF, or with the text
 
@@ -26,11 +28,11 @@ afterLine (b ∷ text) = pick (eqb b 10) text (afterLine text)
 -- ---- the events of the lines before the first bad one. A line past the first n is bad. (What follows a line is looked
 -- at only where the line is good.)
 
-abbrev pub goodThen : Said → (Unit {0} → List ℕ) → List ℕ
+abbrev pub goodThen : Said → (Unit {0} → List Event) → List Event
 goodThen (event e) es = e ∷ es tt
 goodThen bad es = []
 
-unfoldable pub goodLines : ℕ → List ℕ → List ℕ
+unfoldable pub goodLines : ℕ → List ℕ → List Event
 goodLines zero text = []
 goodLines (suc n) text = goodThen (lineSays (firstLine text)) (λ _. goodLines n (afterLine text))
 
@@ -43,8 +45,12 @@ unfoldable pub hasBad : ℕ → List ℕ → Bool
 hasBad zero text = not (isEmpty text)
 hasBad (suc n) text = not (isEmpty text) && badThen (lineSays (firstLine text)) (λ _. hasBad n (afterLine text))
 
-abbrev pub textEvents : List ℕ → List ℕ
+abbrev pub textEvents : List ℕ → List Event
 textEvents text = goodLines 1000000 text
+
+-- as the pin model's list takes them: the number that stands for each (`number-means`, lists/Numbers: it means that event)
+abbrev pub textNumbers : List ℕ → List ℕ
+textNumbers text = map numberOf (textEvents text)
 
 abbrev pub textIsBad : List ℕ → Bool
 textIsBad text = hasBad 1000000 text
@@ -56,11 +62,11 @@ startBench = pinBench (resting m95512 (delivered m95512)) (deliveredMemory m9551
 
 -- the device and the memory after the last good line
 abbrev pub textBench : List ℕ → PinBench
-textBench text = played m95512 (textEvents text) startBench
+textBench text = played m95512 (textNumbers text) startBench
 
 -- ---- the output
 
 unfoldable pub textOutput : List ℕ → List ℕ
 textOutput text =
-    header ++ (printed 1 (playedQ m95512 (textEvents text) startBench)
+    header ++ (printed 1 (playedQ m95512 (textNumbers text) startBench)
     ++ pick (textIsBad text) (badLine (length (textEvents text) + 1)) [])

@@ -1,4 +1,4 @@
-use Rattle.lines.specs.Lines.{kindOf}
+use Rattle.lines.specs.Reading.{kindOf}
 use Rattle.laws.specs.Pick.{arms}
 use Rattle.lines.proofs.reading.kind_of.Statement.{statement}
 use Rattle.lines.proofs.reading.kind_of.Tie as tie

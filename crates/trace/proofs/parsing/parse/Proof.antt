@@ -6,8 +6,7 @@ use native.Mathlib.Omega.{arith}
 use borrow.Author.Needs.{needs}
 use lib.ListN.{length, take, getD, length-set, length-append}
 use lib.Seq.{take-all}
-use Rattle.lines.specs.Lines.{eventNumber}
-use Rattle.lines.specs.Reading.{read, found, said, closes, next}
+use Rattle.lines.specs.Reading.{eventNumber, read, found, said, closes, next}
 use Rattle.lines.proofs.Runs.{read-more, found-more, collected, said-length, one-or-none}
 use Rattle.trace.proofs.parsing.parse.Statement.{statement}
 use Rattle.trace.proofs.parsing.parse.Tie as tie

@@ -1,0 +1,149 @@
+-- Refusal 11, exactly: however a text is cut into chunks, one of its calls gives 11 where the text has a bad line, and none where it has not. A chunk gives it as soon as no bytes that may follow make the text good.
+use mathlib.Core.Path.{_≡_, refl, ap, sym, _∙_}
+use mathlib.Core.Bool.{Bool, true, false, _||_, true≢false}
+use mathlib.Core.List.{List, [], _∷_, _++_}
+use Prim.Native.Nat.{ℕ, zero, suc, _≤_}
+use native.Mathlib.Omega.{arith}
+use lib.ListN.{length, length-replicate}
+use lib.Dec.{eqb}
+use borrow.Author.Tests.{eqb-true, eqb-false, le-leb}
+use Rattle.laws.specs.Pick.{pick}
+use Rattle.codes.specs.Part.{Part, m95512}
+use Rattle.codes.proofs.Sound.{m95512-sound}
+use Rattle.pins.specs.Answers.{PinBench, afterEvent, played}
+use Rattle.pins.specs.Events.{eventOf}
+use Rattle.pins_theorems.proofs.Fits.{Sized, powered-sized}
+use Rattle.pins_theorems.proofs.CellRule.{event-length}
+use Rattle.lines.specs.declared.Line.{Line}
+use Rattle.lines.specs.Reading.{lineAt, fresh, stopped, isStopped, next, read, found, ended, lineFits}
+use Rattle.lines.proofs.Hand.{read-fits, fresh-fits, past-fits}
+use Rattle.lines.proofs.Runs.{read-append, read-still}
+use Rattle.trace.specs.declared.Player.{Player}
+use Rattle.trace.specs.Texts.{startBench, textIsBad}
+use Rattle.trace.specs.Chunks.{startPlayer, benchOf, playedLines, chunkBench, chunkPlayer, endPlayer, playerNumber, playerFits, room, feedNumber, endNumber, SoFar, afterChunk, afterChunks, beforeText, joined, numbersGiven, has11}
+use Rattle.trace.proofs.Choosing.{feed-done, end-done}
+use Rattle.trace.proofs.Whole.{split, text-ended}
+use Rattle.trace.proofs.Cut.{start-fits, chunk-fits, chunk-sized}
+
+-- ---- what a call needs to take its chunk, and each chunk leaves so
+
+played-length : (P : Part) (es : List ℕ) (b : PinBench) → length (played P es b .memory) ≡ length (b .memory)
+unfolding played
+played-length P [] b = refl
+played-length P (e ∷ es) b = played-length P es (afterEvent P e b) ∙ event-length P (b .device) (b .memory) (eventOf e)
+
+record Ready (s : SoFar) : Type 0 where
+  fits : playerFits (s .player) ≡ true
+  sized : Sized m95512 (s .player .device)
+  whole : length (s .memory) ≡ m95512 .size
+
+start-ready : Ready beforeText
+unfolding pick
+start-ready = record { fits = start-fits; sized = powered-sized m95512 m95512-sound 5000 false false false 0; whole = length-replicate {A = ℕ} (m95512 .size) 0xff }
+
+next-ready : (s : SoFar) (x : List ℕ) → Ready s → Ready (afterChunk s x)
+unfolding playedLines
+next-ready s x r =
+    record {
+      fits = chunk-fits (s .player) (s .memory) x (r .fits) (r .sized);
+      sized = chunk-sized (s .player) (s .memory) x (r .sized);
+      whole = played-length m95512 (found (s .player .line) x) (benchOf (s .player) (s .memory)) ∙ r .whole;
+    }
+
+feed-gives : (s : SoFar) (x d : List ℕ) → Ready s → room (length x) ≤ length d → feedNumber (s .player) (s .memory) x d ≡ playerNumber (chunkPlayer (s .player) (s .memory) x)
+feed-gives s x d r k = sym (feed-done (s .player) (s .memory) (room (length x)) (length d) 5 2 1 (r .whole) (r .fits) (le-leb _ _ k) refl)
+
+end-gives : (s : SoFar) (d : List ℕ) → Ready s → room 0 ≤ length d → endNumber (s .player) d ≡ playerNumber (endPlayer (s .player))
+end-gives s d r k = sym (end-done (s .player) (room 0) (length d) 5 2 (r .fits) (le-leb _ _ k) refl)
+
+-- ---- a number is 11 where the line in hand is stopped, and a stopped text stays so
+
+is-11 : (t : Bool) → eqb (pick t 11 0) 11 ≡ t
+unfolding pick
+is-11 true = refl
+is-11 false = refl
+
+ended-stopped : (l : Line) → isStopped l ≡ true → isStopped (ended l) ≡ true
+unfolding pick ended
+ended-stopped l e = rw (eqb-true (l .place) 5 e) refl
+
+stays : (l : Line) (x : List ℕ) → isStopped l ≡ true → isStopped (ended (read l x)) ≡ true
+stays l x e = ap (λ (k : Line). isStopped (ended k)) (read-still l x (eqb-true (l .place) 5 e)) ∙ ended-stopped l e
+
+given : (out : List ℕ → List ℕ) → ((x : List ℕ) → room (length x) ≤ length (out x)) → (s : SoFar) → Ready s → (xs : List (List ℕ))
+    → has11 (numbersGiven out s xs) ≡ isStopped (ended (read (s .player .line) (joined xs)))
+unfolding numbersGiven has11 joined read
+given out k s r [] = rw (end-gives s (out []) r (k []), is-11 (isStopped (ended (s .player .line)))) (or-no (isStopped (ended (s .player .line))))
+  where
+    or-no : (t : Bool) → (t || false) ≡ t
+    or-no true = refl
+    or-no false = refl
+given out k s r (x ∷ xs) =
+    let l = s .player .line in
+    let rest : isStopped (ended (read (read l x) (joined xs))) ≡ isStopped (ended (read l (x ++ joined xs))) = ap (λ (j : Line). isStopped (ended j)) (sym (read-append l x (joined xs))) in
+    rw (feed-gives s x (out x) r (k x), is-11 (isStopped (read l x)), given out k (afterChunk s x) (next-ready s x r) xs)
+    (split (isStopped (read l x)) (λ e. rw e (sym (stays (read l x) (joined xs) e)) ∙ rest) (λ e. rw e rest))
+
+stopped-is : (w : ℕ) (t : Bool) → isStopped (pick t (stopped w) (fresh w)) ≡ t
+unfolding pick
+stopped-is w true = refl
+stopped-is w false = refl
+
+text-stopped : (x : List ℕ) → isStopped (ended (read (fresh 0) x)) ≡ textIsBad x
+text-stopped x = ap isStopped (text-ended x) ∙ stopped-is _ (textIsBad x)
+
+-- ---- 11 exactly where the text has a bad line
+
+pub eleven : (out : List ℕ → List ℕ) → ((x : List ℕ) → room (length x) ≤ length (out x)) → (xs : List (List ℕ))
+    → has11 (numbersGiven out beforeText xs) ≡ textIsBad (joined xs)
+eleven out k xs = given out k beforeText start-ready xs ∙ text-stopped (joined xs)
+
+-- ---- and which chunk gives it: one after which the text is bad, whatever follows. After any other the text can still be good
+
+ready-after : (s : SoFar) (xs : List (List ℕ)) → Ready s → Ready (afterChunks s xs)
+unfolding afterChunks
+ready-after s [] r = r
+ready-after s (x ∷ xs) r = ready-after (afterChunk s x) xs (next-ready s x r)
+
+line-after : (s : SoFar) (xs : List (List ℕ)) → afterChunks s xs .player .line ≡ read (s .player .line) (joined xs)
+unfolding afterChunks joined read
+line-after s [] = refl
+line-after s (x ∷ xs) = line-after (afterChunk s x) xs ∙ sym (read-append (s .player .line) x (joined xs))
+
+-- the bytes that end a line in hand well
+ends-well : (w p k v : ℕ) → lineFits (lineAt w p k v) ≡ true → (p ≡ 5 → ⊥) → (y : List ℕ) × (isStopped (ended (read (lineAt w p k v) y)) ≡ false)
+unfolding pick next read ended
+ends-well w zero k v f n = ([], refl)
+ends-well w (suc zero) k v f n = (9 ∷ 48 ∷ 10 ∷ [], refl)
+ends-well w (suc (suc zero)) k v f n = (48 ∷ 10 ∷ [], refl)
+ends-well w (suc (suc (suc zero))) k v f n = (10 ∷ [], refl)
+ends-well w (suc (suc (suc (suc zero)))) k v f n = (10 ∷ [], refl)
+ends-well w (suc (suc (suc (suc (suc zero))))) k v f n = absurd (n refl)
+ends-well w (suc (suc (suc (suc (suc (suc p)))))) k v f n = absurd (true≢false (sym f ∙ past-fits w (suc (suc (suc (suc (suc (suc p)))))) k v (omega arith)))
+
+module _ (xs : List (List ℕ)) (x d : List ℕ) (k : room (length x) ≤ length d) where
+  -- the number that a chunk x gets after the chunks xs
+  abbrev number : ℕ
+  number = feedNumber (afterChunks beforeText xs .player) (afterChunks beforeText xs .memory) x d
+
+  abbrev hand : Line
+  hand = read (fresh 0) (joined xs ++ x)
+
+  number-is : number ≡ pick (isStopped hand) 11 0
+  number-is =
+      feed-gives (afterChunks beforeText xs) x d (ready-after beforeText xs start-ready) k
+      ∙ ap (λ (l : Line). pick (isStopped (read l x)) 11 0) (line-after beforeText xs)
+      ∙ ap (λ (l : Line). pick (isStopped l) 11 0) (sym (read-append (fresh 0) (joined xs) x))
+
+  on-from : (y : List ℕ) → isStopped (ended (read hand y)) ≡ textIsBad ((joined xs ++ x) ++ y)
+  on-from y = ap (λ (l : Line). isStopped (ended l)) (sym (read-append (fresh 0) (joined xs ++ x) y)) ∙ text-stopped ((joined xs ++ x) ++ y)
+
+  pub eleven-for-good : number ≡ 11 → (y : List ℕ) → textIsBad ((joined xs ++ x) ++ y) ≡ true
+  eleven-for-good e y = sym (on-from y) ∙ stays hand y (sym (is-11 (isStopped hand)) ∙ rw (sym number-is ∙ e) refl)
+
+  pub not-yet : (number ≡ 11 → ⊥) → (y : List ℕ) × (textIsBad ((joined xs ++ x) ++ y) ≡ false)
+  unfolding pick
+  not-yet n =
+      let go : isStopped hand ≡ false = split (isStopped hand) (λ e. absurd (n (number-is ∙ rw e refl))) (λ e. e) in
+      let w = ends-well (hand .whole) (hand .place) (hand .kind) (hand .value) (read-fits (fresh 0) (joined xs ++ x) (fresh-fits 0 (omega arith))) (eqb-false (hand .place) 5 go) in
+      (w .0, sym (on-from (w .0)) ∙ w .1)
