@@ -10,6 +10,7 @@ pub mod Ends
 pub mod Pad
 pub mod Levels
 pub mod Agree
+pub mod Counted
 pub mod Drawn
 pub mod Shown
 pub mod Starred

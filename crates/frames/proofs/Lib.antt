@@ -8,4 +8,5 @@ pub mod Kept
 pub mod Ignored
 pub mod Cases
 pub mod Undriven
+pub mod Unused
 pub mod CellRule

@@ -20,8 +20,8 @@ unfoldable pub playedQ : Part → List ℕ → PinBench → List ℕ
 playedQ P [] b = []
 playedQ P (e ∷ es) b = levelNumber (q (afterEvent P e b .device)) ∷ playedQ P es (afterEvent P e b)
 
--- what stands for refusals 1, 2 (for the device, or for a number that is no event), and 5 for an output that has not the
--- list's length, and for none
+-- what stands for refusals 1, 2 (the device's, or that of a number that is no event), and 5 for an output that has not
+-- the list's length, and for none
 abbrev pub playChoice : {A : Type 0} → Part → Device → List ℕ → List ℕ → ℕ → A → A → A → A → A
 playChoice P x m es room one two five done =
     memoryChoice P x m one two (pick (areEvents es) (pick (eqb room (length es)) done five) two)

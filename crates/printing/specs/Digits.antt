@@ -1,7 +1,8 @@
 -- A number as decimal text.
-use Prim.Native.Nat.{ℕ, zero, suc, _+_, _/_, _%_}
+use Prim.Native.Nat.{ℕ, zero, suc, _+_, _*_, _-_, _/_, _%_}
+use mathlib.Core.Bool.{Bool, true, _&&_}
 use mathlib.Core.List.{List, [], _∷_, _++_}
-use lib.Dec.{ltb}
+use lib.Dec.{leb, ltb}
 use Rattle.laws.specs.Pick.{pick}
 
 -- the last k digits of n
@@ -17,3 +18,15 @@ places n =
 
 unfoldable pub decimal : ℕ → List ℕ
 decimal n = digits (places n) n
+
+-- ---- what digits say, for the law on `decimal` (`decimal-says`, printing/Decimal)
+
+-- the number that digits say, after others that say v
+unfoldable pub saidBy : ℕ → List ℕ → ℕ
+saidBy v [] = v
+saidBy v (b ∷ l) = saidBy (v * 10 + (b - 48)) l
+
+-- each is a digit, 0 to 9
+abbrev pub allDigits : List ℕ → Bool
+allDigits [] = true
+allDigits (b ∷ l) = (leb 48 b && leb b 57) && allDigits l

@@ -1,4 +1,5 @@
--- Refusal 11, exactly: however a text is cut into chunks, one of its calls gives 11 where the text has a bad line, and none where it has not. A chunk gives it as soon as no bytes that may follow make the text good.
+-- Refusal 11, exactly: however a text is cut into chunks, one of its calls gives 11 where the text has a bad line, and none where it has not. A chunk gives it
+-- as soon as no bytes that may follow make the text good.
 use mathlib.Core.Path.{_≡_, refl, ap, sym, _∙_}
 use mathlib.Core.Bool.{Bool, true, false, _||_, true≢false}
 use mathlib.Core.List.{List, [], _∷_, _++_}
@@ -39,7 +40,12 @@ record Ready (s : SoFar) : Type 0 where
 
 start-ready : Ready beforeText
 unfolding pick
-start-ready = record { fits = start-fits; sized = powered-sized m95512 m95512-sound 5000 false false false 0; whole = length-replicate {A = ℕ} (m95512 .size) 0xff }
+start-ready =
+    record {
+      fits = start-fits;
+      sized = powered-sized m95512 m95512-sound 5000 false false false 0;
+      whole = length-replicate {A = ℕ} (m95512 .size) 0xff;
+    }
 
 next-ready : (s : SoFar) (x : List ℕ) → Ready s → Ready (afterChunk s x)
 unfolding playedLines
@@ -50,7 +56,8 @@ next-ready s x r =
       whole = played-length m95512 (found (s .player .line) x) (benchOf (s .player) (s .memory)) ∙ r .whole;
     }
 
-feed-gives : (s : SoFar) (x d : List ℕ) → Ready s → room (length x) ≤ length d → feedNumber (s .player) (s .memory) x d ≡ playerNumber (chunkPlayer (s .player) (s .memory) x)
+feed-gives : (s : SoFar) (x d : List ℕ) → Ready s → room (length x) ≤ length d
+    → feedNumber (s .player) (s .memory) x d ≡ playerNumber (chunkPlayer (s .player) (s .memory) x)
 feed-gives s x d r k = sym (feed-done (s .player) (s .memory) (room (length x)) (length d) 5 2 1 (r .whole) (r .fits) (le-leb _ _ k) refl)
 
 end-gives : (s : SoFar) (d : List ℕ) → Ready s → room 0 ≤ length d → endNumber (s .player) d ≡ playerNumber (endPlayer (s .player))
@@ -80,7 +87,8 @@ given out k s r [] = rw (end-gives s (out []) r (k []), is-11 (isStopped (ended 
     or-no false = refl
 given out k s r (x ∷ xs) =
     let l = s .player .line in
-    let rest : isStopped (ended (read (read l x) (joined xs))) ≡ isStopped (ended (read l (x ++ joined xs))) = ap (λ (j : Line). isStopped (ended j)) (sym (read-append l x (joined xs))) in
+    let rest : isStopped (ended (read (read l x) (joined xs))) ≡ isStopped (ended (read l (x ++ joined xs))) =
+    ap (λ (j : Line). isStopped (ended j)) (sym (read-append l x (joined xs))) in
     rw (feed-gives s x (out x) r (k x), is-11 (isStopped (read l x)), given out k (afterChunk s x) (next-ready s x r) xs)
     (split (isStopped (read l x)) (λ e. rw e (sym (stays (read l x) (joined xs) e)) ∙ rest) (λ e. rw e rest))
 
@@ -145,5 +153,6 @@ module _ (xs : List (List ℕ)) (x d : List ℕ) (k : room (length x) ≤ length
   unfolding pick
   not-yet n =
       let go : isStopped hand ≡ false = split (isStopped hand) (λ e. absurd (n (number-is ∙ rw e refl))) (λ e. e) in
-      let w = ends-well (hand .whole) (hand .place) (hand .kind) (hand .value) (read-fits (fresh 0) (joined xs ++ x) (fresh-fits 0 (omega arith))) (eqb-false (hand .place) 5 go) in
+      let f = read-fits (fresh 0) (joined xs ++ x) (fresh-fits 0 (omega arith)) in
+      let w = ends-well (hand .whole) (hand .place) (hand .kind) (hand .value) f (eqb-false (hand .place) 5 go) in
       (w .0, sym (on-from (w .0)) ∙ w .1)

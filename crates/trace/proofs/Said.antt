@@ -69,7 +69,8 @@ line-numbered : (l : List ℕ) → Numbered (lineSays l)
 unfolding lineSays
 line-numbered [] = tt
 line-numbered (b ∷ l) =
-    let pin : (sets : Bool → Event) → ((v : Bool) → hasNumber (sets v) ≡ true) → Numbered (tabSays (levelSays sets) l) = λ sets h. tab-numbered (levelSays sets) l (λ k. level-numbered sets k h) in
+    let pin : (sets : Bool → Event) → ((v : Bool) → hasNumber (sets v) ≡ true) → Numbered (tabSays (levelSays sets) l) =
+    λ sets h. tab-numbered (levelSays sets) l (λ k. level-numbered sets k h) in
     pick-case Numbered (eqb b 83) (λ _. pin S (λ v. refl))
     (λ _. pick-case Numbered (eqb b 67) (λ _. pin C (λ v. refl))
     (λ _. pick-case Numbered (eqb b 68) (λ _. pin D (λ v. refl))
@@ -78,7 +79,8 @@ line-numbered (b ∷ l) =
     (λ _. pick-case Numbered (eqb b 84) (λ _. tab-numbered readingSays l reading-numbered) (λ _. tt))))))
 
 -- the first line and those after it
-means-then : (A : Said) (es : List Event) → Numbered A → map eventOf (map numberOf es) ≡ es → map eventOf (map numberOf (goodThen A (λ _. es))) ≡ goodThen A (λ _. es)
+means-then : (A : Said) (es : List Event) → Numbered A → map eventOf (map numberOf es) ≡ es
+    → map eventOf (map numberOf (goodThen A (λ _. es))) ≡ goodThen A (λ _. es)
 means-then (event e) es h m = ap₂ (λ d ds. d ∷ ds) (number-means e h) m
 means-then bad es h m = refl
 

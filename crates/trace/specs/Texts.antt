@@ -48,7 +48,7 @@ hasBad (suc n) text = not (isEmpty text) && badThen (lineSays (firstLine text)) 
 abbrev pub textEvents : List ℕ → List Event
 textEvents text = goodLines 1000000 text
 
--- as the pin model's list takes them: the number that stands for each (`number-means`, lists/Numbers: it means that event)
+-- as the pin model's list takes them: the number that stands for each, and means it (`text-means`, trace/Said)
 abbrev pub textNumbers : List ℕ → List ℕ
 textNumbers text = map numberOf (textEvents text)
 
