@@ -1054,7 +1054,7 @@ static void run_script(cartvesper_device *device)
     }
     singles_memory = lib_memory;
     lib_memory = plain_memory = start_memory;
-    if (percent(30))
+    for (int i = 0; i < 5; i++)
         spoil_script(&start);
     if (percent(10))
         try_play(&refused, script, script_count, off_by_one(script_count, 70), random_size(50));
