@@ -1,7 +1,7 @@
 -- Refusal 11, exactly: however a text is cut into chunks, one of its calls gives 11 where the text has a bad line, and none where it has not. A chunk gives it
 -- as soon as no bytes that may follow make the text good.
 use mathlib.Core.Path.{_≡_, refl, ap, sym, _∙_}
-use mathlib.Core.Bool.{Bool, true, false, _||_, true≢false}
+use mathlib.Core.Bool.{Bool, true, false, _||_, or-false, true≢false}
 use mathlib.Core.List.{List, [], _∷_, _++_}
 use Prim.Native.Nat.{ℕ, zero, suc, _≤_}
 use native.Mathlib.Omega.{arith}
@@ -80,11 +80,7 @@ stays l x e = ap (λ (k : Line). isStopped (ended k)) (read-still l x (eqb-true 
 given : (out : List ℕ → List ℕ) → ((x : List ℕ) → room (length x) ≤ length (out x)) → (s : SoFar) → Ready s → (xs : List (List ℕ))
     → has11 (numbersGiven out s xs) ≡ isStopped (ended (read (s .player .line) (joined xs)))
 unfolding numbersGiven has11 joined read
-given out k s r [] = rw (end-gives s (out []) r (k []), is-11 (isStopped (ended (s .player .line)))) (or-no (isStopped (ended (s .player .line))))
-  where
-    or-no : (t : Bool) → (t || false) ≡ t
-    or-no true = refl
-    or-no false = refl
+given out k s r [] = rw (end-gives s (out []) r (k []), is-11 (isStopped (ended (s .player .line)))) (or-false (isStopped (ended (s .player .line))))
 given out k s r (x ∷ xs) =
     let l = s .player .line in
     let rest : isStopped (ended (read (read l x) (joined xs))) ≡ isStopped (ended (read l (x ++ joined xs))) =
