@@ -29,6 +29,10 @@ use Rattle.chip.proofs.Core.running.Kinds as core-running
 use Rattle.chip.proofs.Core.running.Reads as core-running-reads
 use Rattle.chip.proofs.Core.status.Kinds as core-status
 use Rattle.chip.proofs.Core.status.Reads as core-status-reads
+use Rattle.chip.proofs.Core.ends.Kinds as core-ends
+use Rattle.chip.proofs.Core.ends.Reads as core-ends-reads
+use Rattle.chip.proofs.time.left_after.Kinds as left-after
+use Rattle.chip.proofs.time.left_after.Reads as left-after-reads
 use Rattle.chip.proofs.time.elapsed.Kinds as elapsed
 use Rattle.chip.proofs.time.elapsed.Reads as elapsed-reads
 use Rattle.chip.proofs.Waiting.nothing.Kinds as waiting-nothing
@@ -82,6 +86,12 @@ core-running-one κs a z z′ e e′ p q = same p q
 
 pub core-status-one : OneResult core-status.ps core-status.r core-status-reads.Post
 core-status-one κs a z z′ e e′ p q = same p q
+
+pub core-ends-one : OneResult core-ends.ps core-ends.r core-ends-reads.Post
+core-ends-one κs a z z′ e e′ p q = same p q
+
+pub left-after-one : OneResult left-after.ps left-after.r left-after-reads.Post
+left-after-one κs a z z′ e e′ p q = same p q
 
 pub elapsed-one : OneResult elapsed.ps elapsed.r elapsed-reads.Post
 elapsed-one κs a z z′ e e′ p q = same p q

@@ -22,6 +22,7 @@ pub use time::clock_reading;
 // Inner calls.
 pub use ranges::cycle_fits;
 pub use time::elapsed;
+pub use time::left_after;
 
 // What waits for the end of the cycle: nothing (kind 0), a status value (1) or a page (2). What does not wait reads 0.
 #[repr(C)]

@@ -71,7 +71,7 @@ impl Core {
     }
 
     // Time left reaches 0 in the time that has passed.
-    fn ends(self, passed: u32) -> bool
+    pub fn ends(self, passed: u32) -> bool
         ensures { λ r. ⌜ r ≡ (running self && leb (self .left) passed) ⌝ }
     {
         (0 < self.left) & (self.left <= passed)
@@ -115,7 +115,8 @@ impl Core {
     }
 }
 
-fn left_after(left: u32, passed: u32) -> u32
+// What is left of a cycle.
+pub fn left_after(left: u32, passed: u32) -> u32
     ensures { λ r. ⌜ r ≡ left - passed ⌝ }
 {
     if left < passed { 0 } else { left - passed }

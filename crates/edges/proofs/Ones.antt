@@ -20,6 +20,10 @@ use Rattle.edges.proofs.records.one_more.Kinds as one-more
 use Rattle.edges.proofs.records.one_more.Reads as one-more-reads
 use Rattle.edges.proofs.records.bit.Kinds as bit
 use Rattle.edges.proofs.records.bit.Reads as bit-reads
+use Rattle.edges.proofs.rising.address_with.Kinds as address-with
+use Rattle.edges.proofs.rising.address_with.Reads as address-with-reads
+use Rattle.edges.proofs.rising.next_address.Kinds as next-address
+use Rattle.edges.proofs.rising.next_address.Reads as next-address-reads
 use Rattle.edges.proofs.rising.shifted_in.Kinds as shifted-in
 use Rattle.edges.proofs.rising.shifted_in.Reads as shifted-in-reads
 use Rattle.edges.proofs.Frame.whole_byte.Kinds as frame-whole-byte
@@ -54,6 +58,12 @@ one-more-one κs a z z′ e e′ p q = same p q
 
 pub bit-one : OneResult bit.ps bit.r bit-reads.Post
 bit-one κs a z z′ e e′ p q = same p q
+
+pub address-with-one : OneResult address-with.ps address-with.r address-with-reads.Post
+address-with-one κs a z z′ e e′ p q = same p q
+
+pub next-address-one : OneResult next-address.ps next-address.r next-address-reads.Post
+next-address-one κs a z z′ e e′ p q = same p q
 
 pub shifted-in-one : OneResult shifted-in.ps shifted-in.r shifted-in-reads.Post
 shifted-in-one κs a z z′ e e′ p q = same p q

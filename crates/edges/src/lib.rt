@@ -14,6 +14,8 @@ pub use falling::one_up;
 pub use falling::outputs;
 pub use records::bit;
 pub use records::one_more;
+pub use rising::address_with;
+pub use rising::next_address;
 pub use rising::shifted_in;
 
 // Addresses are u32, the count of whole bytes is u8.

@@ -22,7 +22,7 @@ pub fn shifted_in(part: u8, d: u8) -> u8
 }
 
 // One more address byte goes to its place, by the whole bytes before it: the first one is the high byte.
-fn joined(address: u32, before: u8, byte: u8) -> u32
+pub fn address_with(address: u32, before: u8, byte: u8) -> u32
     ensures { λ r. ⌜ r ≡ (address + byte * 256 ^ (m95512 .addressBytes - before)) % m95512 .size ⌝ }
 {
     let low = address % SIZE;
@@ -37,7 +37,7 @@ fn joined(address: u32, before: u8, byte: u8) -> u32
 }
 
 // The next cell of the page that an address is in.
-fn next_address(address: u32) -> u32
+pub fn next_address(address: u32) -> u32
     ensures { λ r. ⌜ r ≡ address / m95512 .page * m95512 .page + nextCell m95512 address ⌝ }
 {
     address / PAGE * PAGE + latch::next_cell(address as usize) as u32
@@ -47,7 +47,7 @@ impl Frame {
     fn address_byte(self, before: u8, byte: u8) -> Frame
         ensures { λ r. ⌜ r ≡ addressByte m95512 before byte self ⌝ }
     {
-        self.with_address(joined(self.address, before, byte))
+        self.with_address(address_with(self.address, before, byte))
     }
 
     // A data byte goes to its cell, and the address moves to the next cell of the page.

@@ -1,30 +1,33 @@
 -- An edge of C that moves a few numbers of the device: which, and that this is what the edge does.
 use mathlib.Core.Path.{_≡_, refl, ap, sym, _∙_}
 use mathlib.Core.List.{List}
-use mathlib.Core.Bool.{Bool, true, false, not, _&&_, true≢false}
-use Prim.Native.Nat.{ℕ, _+_, _%_, _<_, _≤_, min}
+use mathlib.Core.Bool.{Bool, true, false, not, _&&_}
+use Prim.Native.Nat.{ℕ, _+_, _/_, _%_, _<_, _≤_}
 use lib.Dec.{leb, ltb}
 use lib.ListN.{getD}
-use Rattle.laws.specs.Pick.{pick, yes-so, no-so, ne-so, lt-so, ge-so}
+use Rattle.laws.specs.Pick.{pick, pick-ap, pick-same, at-no, yes-so, no-so, ne-so, lt-so, ge-so, and-no-right}
 use Rattle.codes.specs.Part.{Part}
-use Rattle.codes.specs.Status.{bit, on}
-use Rattle.chip.specs.Records.{running}
+use Rattle.codes.specs.Status.{bit, on, bitOf}
+use Rattle.codes.specs.Verdicts.{isExecuted}
+use Rattle.chip.specs.Records.{running, status, withWel}
+use Rattle.chip.specs.Effects.{effect}
+use Rattle.latch.specs.declared.Latch.{Latch}
 use Rattle.codes.specs.Instructions.{decode}
 use Rattle.chip.specs.declared.Core.{Core}
 use Rattle.codes.specs.declared.Instruction.{Instruction}
-use Rattle.codes.specs.declared.Instruction.the-variants.{Read}
+use Rattle.codes.specs.declared.Instruction.the-variants.{Rdsr, Read}
 use Rattle.edges.specs.declared.Frame.{Frame}
 use Rattle.pins.specs.declared.Device.{Device}
-use Rattle.pins.specs.Devices.{withC, withPins, withFrame, selected, counting, withHeldAt}
-use Rattle.lists.specs.Ways.{withTaken, isWhole, afterWayMemory}
-use Rattle.edges.specs.Frames.{withBits, withByte, withOut, withAddress}
-use Rattle.edges.specs.Rising.{shiftedIn, taking, wholeByte, risen}
+use Rattle.pins.specs.Devices.{withC, withPins, withFrame, withCore, selected, counting, withHeldAt}
+use Rattle.lists.specs.Ways.{withTaken, withoutFrame, isWhole, afterWayMemory}
+use Rattle.edges.specs.Frames.{withBits, withOut, withAddress}
+use Rattle.edges.specs.Rising.{shiftedIn, wholeByte, risen}
 use Rattle.codes.specs.Output.{outputs}
-use Rattle.edges.specs.Falling.{loading, fallen}
+use Rattle.edges.specs.declared.Level.the-variants.{Z}
+use Rattle.edges.specs.Falling.{loading, fallen, levelOf, levelShown, levelNumber}
 use Rattle.pins.specs.declared.Event.{Event}
 use Rattle.lists.specs.declared.Way.{Way}
-use Rattle.lists.specs.declared.Way.the-variants.{Data, Set, Rise, Fall, Whole}
-use Rattle.pins.specs.Events.{renewed, onC, steppedMemory}
+use Rattle.pins.specs.Events.{judgedNow, decided, renewed, onS, onC, steppedMemory}
 
 -- ---- the frame over a counted rising edge
 
@@ -34,11 +37,10 @@ module _ (P : Part) (run : Bool) (d : ℕ) (f : Frame) where
   unfolding risen
   one-bit v h e = lt-so _ h (ap (λ (k : ℕ). withBits (f .bits + 1) k f) e)
 
-  -- the eighth, of a byte that nothing keeps
-  pub no-byte : (n : ℕ) → 7 ≤ f .bits → (f .taken ≡ 0 → ⊥) → ((v : ℕ) (g : Frame) → taking P (decode P (f .code)) (f .taken) v g ≡ g)
-      → n ≡ min (P .most) (f .taken + 1) → withTaken n (withBits 0 0 f) ≡ risen P run d f
-  unfolding risen wholeByte
-  no-byte n h z same e = ge-so _ h (ne-so _ z (ap (λ (k : ℕ). withTaken k (withBits 0 0 f)) e ∙ sym (same (shiftedIn (f .part) d) (withByte P f))))
+  -- the eighth: a whole byte
+  pub eighth : (v : ℕ) → 7 ≤ f .bits → v ≡ shiftedIn (f .part) d → wholeByte P run v f ≡ risen P run d f
+  unfolding risen
+  eighth v h e = ge-so _ h (ap (λ (k : ℕ). wholeByte P run k f) e)
 
 -- ---- the frame over an unheld falling edge in data output
 
@@ -54,6 +56,11 @@ module _ (P : Part) (m : List ℕ) (core : Core) (f : Frame) (o : outputs P (dec
       → a ≡ (f .address + 1) % P .size → withAddress a (withOut v 1 f) ≡ fallen P m core f
   unfolding fallen
   next-cell v a e i ev ea = yes-so _ o (no-so _ e (read-cell v a ev ea ∙ sym (ap (λ (j : Instruction). loading P m core j f) i)))
+
+  -- the status byte
+  pub status-byte : (leb 1 (f .shown) && ltb (f .shown) 8) ≡ false → decode P (f .code) ≡ Rdsr → withOut (status core) 1 f ≡ fallen P m core f
+  unfolding fallen
+  status-byte e i = yes-so _ o (no-so _ e (sym (ap (λ (j : Instruction). loading P m core j f) i)))
 
 -- ---- the device
 
@@ -78,27 +85,35 @@ module _ (P : Part) (m : List ℕ) (x : Device) where
       → f ≡ fallen P m (x .core) (x .frame) → withHeldAt h (withPins (withC 0 (x .pins)) (withFrame f x)) ≡ onC P false m x
   down-counted h f moves e t p = down h (withFrame f x) moves e (yes-so _ t (ap (λ (g : Frame). withFrame g x) p))
 
--- ---- the memory
+-- ---- S
 
--- an event that keeps the memory keeps it by every way
-pub memory-kept : (P : Part) (e : Event) (x : Device) (m : List ℕ) (w : Way) → m ≡ steppedMemory P e x m → afterWayMemory P e w x m ≡ steppedMemory P e x m
-memory-kept P e x m (Data d) h = h
-memory-kept P e x m (Set v hold held) h = h
-memory-kept P e x m (Rise n b v) h = h
-memory-kept P e x m (Fall held v n a) h = h
-memory-kept P e x m Whole h = refl
+module _ (P : Part) (x : Device) (moves : x .pins .s ≡ 1 → ⊥) where
+  -- a deselect that leaves the core c
+  deselected : (c : Core) → c ≡ decided P x → withoutFrame P 1 0 (withCore c x) ≡ onS P true x
+  unfolding onS
+  deselected c e = ne-so _ moves (yes-so _ refl (ap (λ (k : Core). withoutFrame P 1 0 (withCore k x)) e))
 
--- a way that is not the whole event
-pub way-memory : (P : Part) (e : Event) (x : Device) (m : List ℕ) (w : Way) → isWhole w ≡ false → m ≡ afterWayMemory P e w x m
-way-memory P e x m (Data d) h = refl
-way-memory P e x m (Set v hold held) h = refl
-way-memory P e x m (Rise n b v) h = refl
-way-memory P e x m (Fall held v n a) h = refl
-way-memory P e x m Whole h = absurd (true≢false h)
+  -- what the instruction i does, if it is executed
+  abbrev does : Instruction → Core
+  does i = effect P i (x .frame .value) (x .frame .address / P .page) (x .frame .latch) (x .core)
 
-pub whole-way : (w : Way) → isWhole w ≡ true → w ≡ Whole
-whole-way (Data d) h = absurd (true≢false (sym h))
-whole-way (Set v hold held) h = absurd (true≢false (sym h))
-whole-way (Rise n b v) h = absurd (true≢false (sym h))
-whole-way (Fall held v n a) h = absurd (true≢false (sym h))
-whole-way Whole h = refl
+  -- an instruction that leaves the core alone, executed or not
+  pub dropped : (i : Instruction) → decode P (x .frame .code) ≡ i → does i ≡ x .core
+      → withoutFrame P 1 0 (withCore (withWel (x .core .wel) (x .core)) x) ≡ onS P true x
+  dropped i e same =
+      deselected (x .core) (sym (ap (λ (k : Core). pick (isExecuted (judgedNow P x)) k (x .core)) (ap does e ∙ same) ∙ pick-same _ _))
+
+  -- an instruction that sets WEL to v, if it is executed
+  pub enabled : (i : Instruction) (v w : ℕ) → decode P (x .frame .code) ≡ i → does i ≡ withWel v (x .core)
+      → w ≡ pick (isExecuted (judgedNow P x)) v (x .core .wel) → withoutFrame P 1 0 (withCore (withWel w (x .core)) x) ≡ onS P true x
+  enabled i v w e sets h =
+      deselected (withWel w (x .core))
+      (ap (λ (n : ℕ). withWel n (x .core)) h ∙ pick-ap (λ (n : ℕ). withWel n (x .core)) (isExecuted (judgedNow P x)) v (x .core .wel)
+      ∙ ap (λ (k : Core). pick (isExecuted (judgedNow P x)) k (x .core)) (sym (ap does e ∙ sets)))
+
+-- ---- Q
+
+-- where no bit is shown, Q is Z
+pub none-shown : (s h out : ℕ) → levelNumber (levelShown s h 0 out) ≡ 2
+none-shown s h out =
+    ap levelNumber (at-no (levelOf (bitOf 8 out)) Z (and-no-right (not (on s) && not (on h)) false refl))

@@ -4,6 +4,7 @@
 mod events;
 mod fronts;
 mod listed;
+mod ways;
 
 pub use listed::play;
 
@@ -26,25 +27,59 @@ pub(crate) struct Front {
     pub address: u32,
 }
 
-// What an event moves of the front: D; W or HOLD, and held; what a rising edge moves, beside C; what a falling edge
-// moves, beside C. `Whole` is an event that moves more than this.
+// What an event moves. A byte is whole where `taken` stands without bits.
 pub(crate) enum Way {
+    // D
     Data(u8),
+    // W or HOLD, and held
     Set {
         w: u8,
         hold: u8,
         held: u8,
     },
+    // C rises: a bit of a byte, or a byte that nothing keeps
     Rise {
         taken: u8,
         bits: u8,
         part: u8,
     },
+    // C rises: the code; an address byte or the WRSR's byte; a WRITE's data byte, with the address of the next
+    Code {
+        taken: u8,
+        code: u8,
+    },
+    Byte {
+        taken: u8,
+        value: u8,
+        address: u32,
+    },
+    Latched {
+        taken: u8,
+        byte: u8,
+        address: u32,
+    },
+    // C falls: a bit, or the next byte of a READ; the status byte
     Fall {
         held: u8,
         out: u8,
         shown: u8,
         address: u32,
     },
+    Status {
+        held: u8,
+    },
+    // S falls; S rises, and at most WEL moves
+    Select {
+        held: u8,
+    },
+    Drop {
+        wel: u8,
+    },
+    // time passes, and no cycle ends
+    Pass {
+        reading: u32,
+        left: u32,
+    },
+    // an event that moves more than this
     Whole,
 }

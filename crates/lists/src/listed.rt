@@ -6,12 +6,16 @@ ghost use Rattle.codes.specs.Refusals.{number};
 ghost use Rattle.pins.specs.Events.{eventOf};
 ghost use Rattle.pins.specs.Answers.{played, pinBench};
 ghost use Rattle.lists.specs.Answers.{playAnswer, playMemory, playNumber, playOutput, playedQ};
+use crate::Way;
 use crate::events::are_events;
 use crate::fronts::front_of;
 use codes::Outcome;
 use codes::Refusal;
 use codes::SIZE;
-use edges::level_of;
+use edges::bit;
+use latch::Latch;
+use latch::ROOM;
+use latch::latch_byte;
 use pins::Device;
 use pins::Event;
 use pins::Stepped;
@@ -43,25 +47,125 @@ fn play_all(device: Device, memory: &mut [u8], events: &[u64], out: &mut [u8]) -
     ensures { λ _. ⌜ now (out .exit) ≡ playedQ m95512 (now (events .entry)) (pinBench device (now (memory .entry))) ⌝ }
 {
     let frame = device.frame;
+    let latch = frame.latch;
     let mut front = front_of(device);
-    let mut latch = frame.latch;
+    let mut bytes = latch.bytes;
+    let mut marks = latch.marks;
     let mut core = device.core;
+    let mut q = front.q();
     let mut i: usize = 0;
     while i < events.len() {
         let event = event_of(events[i]);
-        let way = front.way_for(event, memory);
-        if way.is_whole() {
-            let next = front.whole(latch, core).stepped(event, memory);
-            let frame = next.frame;
-            front = front_of(next);
-            latch = frame.latch;
-            core = next.core;
-        } else {
-            front = front.moved(way);
+        let way = front.way_for(event, memory, core);
+        match way {
+            Way::Data(d) => {
+                front.d = d;
+            }
+            Way::Set { w, hold, held } => {
+                front.w = w;
+                front.hold = hold;
+                front.held = held;
+                q = front.q();
+            }
+            Way::Rise { taken, bits, part } => {
+                front.c = 1;
+                front.taken = taken;
+                front.bits = bits;
+                front.part = part;
+            }
+            Way::Code { taken, code } => {
+                let ran = bit(0 < core.left);
+                front.c = 1;
+                front.taken = taken;
+                front.bits = 0;
+                front.part = 0;
+                front.code = code;
+                front.ran = ran;
+            }
+            Way::Byte {
+                taken,
+                value,
+                address,
+            } => {
+                front.c = 1;
+                front.taken = taken;
+                front.bits = 0;
+                front.part = 0;
+                front.value = value;
+                front.address = address;
+            }
+            Way::Latched {
+                taken,
+                byte,
+                address,
+            } => {
+                latch_byte(&mut bytes, &mut marks, front.address as usize, byte);
+                front.c = 1;
+                front.taken = taken;
+                front.bits = 0;
+                front.part = 0;
+                front.address = address;
+            }
+            Way::Fall {
+                held,
+                out,
+                shown,
+                address,
+            } => {
+                front.c = 0;
+                front.held = held;
+                front.out = out;
+                front.shown = shown;
+                front.address = address;
+                q = front.q();
+            }
+            Way::Status { held } => {
+                let status = core.status();
+                front.c = 0;
+                front.held = held;
+                front.out = status;
+                front.shown = 1;
+                q = front.q();
+            }
+            Way::Select { held } => {
+                front = front.without_frame(0, held);
+                bytes = [0; ROOM];
+                marks = [0; ROOM];
+                q = 2;
+            }
+            Way::Drop { wel } => {
+                front = front.without_frame(1, 0);
+                bytes = [0; ROOM];
+                marks = [0; ROOM];
+                core.wel = wel;
+                q = 2;
+            }
+            Way::Pass { reading, left } => {
+                core.last = reading;
+                core.left = left;
+            }
+            Way::Whole => {
+                let latch = Latch {
+                    bytes: bytes,
+                    marks: marks,
+                };
+                let next = front.whole(latch, core).stepped(event, memory);
+                let frame = next.frame;
+                let latch = frame.latch;
+                front = front_of(next);
+                bytes = latch.bytes;
+                marks = latch.marks;
+                core = next.core;
+                q = front.q();
+            }
         }
-        out[i] = level_of(front.s, front.held, front.shown, front.out).number();
+        out[i] = q;
         i += 1;
     }
+    let latch = Latch {
+        bytes: bytes,
+        marks: marks,
+    };
     front.whole(latch, core)
 }
 

@@ -11,7 +11,7 @@ use Rattle.codes.specs.Instructions.{decode}
 use Rattle.lists.specs.Ways.{whole}
 use Rattle.codes.specs.Output.{outputs}
 use Rattle.pins.proofs.Stills.{still}
-use Rattle.lists.proofs.InPlace.{next-bit, next-cell, down, down-counted}
+use Rattle.lists.proofs.InPlace.{next-bit, next-cell, status-byte, down, down-counted}
 use borrow.Author.Needs.{needs}
 use Rattle.lists.proofs.Front.falling.Statement.{statement}
 use Rattle.lists.proofs.Front.falling.Tie as tie
@@ -69,11 +69,29 @@ returns-2 c =
     λ l k. down-counted m95512 m (whole s l k) _ _ (at .pre) (b .bit .ensures) (and-left counted drives both)
     (next-cell m95512 m k (whole s l k .frame) (o ∙ and-right counted drives both) _ _ (c .before .before .before .before .if2 .left) read (c .before .cell .ensures) (c .one-up .ensures))
 
+polls-requires : tie.Need-polls-requires
+polls-requires c κs = search needs
+
 returns-3 : tie.Need-returns-3
-returns-3 c = search needs
+returns-3 c =
+    let b = c .before .before .before .before .before .before in
+    let at = b .before .before .before .before .before .before .before .before .before in
+    let s = at .args .self in
+    let m = at .args .memory .now in
+    let drives = b .before .before .before .outputs .result in
+    let o : outputs m95512 (decode m95512 (s .code)) (s .taken) (on (s .ran)) ≡ drives =
+    sym (b .before .before .before .outputs .ensures ∙ ap (λ i. outputs m95512 i (s .taken) (on (s .ran))) (b .before .before .before .before .before .decode .ensures)) in
+    let counted = not (on (s .s)) && not (on (s .held)) in
+    let both = c .before .before .before .before .before .if1 .taken in
+    let asks = sym (b .before .before .before .before .before .decode .ensures) ∙ c .before .polls .ensures (c .if4 .taken) in
+    λ l k. down-counted m95512 m (whole s l k) _ _ (at .pre) (b .bit .ensures) (and-left counted drives both)
+    (status-byte m95512 m k (whole s l k .frame) (o ∙ and-right counted drives both) (c .before .before .before .before .if2 .left) asks)
 
 returns-4 : tie.Need-returns-4
-returns-4 c =
+returns-4 c = search needs
+
+returns-5 : tie.Need-returns-5
+returns-5 c =
     let b = c .before in
     let at = b .before .before .before .before .before .before .before .before .before in
     let s = at .args .self in
@@ -96,5 +114,7 @@ falling-spec =
     cell-requires
     one-up-requires
     returns-2
+    polls-requires
     returns-3
-    returns-4)
+    returns-4
+    returns-5)

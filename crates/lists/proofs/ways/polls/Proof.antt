@@ -1,8 +1,8 @@
 use mathlib.Core.Path.{sym}
 use mathlib.Core.Bool.{true≢false}
 use borrow.Author.Needs.{needs}
-use Rattle.lists.proofs.fronts.reads.Statement.{statement}
-use Rattle.lists.proofs.fronts.reads.Tie as tie
+use Rattle.lists.proofs.ways.polls.Statement.{statement}
+use Rattle.lists.proofs.ways.polls.Tie as tie
 
 enum-told : tie.Need-enum-told
 enum-told c = search needs
@@ -13,5 +13,5 @@ returns c = search needs
 returns-2 : tie.Need-returns-2
 returns-2 c = λ e. absurd (true≢false (sym e))
 
-pub reads-spec : {M : Type 1} → statement M
-reads-spec = tie.close (tie.spec enum-told returns returns-2)
+pub polls-spec : {M : Type 1} → statement M
+polls-spec = tie.close (tie.spec enum-told returns returns-2)

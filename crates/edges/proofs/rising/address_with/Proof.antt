@@ -2,8 +2,8 @@ use Prim.Native.Nat.{_-_}
 use mathlib.Core.Path.{_≡_}
 use native.Mathlib.Omega.{arith}
 use borrow.Author.Needs.{needs}
-use Rattle.edges.proofs.rising.joined.Statement.{statement}
-use Rattle.edges.proofs.rising.joined.Tie as tie
+use Rattle.edges.proofs.rising.address_with.Statement.{statement}
+use Rattle.edges.proofs.rising.address_with.Tie as tie
 
 returns : tie.Need-returns
 returns c = rw (c .if1 .taken) (omega arith)
@@ -25,5 +25,5 @@ returns-3 c =
     let none : 2 - c .before .before .args .before ≡ 0 = omega arith in
     rw none (omega arith)
 
-pub joined-spec : {M : Type 1} → statement M
-joined-spec = tie.close (tie.spec returns mul-result add-result returns-2 add-result-2 returns-3)
+pub address-with-spec : {M : Type 1} → statement M
+address-with-spec = tie.close (tie.spec returns mul-result add-result returns-2 add-result-2 returns-3)

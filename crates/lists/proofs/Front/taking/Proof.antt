@@ -1,0 +1,126 @@
+use mathlib.Core.Path.{refl, ap, _∙_}
+use Rattle.laws.specs.Pick.{eq-so, ne-so, le-so, gt-so}
+use Rattle.edges.specs.declared.Frame.{Frame}
+use Rattle.lists.specs.Ways.{whole, risenTo}
+use borrow.Author.Needs.{needs}
+use Rattle.lists.proofs.Front.taking.Statement.{statement}
+use Rattle.lists.proofs.Front.taking.Tie as tie
+
+enum-told : tie.Need-enum-told
+enum-told c = search needs
+
+status-byte-requires : tie.Need-status-byte-requires
+status-byte-requires c κs = search needs
+
+returns : tie.Need-returns
+returns c =
+    λ m l k. rw (c .before .before .enum-told .given .1) (c .status-byte .ensures m l k ∙ ap (λ (f : Frame). risenTo f (whole (c .before .before .before .before .args .self) l k)) (eq-so _ (c .before .if1 .taken) refl))
+
+unkept-requires : tie.Need-unkept-requires
+unkept-requires c κs = search needs
+
+enum-told-2 : tie.Need-enum-told-2
+enum-told-2 c = search needs
+
+address-byte-requires : tie.Need-address-byte-requires
+address-byte-requires c κs = search needs
+
+returns-2 : tie.Need-returns-2
+returns-2 c =
+    λ m l k. rw (c .before .before .enum-told2 .given .1) (c .address-byte .ensures m l k ∙ ap (λ (f : Frame). risenTo f (whole (c .before .before .before .before .args .self) l k)) (le-so _ (c .before .if2 .taken) refl))
+
+unkept-requires-2 : tie.Need-unkept-requires-2
+unkept-requires-2 c κs = search needs
+
+enum-told-3 : tie.Need-enum-told-3
+enum-told-3 c = search needs
+
+address-byte-requires-2 : tie.Need-address-byte-requires-2
+address-byte-requires-2 c κs = search needs
+
+returns-3 : tie.Need-returns-3
+returns-3 c =
+    λ m l k. rw (c .before .before .enum-told3 .given .1) (c .address-byte2 .ensures m l k ∙ ap (λ (f : Frame). risenTo f (whole (c .before .before .before .before .args .self) l k)) (le-so _ (c .before .if3 .taken) refl))
+
+latch-byte-requires : tie.Need-latch-byte-requires
+latch-byte-requires c κs = search needs
+
+enum-told-4 : tie.Need-enum-told-4
+enum-told-4 c = search needs
+
+unkept-requires-3 : tie.Need-unkept-requires-3
+unkept-requires-3 c κs = search needs
+
+enum-told-5 : tie.Need-enum-told-5
+enum-told-5 c = search needs
+
+unkept-requires-4 : tie.Need-unkept-requires-4
+unkept-requires-4 c κs = search needs
+
+enum-told-6 : tie.Need-enum-told-6
+enum-told-6 c = search needs
+
+unkept-requires-5 : tie.Need-unkept-requires-5
+unkept-requires-5 c κs = search needs
+
+enum-told-7 : tie.Need-enum-told-7
+enum-told-7 c = search needs
+
+unkept-requires-6 : tie.Need-unkept-requires-6
+unkept-requires-6 c κs = search needs
+
+returns-4 : tie.Need-returns-4
+returns-4 c =
+    λ m l k. rw (c .before .before .enum-told .given .1) (c .unkept .ensures m l k ∙ ap (λ (f : Frame). risenTo f (whole (c .before .before .before .before .args .self) l k)) (ne-so _ (c .before .if1 .left) refl))
+
+returns-5 : tie.Need-returns-5
+returns-5 c =
+    λ m l k. rw (c .before .before .enum-told2 .given .1) (c .unkept2 .ensures m l k ∙ ap (λ (f : Frame). risenTo f (whole (c .before .before .before .before .args .self) l k)) (gt-so _ (c .before .if2 .left) refl))
+
+returns-6 : tie.Need-returns-6
+returns-6 c =
+    λ m l k. rw (c .before .before .enum-told3 .given .1) (c .latch-byte .ensures m l k ∙ ap (λ (f : Frame). risenTo f (whole (c .before .before .before .before .args .self) l k)) (gt-so _ (c .before .if3 .left) refl))
+
+returns-7 : tie.Need-returns-7
+returns-7 c = λ m l k. rw (c .before .enum-told4 .given .1) (c .unkept3 .ensures m l k)
+
+returns-8 : tie.Need-returns-8
+returns-8 c = λ m l k. rw (c .before .enum-told5 .given .1) (c .unkept4 .ensures m l k)
+
+returns-9 : tie.Need-returns-9
+returns-9 c = λ m l k. rw (c .before .enum-told6 .given .1) (c .unkept5 .ensures m l k)
+
+returns-10 : tie.Need-returns-10
+returns-10 c = λ m l k. rw (c .before .enum-told7 .given .1) (c .unkept6 .ensures m l k)
+
+pub taking-spec : {M : Type 1} → statement M
+taking-spec =
+    tie.close
+    (tie.spec
+    enum-told
+    status-byte-requires
+    returns
+    unkept-requires
+    enum-told-2
+    address-byte-requires
+    returns-2
+    unkept-requires-2
+    enum-told-3
+    address-byte-requires-2
+    returns-3
+    latch-byte-requires
+    enum-told-4
+    unkept-requires-3
+    enum-told-5
+    unkept-requires-4
+    enum-told-6
+    unkept-requires-5
+    enum-told-7
+    unkept-requires-6
+    returns-4
+    returns-5
+    returns-6
+    returns-7
+    returns-8
+    returns-9
+    returns-10)
