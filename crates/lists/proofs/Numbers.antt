@@ -8,7 +8,7 @@ use native.Mathlib.Omega.{arith}
 use lib.ListN.{length, take, getD}
 use lib.Seq.{take-suc}
 use lib.Dec.{eqb, leb, ltb}
-use borrow.Author.Tests.{le-leb, leb-true, lt-ltb, ltb-true, ltb-false, le-ltb, eq-eqb, ne-eqb}
+use borrow.Author.Tests.{le-leb, lt-leb, leb-true, lt-ltb, ltb-true, ltb-false, le-ltb, eq-eqb, ne-eqb}
 use Rattle.laws.specs.Pick.{pick, and-both}
 use Rattle.laws.specs.And.{or-left, or-right}
 use Rattle.codes.specs.Status.{bit, on}
@@ -35,6 +35,19 @@ more-are ns i h =
     ap areEvents (take-suc ns i 0 h) ∙ both-are (take i ns) (getD ns i 0 ∷ []) ∙ ap (λ (t : Bool). areEvents (take i ns) && t) (one-is (getD ns i 0))
 
 -- ---- a kind and a value: a pin at 0 or 1, or a reading
+
+-- the test of the code: a value is at most what its kind lets it be
+pub within-most : (k v : ℕ) → v < 2 ^ 32 → (leb k 5 && leb v (pick (eqb k 5) 4294967295 1)) ≡ (ltb k 5 && leb v 1 || eqb k 5)
+unfolding pick
+within-most zero v h = sym (or-false (leb v 1))
+within-most (suc zero) v h = sym (or-false (leb v 1))
+within-most (suc (suc zero)) v h = sym (or-false (leb v 1))
+within-most (suc (suc (suc zero))) v h = sym (or-false (leb v 1))
+within-most (suc (suc (suc (suc zero)))) v h = sym (or-false (leb v 1))
+within-most (suc (suc (suc (suc (suc zero))))) v h = le-leb v 4294967295 (omega arith)
+within-most (suc (suc (suc (suc (suc (suc k)))))) v h =
+    let six = suc (suc (suc (suc (suc (suc k))))) in
+    rw (lt-leb six 5 (omega arith), le-ltb six 5 (omega arith), ne-eqb six 5 (λ e. omega arith)) refl
 
 kind-of : (k v : ℕ) → v < 2 ^ 32 → (k * 2 ^ 32 + v) / 2 ^ 32 ≡ k
 kind-of k v h = omega arith

@@ -1,14 +1,23 @@
 // Which numbers stand for events.
 ghost use mathlib.Core.Path.{_≡_};
+ghost use lib.Dec.{eqb};
+ghost use Rattle.laws.specs.Pick.{pick};
 ghost use Rattle.lists.specs.Events.{isEvent, areEvents};
 
-// A pin and a level of 0 or 1, or a reading.
+// The most that may stand under a kind: a level, or a reading of 32 bits.
+fn most(kind: u32) -> u32
+    ensures { λ r. ⌜ r ≡ pick (eqb kind 5) 4294967295 1 ⌝ }
+{
+    if kind == 5 { 4294967295 } else { 1 }
+}
+
+// A pin and a level of 0 or 1, or a reading. Both halves are u32, which makes the pass over a list cheap.
 fn is_event(number: u64) -> bool
     ensures { λ r. ⌜ r ≡ isEvent number ⌝ }
 {
-    let kind = number / 4294967296;
-    let value = number % 4294967296;
-    ((kind < 5) & (value <= 1)) | (kind == 5)
+    let kind = (number / 4294967296) as u32;
+    let value = (number % 4294967296) as u32;
+    (kind <= 5) & (value <= most(kind))
 }
 
 // Each number of a list: one pass, with no choice inside it, since lists are long.
