@@ -2,3 +2,4 @@
 pub mod Hand
 pub mod Runs
 pub mod Ones
+pub mod WholeLine

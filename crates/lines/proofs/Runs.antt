@@ -12,7 +12,7 @@ use lib.Dec.{eqb, ltb}
 use borrow.Author.Tests.{ne-eqb}
 use Rattle.laws.specs.Pick.{pick, pick-case, and-both, and-no-left, and-no-right}
 use Rattle.lines.specs.declared.Line.{Line}
-use Rattle.lines.specs.Reading.{kindOf, isDigit, lineAt, closed, next, closes, said, read, found, lineFits}
+use Rattle.lines.specs.Reading.{kindOf, eventNumber, isDigit, lineAt, closed, next, closes, said, read, found, lineFits}
 use Rattle.lines.proofs.Hand.{digit-low, one-more, in-hand, next-fits, read-fits, past-fits, whole-small}
 
 pub read-append : (l : Line) (x y : List ℕ) → read l (x ++ y) ≡ read (read l x) y
@@ -42,15 +42,25 @@ read-more l x i h = ap (read l) (take-suc x i 0 h) ∙ read-end l (take i x) (ge
 pub found-more : (l : Line) (x : List ℕ) (i : ℕ) → i < length x → found l (take (suc i) x) ≡ found l (take i x) ++ said (read l (take i x)) (getD x i 0)
 found-more l x i h = ap (found l) (take-suc x i 0 h) ∙ found-end l (take i x) (getD x i 0)
 
--- an event written at the end of those before it, and counted where the byte ends its line
-pub collected : (es : List ℕ) (n e : ℕ) (t : Bool) → n < length es → take (n + pick t 1 0) (set es n e) ≡ take n es ++ pick t (e ∷ []) []
-unfolding pick
-collected es n e true h = rw add-one (take-suc-set es n e h)
-collected es n e false h = rw add-zero (take-set-le n es n e (omega arith) ∙ sym (append-nil (take n es)))
+-- an event written at the end of those before it, and counted once or not at all
+pub taken-set : (es : List ℕ) (n e k : ℕ) → k ≤ 1 → n < length es → take (n + k) (set es n e) ≡ take n es ++ take k (e ∷ [])
+taken-set es n e zero i h = rw add-zero (take-set-le n es n e (omega arith) ∙ sym (append-nil (take n es)))
+taken-set es n e (suc zero) i h = rw add-one (take-suc-set es n e h)
+taken-set es n e (suc (suc k)) i h = absurd (omega arith)
+
+pub taken-length : (e k : ℕ) → k ≤ 1 → length (take k (e ∷ [])) ≡ k
+taken-length e zero i = refl
+taken-length e (suc zero) i = refl
+taken-length e (suc (suc k)) i = absurd (omega arith)
 
 pub said-length : (l : Line) (b : ℕ) → length (said l b) ≡ pick (closes l b) 1 0
 unfolding pick
 said-length l b = pick-case (λ (k : List ℕ). length k ≡ pick (closes l b) 1 0) (closes l b) (λ e. rw e refl) (λ e. rw e refl)
+
+-- what a byte says, as the event in hand, taken once or not at all
+pub said-taken : (l : Line) (b : ℕ) → take (pick (closes l b) 1 0) (eventNumber (l .kind) (l .value) ∷ []) ≡ said l b
+unfolding pick
+said-taken l b = pick-case (λ (n : ℕ). take n (eventNumber (l .kind) (l .value) ∷ []) ≡ said l b) (closes l b) (λ e. rw e refl) (λ e. rw e refl)
 
 -- ---- the lines that end are the events
 

@@ -20,6 +20,10 @@ eventNumber kind value = kind * 2 ^ 32 + value
 abbrev pub isDigit : ℕ → Bool
 isDigit b = leb 48 b && leb b 57
 
+-- four bytes that are a line of a level: a pin's name, a tab, 0 or 1, LF
+abbrev pub isLevelLine : ℕ → ℕ → ℕ → ℕ → Bool
+isLevelLine name tab level end = ltb (kindOf name) 5 && eqb tab 9 && (eqb level 48 || eqb level 49) && eqb end 10
+
 -- ---- the line in hand
 
 abbrev pub lineAt : ℕ → ℕ → ℕ → ℕ → Line

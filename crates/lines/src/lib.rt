@@ -1,8 +1,13 @@
 // One line of a trace text, a byte at a time. The player over whole texts is `trace`.
 //
 // Its calls are inner ones, for the player, each for every line: next, what a byte makes of it; closing, whether a
-// byte ends it; event, what it says; fits, its ranges; ended, the end of the text.
+// byte ends it; event, what it says; fits, its ranges; ended, the end of the text. Four of them take a line of a level
+// whole: is_fresh, level_kind, level_event, past_line.
+mod levels;
 mod reading;
+
+pub use levels::level_event;
+pub use levels::level_kind;
 
 // The line in hand.
 pub struct Line {

@@ -7,7 +7,7 @@ ghost use Rattle.lines.specs.Reading.{kindOf, eventNumber, isDigit, line
 use crate::Line;
 
 // The kind of event that a name gives, 6 for no name.
-fn kind_of(name: u8) -> u8
+pub(crate) fn kind_of(name: u8) -> u8
     ensures { λ r. ⌜ r ≡ kindOf name ⌝ }
 {
     match name {
@@ -36,7 +36,7 @@ fn with_digit(value: u32, byte: u8) -> u64
 }
 
 // The count of whole lines stays at a million.
-fn one_more(whole: u32) -> u32
+pub(crate) fn one_more(whole: u32) -> u32
     ensures { λ r. ⌜ r ≡ min 1000000 (whole + 1) ⌝ }
 {
     if whole < 1000000 { whole + 1 } else { 1000000 }
