@@ -2,3 +2,4 @@
 pub mod Lines
 pub mod Texts
 pub mod Chunks
+pub mod Takes

@@ -1,12 +1,11 @@
 // A run of bytes, read into the events of the lines that end in it.
 ghost use mathlib.Core.Path.{_≡_};
 ghost use mathlib.Core.Bool.{true, _&&_};
-ghost use mathlib.Core.List.{[], _∷_, _++_};
 ghost use Prim.Native.Nat.{_+_, _<_, _≤_};
 ghost use lib.ListN.{length, take};
 ghost use lib.Dec.{eqb, ltb};
-ghost use Rattle.lines.specs.declared.Line.{Line};
 ghost use Rattle.lines.specs.Reading.{read, found};
+ghost use Rattle.trace.specs.Takes.{Takes};
 use lines::Line;
 use lines::level_event;
 use lines::level_kind;
@@ -28,12 +27,7 @@ struct Taken {
 
 fn byte_taken(hand: Line, text: &[u8], i: usize) -> Taken
     requires { ⌜ i < length (now text) ⌝ }
-    ensures { λ r. ⌜ (1 ≤ r .bytes) × (i + r .bytes ≤ length (now (text .entry))) × (r .lines ≤ 1) ⌝ }
-    ensures { λ r. ⌜ ((l : Line) → hand ≡ read l (take i (now (text .entry)))
-        → r .line ≡ read l (take (i + r .bytes) (now (text .entry)))) ⌝ }
-    ensures { λ r. ⌜ ((l : Line) → hand ≡ read l (take i (now (text .entry)))
-        → found l (take i (now (text .entry))) ++ take (r .lines) (r .event ∷ [])
-        ≡ found l (take (i + r .bytes) (now (text .entry)))) ⌝ }
+    ensures { λ r. ⌜ Takes hand (now (text .entry)) i (r .bytes) (r .line) (r .lines) (r .event) ⌝ }
 {
     let byte = text[i];
     let event = hand.event();
@@ -50,12 +44,7 @@ fn byte_taken(hand: Line, text: &[u8], i: usize) -> Taken
 // Four bytes that are a line of a level, else one byte.
 fn four_taken(hand: Line, text: &[u8], i: usize) -> Taken
     requires { ⌜ (i + 4 ≤ length (now text)) × ((eqb (hand .place) 0 && ltb (hand .whole) 1000000) ≡ true) ⌝ }
-    ensures { λ r. ⌜ (1 ≤ r .bytes) × (i + r .bytes ≤ length (now (text .entry))) × (r .lines ≤ 1) ⌝ }
-    ensures { λ r. ⌜ ((l : Line) → hand ≡ read l (take i (now (text .entry)))
-        → r .line ≡ read l (take (i + r .bytes) (now (text .entry)))) ⌝ }
-    ensures { λ r. ⌜ ((l : Line) → hand ≡ read l (take i (now (text .entry)))
-        → found l (take i (now (text .entry))) ++ take (r .lines) (r .event ∷ [])
-        ≡ found l (take (i + r .bytes) (now (text .entry)))) ⌝ }
+    ensures { λ r. ⌜ Takes hand (now (text .entry)) i (r .bytes) (r .line) (r .lines) (r .event) ⌝ }
 {
     let level = text[i + 2];
     let kind = level_kind(text[i], text[i + 1], level, text[i + 3]);
@@ -75,12 +64,7 @@ fn four_taken(hand: Line, text: &[u8], i: usize) -> Taken
 // What is taken at an index.
 fn taken_at(hand: Line, text: &[u8], i: usize) -> Taken
     requires { ⌜ i < length (now text) ⌝ }
-    ensures { λ r. ⌜ (1 ≤ r .bytes) × (i + r .bytes ≤ length (now (text .entry))) × (r .lines ≤ 1) ⌝ }
-    ensures { λ r. ⌜ ((l : Line) → hand ≡ read l (take i (now (text .entry)))
-        → r .line ≡ read l (take (i + r .bytes) (now (text .entry)))) ⌝ }
-    ensures { λ r. ⌜ ((l : Line) → hand ≡ read l (take i (now (text .entry)))
-        → found l (take i (now (text .entry))) ++ take (r .lines) (r .event ∷ [])
-        ≡ found l (take (i + r .bytes) (now (text .entry)))) ⌝ }
+    ensures { λ r. ⌜ Takes hand (now (text .entry)) i (r .bytes) (r .line) (r .lines) (r .event) ⌝ }
 {
     if 4 <= text.len() - i {
         if hand.is_fresh() {

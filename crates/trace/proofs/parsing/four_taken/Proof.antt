@@ -54,11 +54,11 @@ returns-2 c =
     let other = c .before .before .if1 .left in
     let is : isLevelLine (getD x (a .i) 0) (getD x (a .i + 1) 0) (getD x (a .i + 2) 0) (getD x (a .i + 3) 0) ≡ true =
     kind-known (getD x (a .i) 0) (getD x (a .i + 1) 0) (getD x (a .i + 2) 0) (getD x (a .i + 3) 0) (λ e. other (known ∙ e)) in (
-      (omega arith, omega arith, omega arith),
-      (
-        λ l p. c .before .past-line .ensures ∙ whole-read l x (a .i) (a .hand) (pre .0) p (pre .1) is,
-        λ l p. rw (c .level-event .ensures, known, kind-given (getD x (a .i) 0) (getD x (a .i + 1) 0) (getD x (a .i + 2) 0) (getD x (a .i + 3) 0) is) (whole-found l x (a .i) (a .hand) (pre .0) p (pre .1) is),
-      ),
+      omega arith,
+      omega arith,
+      omega arith,
+      λ l p. c .before .past-line .ensures ∙ whole-read l x (a .i) (a .hand) (pre .0) p (pre .1) is,
+      λ l p. rw (c .level-event .ensures, known, kind-given (getD x (a .i) 0) (getD x (a .i + 1) 0) (getD x (a .i + 2) 0) (getD x (a .i + 3) 0) is) (whole-found l x (a .i) (a .hand) (pre .0) p (pre .1) is),
     )
 
 pub four-taken-spec : {M : Type 1} → statement M

@@ -32,13 +32,13 @@ slice-write-events : tie.Need-slice-write-events Inv-loop μ-loop
 slice-write-events c = omega arith
 
 add-count : tie.Need-add-count Inv-loop μ-loop
-add-count c = omega (arith, c .before .taken-at .ensures .0 .2)
+add-count c = omega (arith, c .before .taken-at .ensures .2)
 
 add-i : tie.Need-add-i Inv-loop μ-loop
-add-i c = omega (arith, c .before .before .before .taken-at .ensures .0 .1)
+add-i c = omega (arith, c .before .before .before .taken-at .ensures .1)
 
 loop-less : tie.Need-loop-less Inv-loop μ-loop
-loop-less c = omega (arith, c .before .before .before .taken-at .ensures .0 .0, c .before .before .before .taken-at .ensures .0 .1)
+loop-less c = omega (arith, c .before .before .before .taken-at .ensures .0, c .before .before .before .taken-at .ensures .1)
 
 loop-again : tie.Need-loop-again Inv-loop μ-loop
 loop-again c =
@@ -47,14 +47,14 @@ loop-again c =
     let x = a .text .now in
     let t = c .before .before .before .taken-at in
     let F = found (a .line) (take (l .i) x) in
-    let one = t .ensures .0 .2 in
-    let more : F ++ take (t .result .lines) (t .result .event ∷ []) ≡ found (a .line) (take (l .i + t .result .bytes) x) = t .ensures .1 .1 (a .line) (l .inv .3) in
+    let one = t .ensures .2 in
+    let more : F ++ take (t .result .lines) (t .result .event ∷ []) ≡ found (a .line) (take (l .i + t .result .bytes) x) = t .ensures .4 (a .line) (l .inv .3) in
     let long : length (found (a .line) (take (l .i + t .result .bytes) x)) ≡ length F + t .result .lines =
     sym (ap length more) ∙ length-append F _ ∙ ap (λ (n : ℕ). length F + n) (taken-length (t .result .event) (t .result .lines) one) in (
-      t .ensures .0 .1,
-      omega (arith, t .ensures .0 .0, one),
+      t .ensures .1,
+      omega (arith, t .ensures .0, one),
       simp length-set (omega arith),
-      t .ensures .1 .0 (a .line) (l .inv .3),
+      t .ensures .3 (a .line) (l .inv .3),
       taken-set (l .events) (l .count) (t .result .event) (t .result .lines) one (omega arith)
           ∙ ap (λ (es : List ℕ). es ++ take (t .result .lines) (t .result .event ∷ [])) (l .inv .4) ∙ more,
       omega (arith, long, l .inv .5),
