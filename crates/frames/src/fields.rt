@@ -6,9 +6,9 @@ ghost use Rattle.codes.specs.Part.{m95512};
 ghost use Rattle.frames.specs.Bytes.{instruction, address, written};
 use codes::HEAD;
 use codes::Instruction;
-use codes::PAGE;
 use latch::Latch;
 use latch::ROOM;
+use latch::cell_of;
 use latch::latch_byte;
 use latch::next_cell;
 
@@ -46,7 +46,7 @@ pub(crate) fn latch_of(bytes: &[u8]) -> Latch
 {
     let mut cells = [0u8; ROOM];
     let mut marks = [0u8; ROOM];
-    let mut cell = address_of(bytes) % PAGE;
+    let mut cell = cell_of(address_of(bytes));
     let mut i = HEAD;
     while i < bytes.len() {
         latch_byte(&mut cells, &mut marks, cell, bytes[i]);

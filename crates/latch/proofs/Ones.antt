@@ -9,6 +9,8 @@ use Rattle.latch.proofs.Latch.fits.Kinds as latch-fits
 use Rattle.latch.proofs.Latch.fits.Reads as latch-fits-reads
 use Rattle.latch.proofs.Latch.store.Kinds as latch-store
 use Rattle.latch.proofs.Latch.store.Reads as latch-store-reads
+use Rattle.latch.proofs.pages.cell_of.Kinds as cell-of
+use Rattle.latch.proofs.pages.cell_of.Reads as cell-of-reads
 use Rattle.latch.proofs.pages.latch_byte.Kinds as latch-byte
 use Rattle.latch.proofs.pages.latch_byte.Reads as latch-byte-reads
 use Rattle.latch.proofs.pages.next_cell.Kinds as next-cell
@@ -25,6 +27,9 @@ latch-fits-one κs a z z′ e e′ p q = same p q
 
 pub latch-store-memory : OneExit latch-store.ps latch-store.r latch-store-reads.Post (λ κs e. now (e .1 .1 .0))
 latch-store-memory κs a z z′ e e′ p q = same p q
+
+pub cell-of-one : OneResult cell-of.ps cell-of.r cell-of-reads.Post
+cell-of-one κs a z z′ e e′ p q = same p q
 
 pub latch-byte-bytes : OneExit latch-byte.ps latch-byte.r latch-byte-reads.Post (λ κs e. now (e .0))
 latch-byte-bytes κs a z z′ e e′ p q = same (p .0) (q .0)

@@ -4,6 +4,7 @@
 // Every public function is an inner call of the models: total, and exactly its definition.
 mod pages;
 
+pub use pages::cell_of;
 pub use pages::latch_byte;
 pub use pages::next_cell;
 

@@ -59,13 +59,20 @@ impl Latch {
     }
 }
 
+// The cell of its page that an address is in. A page is a power of two, so a mask finds it.
+pub fn cell_of(address: usize) -> usize
+    ensures { λ r. ⌜ r ≡ address % m95512 .page ⌝ }
+{
+    address & (PAGE - 1)
+}
+
 // One more byte latched where it stands, for the cell of its page that an address is in; the latest byte for a cell
 // wins.
 pub fn latch_byte(bytes: &mut [u8; ROOM], marks: &mut [u8; ROOM], address: usize, byte: u8)
     ensures { λ _. ⌜ now (bytes .exit) ≡ set (now (bytes .entry)) (address % m95512 .page) byte ⌝ }
     ensures { λ _. ⌜ now (marks .exit) ≡ set (now (marks .entry)) (address % m95512 .page) 1 ⌝ }
 {
-    let cell = address % PAGE;
+    let cell = cell_of(address);
     bytes[cell] = byte;
     marks[cell] = 1;
 }
@@ -74,7 +81,7 @@ pub fn latch_byte(bytes: &mut [u8; ROOM], marks: &mut [u8; ROOM], address: usize
 pub fn next_cell(address: usize) -> usize
     ensures { λ r. ⌜ r ≡ nextCell m95512 address ⌝ }
 {
-    (address % PAGE + 1) % PAGE
+    cell_of(cell_of(address) + 1)
 }
 
 // No mark and the byte 0, or a mark where there may be marks.

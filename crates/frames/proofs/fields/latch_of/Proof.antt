@@ -23,9 +23,12 @@ abbrev μ-loop : tie.MeasureT-loop
 address-of-requires : tie.Need-address-of-requires Inv-loop μ-loop
 address-of-requires c κs = search needs
 
+cell-of-requires : tie.Need-cell-of-requires Inv-loop μ-loop
+cell-of-requires c κs = search needs
+
 loop-holds : tie.Need-loop-holds Inv-loop μ-loop
 unfolding zeros latchedFrom
-loop-holds c = (omega arith, omega arith, rw (c .address-of .ensures) (omega arith), refl)
+loop-holds c = (omega arith, omega arith, rw (c .cell-of .ensures, c .before .address-of .ensures) (omega arith), refl)
 
 shared-slice-read-latch-byte : tie.Need-shared-slice-read-latch-byte Inv-loop μ-loop
 shared-slice-read-latch-byte c = search needs
@@ -45,7 +48,7 @@ loop-less c = omega arith
 loop-again : tie.Need-loop-again Inv-loop μ-loop
 loop-again c =
     let l = c .before .before .before .before .before .before .loop in
-    let s = c .before .before .before .before .before .before .before .before .before .args .bytes .now in
+    let s = c .before .before .before .before .before .before .before .before .before .before .args .bytes .now in
     let a = address m95512 s % 128 in
     let k = l .i - 3 in
     let more : l .i + 1 - 3 ≡ suc k = omega arith in
@@ -62,7 +65,7 @@ loop-again c =
 returns : tie.Need-returns Inv-loop μ-loop
 returns c =
     let l = c .before .loop in
-    let s = c .before .before .before .before .args .bytes .now in
+    let s = c .before .before .before .before .before .args .bytes .now in
     let all : length (payload m95512 s) ≤ l .i - 3 = simp length-drop (omega arith) in
     l .inv .3 ∙ ap (λ (vs : List ℕ). latchedFrom m95512 (address m95512 s % 128) vs (noLatch m95512)) (take-all (l .i - 3) (payload m95512 s) all)
 
@@ -73,6 +76,7 @@ latch-of-spec =
     Inv-loop
     μ-loop
     address-of-requires
+    cell-of-requires
     loop-holds
     shared-slice-read-latch-byte
     latch-byte-requires
