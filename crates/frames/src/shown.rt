@@ -33,7 +33,7 @@ pub(crate) fn undriven(i: Instruction, ran: bool, bits: usize) -> usize
     }
 }
 
-fn at_most(most: usize, n: usize) -> usize
+pub(crate) fn at_most(most: usize, n: usize) -> usize
     ensures { λ r. ⌜ r ≡ min most n ⌝ }
 {
     if most < n { most } else { n }
@@ -49,7 +49,7 @@ fn read_undriven(ran: bool, bits: usize) -> usize
 }
 
 // Every byte of the slice the same.
-fn fill(out: &mut [u8], byte: u8)
+pub(crate) fn fill(out: &mut [u8], byte: u8)
     ensures { λ _. ⌜ now (out .exit) ≡ replicate (length (now (out .entry))) byte ⌝ }
 {
     let mut i: usize = 0;
