@@ -833,7 +833,7 @@ static int is_event(uint64_t event)
     return kind == 5 || value <= 1;
 }
 
-static uint32_t play_refusal(const cartvesper_device *device, size_t size, const uint64_t *events, size_t count, size_t room)
+uint32_t plain_play_refusal(const cartvesper_device *device, size_t size, const uint64_t *events, size_t count, size_t room)
 {
     if (size != MEMORY)
         return 1;
@@ -848,7 +848,7 @@ static uint32_t play_refusal(const cartvesper_device *device, size_t size, const
 cartvesper_device_answer plain_device_play_call(cartvesper_device device, uint8_t *memory, size_t size, const uint64_t *events, size_t count,
                                                 uint8_t *out, size_t room)
 {
-    cartvesper_device_answer answer = {play_refusal(&device, size, events, count, room), device};
+    cartvesper_device_answer answer = {plain_play_refusal(&device, size, events, count, room), device};
     if (answer.number == 0)
         plain_play(&answer.device, memory, events, count, out);
     return answer;

@@ -32,6 +32,8 @@ int plain_q(const cartvesper_device *device); /* 0, 1, or 2 for Z */
 /* one event, or a list of them, as cartvesper_device_play writes them; out gets Q after each */
 void plain_event(cartvesper_device *device, uint8_t *memory, uint64_t event);
 void plain_play(cartvesper_device *device, uint8_t *memory, const uint64_t *events, size_t count, uint8_t *out);
+/* what a list is refused by before anything is played: 1, 2, 5, or 0 */
+uint32_t plain_play_refusal(const cartvesper_device *device, size_t size, const uint64_t *events, size_t count, size_t room);
 
 /* ---- the driver and the split */
 

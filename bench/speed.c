@@ -1,12 +1,20 @@
-/* speed [call]: the library of cartvesper.h against the plain model. Both run alternately, at least 0.3 s each; printed are ns per operation of
- * each and the ratio plain/library (1.00 = as fast as plain C). The plain model runs in place and without checks; with `call` it runs through its
- * plain_*_call functions instead, which check the record and hand it over by value as the library does. */
+/* speed [call]: the library of cartvesper.h against the plain model. The sides run alternately, at least 0.3 s each.
+ * Printed are ns per operation of each, and two ratios (1.00 = as fast as C): to plain C in place, which tests nothing,
+ * and to the same C that first tests its input as the library does (the record's ranges, a list's numbers). With `call`
+ * the plain model runs through its plain_*_call functions instead of the first, which also hand the record over by
+ * value. The compiler of the C is named. */
 #define _POSIX_C_SOURCE 199309L
 #include "plain.h"
 #include <stdio.h>
 #include <stdlib.h>
 #include <string.h>
 #include <time.h>
+
+#ifdef __clang__
+#define COMPILER "clang"
+#else
+#define COMPILER "gcc"
+#endif
 
 enum { WREN = CARTVESPER_WREN, RDSR = CARTVESPER_RDSR, READ = CARTVESPER_READ, WRITE = CARTVESPER_WRITE };
 enum { MEMORY = CARTVESPER_MEMORY, PAGE = CARTVESPER_PAGE, LONGEST = CARTVESPER_LONGEST_FRAME };
@@ -66,6 +74,20 @@ static void plain_frames(size_t n)
 {
     while (n-- > 0)
         plain_frame(&plain.core, plain.memory, 1, frame_bytes, frame_length, 8 * frame_length, plain.out);
+}
+
+static void test_core(void)
+{
+    if (!plain_core_ok(&plain.core))
+        refused();
+}
+
+static void tested_frames(size_t n)
+{
+    while (n-- > 0) {
+        test_core();
+        plain_frame(&plain.core, plain.memory, 1, frame_bytes, frame_length, 8 * frame_length, plain.out);
+    }
 }
 
 static void call_frames(size_t n)
@@ -136,6 +158,19 @@ static void plain_writes(size_t n)
         next_address(n);
         plain_frame(&plain.core, plain.memory, 1, wren_byte, 1, 8, plain.out);
         plain_frame(&plain.core, plain.memory, 1, frame_bytes, frame_length, 8 * frame_length, plain.out);
+        plain_time(&plain.core, plain.memory, plain.core.last + CYCLE);
+    }
+}
+
+static void tested_writes(size_t n)
+{
+    while (n-- > 0) {
+        next_address(n);
+        test_core();
+        plain_frame(&plain.core, plain.memory, 1, wren_byte, 1, 8, plain.out);
+        test_core();
+        plain_frame(&plain.core, plain.memory, 1, frame_bytes, frame_length, 8 * frame_length, plain.out);
+        test_core();
         plain_time(&plain.core, plain.memory, plain.core.last + CYCLE);
     }
 }
@@ -246,6 +281,16 @@ static void plain_events(size_t n)
             plain_event(&plain.device, plain.memory, events[i]);
 }
 
+static void tested_events(size_t n)
+{
+    while (n-- > 0)
+        for (size_t i = 0; i < event_count; i++) {
+            if (!plain_device_ok(&plain.device))
+                refused();
+            plain_event(&plain.device, plain.memory, events[i]);
+        }
+}
+
 static cartvesper_device_answer call_event(uint64_t event)
 {
     uint8_t level = event & 1;
@@ -290,6 +335,15 @@ static void plain_plays(size_t n)
 {
     while (n-- > 0)
         plain_play(&plain.device, plain.memory, events, event_count, plain.out);
+}
+
+static void tested_plays(size_t n)
+{
+    while (n-- > 0) {
+        if (plain_play_refusal(&plain.device, MEMORY, events, event_count, event_count))
+            refused();
+        plain_play(&plain.device, plain.memory, events, event_count, plain.out);
+    }
 }
 
 static void call_plays(size_t n)
@@ -338,6 +392,15 @@ static void plain_runs(size_t n)
             refused();
 }
 
+/* the driver tests its record once; its frames are its own */
+static void tested_runs(size_t n)
+{
+    while (n-- > 0) {
+        test_core();
+        plain_runs(1);
+    }
+}
+
 static void call_runs(size_t n)
 {
     while (n-- > 0) {
@@ -353,23 +416,23 @@ static void call_runs(size_t n)
 typedef struct {
     const char *name;
     void (*set_up)(void);
-    void (*lib)(size_t), (*plain)(size_t), (*call)(size_t);
+    void (*lib)(size_t), (*plain)(size_t), (*call)(size_t), (*tested)(size_t);
     size_t before; /* runs that are not timed: every page once, so that both memories end the same */
     int is_stream; /* an operation is one event */
 } speed_case;
 
 static const speed_case cases[] = {
-    {"frame RDSR, 2 bytes", set_up_rdsr, lib_frames, plain_frames, call_frames, 512, 0},
-    {"frame READ, 259 bytes", set_up_read, lib_frames, plain_frames, call_frames, 512, 0},
-    {"frame READ, 65,539 bytes", set_up_long_read, lib_frames, plain_frames, call_frames, 512, 0},
-    {"WREN, WRITE of 128 bytes, cycle's end", set_up_write, lib_writes, plain_writes, call_writes, 512, 0},
-    {"pin event, READ frames, one by one", set_up_read_stream, lib_events, plain_events, call_events, 512, 1},
-    {"pin event, WRITE frames, one by one", set_up_write_stream, lib_events, plain_events, call_events, 512, 1},
-    {"pin event, READ frames, as a list", set_up_read_stream, lib_play, plain_plays, call_plays, 512, 1},
-    {"pin event, WRITE frames, as a list", set_up_write_stream, lib_play, plain_plays, call_plays, 512, 1},
-    {"pin event, RDSR polls, as a list", set_up_poll_stream, lib_play, plain_plays, call_plays, 512, 1},
-    {"driver, 65,536 bytes, interval 1,000", set_up_run, lib_runs, plain_runs, call_runs, 1, 0},
-    {"driver, 65,536 bytes, interval 1", set_up_fine_run, lib_runs, plain_runs, call_runs, 1, 0},
+    {"frame RDSR, 2 bytes", set_up_rdsr, lib_frames, plain_frames, call_frames, tested_frames, 512, 0},
+    {"frame READ, 259 bytes", set_up_read, lib_frames, plain_frames, call_frames, tested_frames, 512, 0},
+    {"frame READ, 65,539 bytes", set_up_long_read, lib_frames, plain_frames, call_frames, tested_frames, 512, 0},
+    {"WREN, WRITE of 128 bytes, cycle's end", set_up_write, lib_writes, plain_writes, call_writes, tested_writes, 512, 0},
+    {"pin event, READ frames, one by one", set_up_read_stream, lib_events, plain_events, call_events, tested_events, 512, 1},
+    {"pin event, WRITE frames, one by one", set_up_write_stream, lib_events, plain_events, call_events, tested_events, 512, 1},
+    {"pin event, READ frames, as a list", set_up_read_stream, lib_play, plain_plays, call_plays, tested_plays, 512, 1},
+    {"pin event, WRITE frames, as a list", set_up_write_stream, lib_play, plain_plays, call_plays, tested_plays, 512, 1},
+    {"pin event, RDSR polls, as a list", set_up_poll_stream, lib_play, plain_plays, call_plays, tested_plays, 512, 1},
+    {"driver, 65,536 bytes, interval 1,000", set_up_run, lib_runs, plain_runs, call_runs, tested_runs, 1, 0},
+    {"driver, 65,536 bytes, interval 1", set_up_fine_run, lib_runs, plain_runs, call_runs, tested_runs, 1, 0},
 };
 
 static double timed(void (*run)(size_t), size_t n)
@@ -396,33 +459,46 @@ static void check_same(const char *name)
     }
 }
 
+/* one side's time so far, and its runs */
+typedef struct {
+    void (*run)(size_t);
+    size_t n;
+    double time, runs;
+} clocked;
+
+static void go(clocked *one)
+{
+    one->time += timed(one->run, one->n);
+    one->runs += (double)one->n;
+}
+
 static void run_case(const speed_case *one, int through_call)
 {
-    void (*base)(size_t) = through_call ? one->call : one->plain;
-    double lib_time = 0, base_time = 0, lib_runs = 0, base_runs = 0;
+    clocked sides[3] = {{one->lib, 0, 0, 0}, {through_call ? one->call : one->plain, 0, 0, 0}, {one->tested, 0, 0, 0}};
+    double ns[3], each;
     reset_side(&lib);
     reset_side(&plain);
     one->set_up();
     one->lib(one->before);
-    base(one->before);
-    size_t lib_n = calibrate(one->lib), base_n = calibrate(base);
-    while (lib_time < 3e8 || base_time < 3e8) {
-        lib_time += timed(one->lib, lib_n);
-        base_time += timed(base, base_n);
-        lib_runs += (double)lib_n;
-        base_runs += (double)base_n;
-    }
+    sides[1].run(one->before);
+    for (int k = 0; k < 3; k++)
+        sides[k].n = calibrate(sides[k].run);
+    while (sides[0].time < 3e8 || sides[1].time < 3e8 || sides[2].time < 3e8)
+        for (int k = 0; k < 3; k++)
+            go(&sides[k]);
     check_same(one->name);
-    double each = one->is_stream ? (double)event_count : 1;
-    double lib_ns = lib_time / lib_runs / each, base_ns = base_time / base_runs / each;
-    printf("%-40s %14.2f %14.2f %8.2f\n", one->name, lib_ns, base_ns, base_ns / lib_ns);
+    each = one->is_stream ? (double)event_count : 1;
+    for (int k = 0; k < 3; k++)
+        ns[k] = sides[k].time / sides[k].runs / each;
+    printf("%-40s %14.2f %14.2f %8.2f %14.2f %8.2f\n", one->name, ns[0], ns[1], ns[1] / ns[0], ns[2], ns[2] / ns[0]);
     fflush(stdout);
 }
 
 int main(int argc, char **argv)
 {
     int through_call = argc > 1 && strcmp(argv[1], "call") == 0;
-    printf("%-40s %14s %14s %8s\n", "", "library ns", through_call ? "call ns" : "plain ns", "ratio");
+    printf("C compiler: %s %s\n", COMPILER, __VERSION__);
+    printf("%-40s %14s %14s %8s %14s %8s\n", "", "library ns", through_call ? "call ns" : "plain ns", "ratio", "tested ns", "ratio");
     for (size_t i = 0; i < sizeof cases / sizeof *cases; i++)
         run_case(&cases[i], through_call);
     return 0;
