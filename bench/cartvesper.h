@@ -9,8 +9,8 @@
  *
  * Each answer's `number` is CARTVESPER_DONE or a refusal, 1 to 8. Where several apply the lowest is given. Everything
  * lent and every record then comes back byte for byte as it was, and every count and every `value` is 0. (6 comes from
- * power-up alone, which takes no record: it gives the delivered one.) 9 and 10 are no refusals: they say how a run of
- * the driver ended before its last page.
+ * power-up alone, which takes no record: it gives the delivered one.) 9 and 13 are of the driver alone, and come after
+ * frames were sent: they say how a run ended before its last page.
  */
 #ifndef CARTVESPER_H
 #define CARTVESPER_H
@@ -36,7 +36,7 @@ enum {
     CARTVESPER_ADDRESS_RANGE = 7, /* address + length above 65,536, address above FFFFh, or no part k */
     CARTVESPER_POLL_RANGE = 8,    /* poll interval or poll limit outside its range */
     CARTVESPER_TIMED_OUT = 9,     /* a wait used its limit and WIP is still 1 */
-    CARTVESPER_NOT_TAKEN = 10     /* a page was not taken */
+    CARTVESPER_PROTECTED = 13     /* the data touches the protected block */
 };
 
 /* The part's sizes: cells of the memory and of a page, bytes of the longest frame, microseconds of the longest cycle,
@@ -185,7 +185,9 @@ cartvesper_frame_answer cartvesper_frame(cartvesper_core core, const uint8_t *me
 cartvesper_value cartvesper_core_in_ranges(cartvesper_core core);
 /* the status byte */
 cartvesper_value cartvesper_core_status(cartvesper_core core);
-/* value 1 where the address is protected; 7 for an address above FFFFh */
+/* the lowest protected address, 65,536 for none. For a device of the pin model, ask of its `core` */
+cartvesper_value cartvesper_core_lowest_protected(cartvesper_core core);
+/* value 1 where the address is protected, which it is from that one on; 7 for an address above FFFFh */
 cartvesper_value cartvesper_core_protected(cartvesper_core core, uint32_t address);
 
 /* ---- the pin model */
@@ -219,18 +221,19 @@ cartvesper_device_answer cartvesper_device_play(cartvesper_device device, uint8_
 
 /* ---- the driver, over the frame model */
 
-/* Writes `length` bytes from an address on, as page writes: polls with RDSR until no cycle runs, then for each page
- * part sends WREN and WRITE and polls until its cycle has ended. A poll but the first moves the clock by `interval`
- * microseconds, 1 to 5,000; each wait makes at most `limit` polls, 1 to 5,001. Refusals 1, 2, 7, 8 in that order, also
- * with no data; pages and frames are 0 there. The address is any 64-bit number: no sum wraps, and 65,536 is taken with
- * no data. Else the number is
+/* Writes `length` bytes from an address on, as page writes: polls with RDSR until no cycle runs, reads BP1 and BP0 in
+ * the status byte that ended this wait, then for each page part sends WREN and WRITE and polls until its cycle has
+ * ended. A poll but the first moves the clock by `interval` microseconds, 1 to 5,000; each wait makes at most `limit`
+ * polls, 1 to 5,001. Refusals 1, 2, 7, 8 in that order, also with no data; pages and frames are 0 there. The address is
+ * any 64-bit number: no sum wraps, and 65,536 is taken with no data. Else the number is
  *   0 all pages done: the bytes are in the memory (no data: done at once, 0 frames, the clock not moved)
  *   9 a wait used its limit and WIP is still 1: the record and the memory are those after the last poll. The cycle goes
  *     on with the next clock reading; what it is to store (the page in hand, or, in the first wait, what waited before)
  *     still waits in the record and is not counted. pages is 0: all pages take the same polls, so only the first wait or
  *     the first page's can run out
- *  10 a page was not taken, because it is protected: the pages before it are stored, nothing of it is; WRDI was sent
- *     and counted, so WEL is 0 */
+ *  13 the data touches the protected block of that status byte, as address + length is above the lowest protected
+ *     address: nothing but the first wait's polls was sent. frames counts them, pages is 0. The record is that after the
+ *     last of them, WEL as it is there, and no cell has changed but by a cycle that was already running */
 cartvesper_driver_answer cartvesper_write(cartvesper_core core, uint8_t *memory, size_t size, uint64_t address,
                                           const uint8_t *bytes, size_t length, uint32_t interval, uint32_t limit);
 

@@ -65,8 +65,8 @@ static uint8_t frame_bytes[LONGEST + 3];
 
 static struct {
     uint64_t calls, frames, executed, events, readings, lists, listed, spoiled, cycles, cells, driven, drawn, unreached, damaged, damaged_calls, swept;
-    uint64_t runs, pages, sent, parts; /* of the driver and the split */
-    uint64_t numbers[11];              /* answers by their number */
+    uint64_t runs, moved, pages, sent, parts; /* of the driver and the split */
+    uint64_t numbers[14];                     /* answers by their number */
 } counts;
 
 static uint64_t seed, current_round;
@@ -242,7 +242,7 @@ static void compare_devices(const char *what, const cartvesper_device *lib, cons
 
 static void count_refusal(uint32_t number)
 {
-    if (number < 11)
+    if (number < 14)
         counts.numbers[number]++;
 }
 
@@ -390,6 +390,8 @@ static void try_core_queries(const cartvesper_core *core, uint32_t address)
     compare_values(cartvesper_core_in_ranges(*core), plain_core_in_ranges_call(*core));
     begin_call(core, NULL, "core_status");
     compare_values(cartvesper_core_status(*core), plain_core_status_call(*core));
+    begin_call(core, NULL, "core_lowest_protected");
+    compare_values(cartvesper_core_lowest_protected(*core), plain_core_lowest_protected_call(*core));
     begin_call(core, NULL, "core_protected %" PRIX32, address);
     compare_values(cartvesper_core_protected(*core, address), plain_core_protected_call(*core, address));
 }
@@ -492,7 +494,7 @@ static uint32_t try_play(cartvesper_device *device, const uint64_t *events, size
     return lib.number;
 }
 
-/* the driver: 9 and 10 leave the state that they ended in, a refusal the one given */
+/* the driver: 9 and 13 leave the state that they ended in, a refusal the one given */
 static uint8_t run_bytes[MEMORY + 2], run_bytes_kept[MEMORY + 2];
 
 static uint32_t try_write(cartvesper_core *core, size_t size, uint64_t address, size_t length, uint32_t interval, uint32_t limit)
@@ -514,8 +516,10 @@ static uint32_t try_write(cartvesper_core *core, size_t size, uint64_t address, 
     compare_bytes("the run's own bytes", run_bytes, run_bytes_kept, length, 0);
     compare_memory();
     check_core(lib.number < 9 ? lib.number : 0, &given, &lib.core);
-    counts.numbers[lib.number % 11] += lib.number >= 9;
+    if (lib.number >= 9)
+        count_refusal(lib.number);
     counts.runs++;
+    counts.moved += given.waits.kind == 1 && given.left > 0 && lib.core.left == 0;
     counts.pages += lib.pages;
     counts.sent += lib.frames;
     *core = lib.core;
@@ -724,7 +728,7 @@ static size_t random_run(void)
     }
 }
 
-/* just inside the memory, one past it, across the edges of the protected areas; sums that 32 or 64 bits would lose */
+/* just inside the memory, one past it; ends at an edge of the protected areas, one past it, across it; sums that 32 or 64 bits would lose */
 static uint64_t random_run_address(size_t length)
 {
     const uint64_t far[] = {MEMORY + 1, 0x100000000, 0xFFFFFFFF, 0x100000000 - length, 0 - (uint64_t)length, UINT64_MAX, 1ULL << 63, next64()};
@@ -742,6 +746,7 @@ static uint64_t random_run_address(size_t length)
         return 0;
     case 6:
     case 7:
+        return length < 0x8000 ? 0x8000 + 0x4000 * below(2) - length + below(2) : 0;
     case 8:
     case 9:
         return 0x8000 + 0x4000 * below(2) - below(450);
@@ -1199,6 +1204,16 @@ static void step_unreached_core(void)
 }
 
 /* from a device as the last run left it, in a cycle too, or from a record that no calls reach */
+/* a status cycle that gives BP1 and BP0 a value runs when the driver comes */
+static void begin_status_cycle(cartvesper_core *core)
+{
+    frame_bytes[0] = WREN;
+    try_frame(core, MEMORY, 1, 1, 8, 1);
+    frame_bytes[0] = WRSR;
+    frame_bytes[1] = (uint8_t)(below(4) << 2);
+    try_frame(core, MEMORY, 1, 2, 16, 2);
+}
+
 static void driver_session(int runs)
 {
     cartvesper_core core;
@@ -1211,6 +1226,8 @@ static void driver_session(int runs)
             frame_step(&core);
         if (percent(10))
             try_reading(&core, random_reading(&core), MEMORY);
+        if (percent(15))
+            begin_status_cycle(&core);
         random_write(&core, 2);
     }
 }
@@ -1630,17 +1647,51 @@ static void cases_d_e(void)
     case_expect("case e: idle (second: wanted)", cartvesper_core_status(core).value, 0x8C);
 }
 
-/* case h, case l, and what the ends of the ranges do */
+/* case h, case l, what the ends of the ranges do, and the protected block */
+static void case_run(cartvesper_core *core, const char *what, uint64_t address, size_t length, uint32_t interval, uint32_t limit, uint32_t number,
+                     uint32_t pages, uint32_t frames)
+{
+    memset(run_bytes, 0x5A, length);
+    uint64_t pages_before = counts.pages, frames_before = counts.sent;
+    case_expect(what, try_write(core, MEMORY, address, length, interval, limit), number);
+    case_expect(what, (uint32_t)(counts.pages - pages_before), pages);
+    case_expect(what, (uint32_t)(counts.sent - frames_before), frames);
+}
+
 static void case_write(const char *what, uint64_t address, size_t length, uint32_t interval, uint32_t limit, uint32_t number, uint32_t pages,
                        uint32_t frames)
 {
     cartvesper_core core;
     case_start(&core, 1);
-    memset(run_bytes, 0x5A, length);
-    uint64_t pages_before = counts.pages, frames_before = counts.sent;
-    case_expect(what, try_write(&core, MEMORY, address, length, interval, limit), number);
-    case_expect(what, (uint32_t)(counts.pages - pages_before), pages);
-    case_expect(what, (uint32_t)(counts.sent - frames_before), frames);
+    case_run(&core, what, address, length, interval, limit, number, pages, frames);
+}
+
+/* one byte at C000h after a WRSR, whose cycle of 5,000 the first wait meets; gives the status byte that the run leaves */
+static void case_moved(const char *what, int bits, const char *wrsr, uint32_t limit, uint32_t number, uint32_t pages, uint32_t frames, uint32_t status)
+{
+    cartvesper_core core;
+    case_start(&core, bits);
+    case_frame(&core, wrsr, 0);
+    case_run(&core, what, 0xC000, 1, 5000, limit, number, pages, frames);
+    case_expect(what, cartvesper_core_status(core).value, status);
+}
+
+static void cases_protected(void)
+{
+    cartvesper_core core;
+    case_write("ends one cell below the block (second: wanted)", 0xBFFE, 2, 5000, 1, 0, 1, 1 + 3);
+    case_write("ends in its first cell (second: wanted)", 0xBFFE, 3, 5000, 1, 13, 0, 1);
+    case_write("crosses into it (second: wanted)", 0xBF00, 400, 5000, 1, 13, 0, 1);
+    case_write("lies in it (second: wanted)", 0xFFFF, 1, 5000, 1, 13, 0, 1);
+    case_write("the whole memory (second: wanted)", 0, MEMORY, 1000, 5, 13, 0, 1);
+    case_write("no data at a protected address (second: wanted)", 0xC000, 0, 5000, 1, 0, 0, 0);
+    case_start(&core, 3);
+    case_run(&core, "BP 11 (second: wanted)", 0, 1, 5000, 1, 13, 0, 1);
+    case_expect("WEL stays (second: wanted)", cartvesper_core_status(core).value, 0x0E);
+    case_moved("BP 00 to 01 (second: wanted)", 0, "01 04", 2, 13, 0, 2, 0x04);
+    case_moved("BP 01 to 00 (second: wanted)", 1, "01 00", 2, 0, 1, 2 + 3, 0x00);
+    case_moved("BP 00 to 01, limit 1 (second: wanted)", 0, "01 04", 1, 9, 0, 1, 0x03);
+    case_moved("BP 01 to 00, limit 1 (second: wanted)", 1, "01 00", 1, 9, 0, 1, 0x07);
 }
 
 static void cases_h_l(void)
@@ -1659,8 +1710,6 @@ static void cases_h_l(void)
     case_write("one byte at 65,536 (second: wanted)", MEMORY, 1, 1, 1, 7, 0, 0);
     case_write("a sum of 0 in 64 bits (second: wanted)", UINT64_MAX, 1, 1, 1, 7, 0, 0);
     case_write("a sum of 0 in 32 bits (second: wanted)", 0xFFFFFFFF, 1, 1, 1, 7, 0, 0);
-    case_write("into the protected quarter (second: wanted)", 0xBFFF, 2, 5000, 1, 10, 1, 1 + 3 + 4);
-    case_write("the whole memory (second: wanted)", 0, MEMORY, 1000, 5, 10, 384, 1 + 384 * 7 + 4);
 }
 
 /* ---- */
@@ -1698,11 +1747,13 @@ static void print_summary(uint64_t rounds)
     printf("frames drawn at the pins against the frame call %" PRIu64 "\n", counts.drawn);
     printf("records inside the ranges built by hand %" PRIu64 ", damaged records %" PRIu64 " (%" PRIu64 " calls), fields set to an edge %" PRIu64 "\n",
            counts.unreached, counts.damaged, counts.damaged_calls, counts.swept);
-    printf("runs of the driver %" PRIu64 ", pages done %" PRIu64 ", frames sent %" PRIu64 "; parts asked for %" PRIu64 "\n", counts.runs, counts.pages,
-           counts.sent, counts.parts);
-    printf("refusals, and endings 9 and 10:");
-    for (int i = 1; i < 11; i++)
-        printf(" %d: %" PRIu64 "%s", i, counts.numbers[i], i < 10 ? "," : "\n");
+    printf("runs of the driver %" PRIu64 ", a status cycle ended in the first wait %" PRIu64 ", pages done %" PRIu64 ", frames sent %" PRIu64 "\n",
+           counts.runs, counts.moved, counts.pages, counts.sent);
+    printf("parts asked for %" PRIu64 "\n", counts.parts);
+    printf("refusals, and endings 9 and 13:");
+    for (int i = 1; i < 10; i++)
+        printf(" %d: %" PRIu64 ",", i, counts.numbers[i]);
+    printf(" 13: %" PRIu64 "\n", counts.numbers[13]);
 }
 
 int main(int argc, char **argv)
@@ -1716,6 +1767,7 @@ int main(int argc, char **argv)
     case_c();
     cases_d_e();
     cases_h_l();
+    cases_protected();
     for (current_round = 0; current_round < rounds; current_round++)
         run_round();
     print_summary(rounds);

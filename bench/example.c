@@ -99,12 +99,15 @@ static void refusals(const cartvesper_core *core)
     printf("a memory one byte short: %u\n", cartvesper_clock_reading(*core, 0, memory, MEMORY - 1).number);
     printf("one byte past the memory: %u\n", cartvesper_write(*core, memory, MEMORY, 65533, bytes, 4, 1000, 5001).number);
     printf("interval 0: %u\n", cartvesper_write(*core, memory, MEMORY, 0, bytes, 4, 0, 5001).number);
-    /* BP0 protects C000h to FFFFh: the page below is stored, then 10 */
+    /* BP0 protects C000h to FFFFh: a write that ends below is done, one that touches the block is refused whole, after the one poll that saw BP */
     cartvesper_core_answer guarded = cartvesper_power_up(CARTVESPER_LONGEST_CYCLE, 0, 0, 1, 0);
     must_be_done("power-up", guarded.number);
+    printf("protected from %04X\n", cartvesper_core_lowest_protected(guarded.core).value);
     cartvesper_driver_answer stopped = cartvesper_write(guarded.core, memory, MEMORY, 0xBFFE, bytes, 4, 1000, 5001);
-    printf("into the protected quarter: %u, %u page; cells BFFE %02X, BFFF %02X, C000 %02X, C001 %02X\n", stopped.number, stopped.pages,
-           memory[0xBFFE], memory[0xBFFF], memory[0xC000], memory[0xC001]);
+    printf("into the protected quarter: %u, %u pages, %u frame; cells BFFE %02X, BFFF %02X, C000 %02X\n", stopped.number, stopped.pages, stopped.frames,
+           memory[0xBFFE], memory[0xBFFF], memory[0xC000]);
+    cartvesper_driver_answer below = cartvesper_write(guarded.core, memory, MEMORY, 0xBFFE, bytes, 2, 1000, 5001);
+    printf("up to it: %u, %u page, %u frames; cells BFFE %02X, BFFF %02X\n", below.number, below.pages, below.frames, memory[0xBFFE], memory[0xBFFF]);
 }
 
 int main(void)

@@ -64,6 +64,9 @@ print("READ at 007E", out[3:].hex())
 run = (c_uint8 * 300)(*[i % 251 for i in range(300)])
 done = write(core, memory, MEMORY, 100, run, 300, 1000, 5001)
 print("driver", done.number, done.pages, done.frames, bytes(memory[100:400]) == bytes(run))
+guarded = power_up(5000, 0, 0, 1, 0).core  # BP0: C000h and above is protected
+refused = write(guarded, memory, MEMORY, 0xBFFF, run, 2, 1000, 5001)
+print("into the protected block", refused.number, refused.pages, refused.frames)
 damaged = done.core
 damaged.wel = 2
 print("a record outside its ranges", reading(damaged, 0, memory, MEMORY).number)

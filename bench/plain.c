@@ -127,18 +127,21 @@ uint8_t plain_status(const cartvesper_core *core)
     return (uint8_t)(core->srwd << 7 | core->bp1 << 3 | core->bp0 << 2 | core->wel << 1 | (core->left > 0));
 }
 
+/* BP1 and BP0 as a number; the memory's size where nothing is protected */
+static uint32_t lowest_by(uint8_t bp)
+{
+    static const uint32_t lowest[4] = {MEMORY, 0xC000, 0x8000, 0};
+    return lowest[bp & 3];
+}
+
+uint32_t plain_lowest_protected(const cartvesper_core *core)
+{
+    return lowest_by((uint8_t)(core->bp1 << 1 | core->bp0));
+}
+
 int plain_protected(const cartvesper_core *core, uint32_t address)
 {
-    switch (core->bp1 << 1 | core->bp0) {
-    case 0:
-        return 0;
-    case 1:
-        return address >= 0xC000;
-    case 2:
-        return address >= 0x8000;
-    default:
-        return 1;
-    }
+    return address >= plain_lowest_protected(core);
 }
 
 void plain_core_power_up(cartvesper_core *core, uint32_t cycle, int srwd, int bp1, int bp0, uint32_t reading)
@@ -582,32 +585,24 @@ static uint8_t write_page(driver_run *run, uint32_t address, const uint8_t *byte
     return wait_for_wip(run, 0);
 }
 
-/* WIP and WEL in what the page's last poll saw */
-static uint32_t page_ending(driver_run *run, uint8_t status)
-{
-    static const uint8_t wrdi[1] = {WRDI};
-    uint8_t out[1];
-    if (status & 0x01)
-        return 9;
-    if (!(status & 0x02))
-        return 0;
-    send(run, wrdi, sizeof wrdi, out);
-    return 10;
-}
-
 uint32_t plain_write(cartvesper_core *core, uint8_t *memory, uint32_t address, const uint8_t *bytes, size_t length, uint32_t interval, uint32_t limit,
                      uint32_t *pages, uint32_t *frames)
 {
     driver_run run = {core, memory, interval, limit, 0};
     uint32_t number = 0;
     *pages = 0;
-    if (length > 0 && wait_for_wip(&run, 1) & 0x01)
-        number = 9;
+    if (length > 0) {
+        uint8_t status = wait_for_wip(&run, 1);
+        if (status & 0x01)
+            number = 9;
+        else if (address + length > lowest_by(status >> 2 & 3))
+            number = 13;
+    }
     while (length > 0 && number == 0) {
         size_t part = PAGE - address % PAGE;
         if (part > length)
             part = length;
-        number = page_ending(&run, write_page(&run, address, bytes, part));
+        number = write_page(&run, address, bytes, part) & 0x01 ? 9 : 0;
         *pages += number == 0;
         address += (uint32_t)part;
         bytes += part;
@@ -733,6 +728,11 @@ cartvesper_value plain_core_in_ranges_call(cartvesper_core core)
 cartvesper_value plain_core_status_call(cartvesper_core core)
 {
     return value_or_2(plain_core_ok(&core), plain_status(&core));
+}
+
+cartvesper_value plain_core_lowest_protected_call(cartvesper_core core)
+{
+    return value_or_2(plain_core_ok(&core), plain_lowest_protected(&core));
 }
 
 cartvesper_value plain_core_protected_call(cartvesper_core core, uint32_t address)

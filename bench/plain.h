@@ -10,6 +10,7 @@
 int plain_core_ok(const cartvesper_core *core);
 int plain_device_ok(const cartvesper_device *device);
 uint8_t plain_status(const cartvesper_core *core);
+uint32_t plain_lowest_protected(const cartvesper_core *core); /* the memory's size where nothing is protected */
 int plain_protected(const cartvesper_core *core, uint32_t address);
 
 /* ---- the frame level */
@@ -37,7 +38,7 @@ uint32_t plain_play_refusal(const cartvesper_device *device, size_t size, const 
 
 /* ---- the driver and the split */
 
-/* a run that lies in the memory, with interval and limit in range; gives back 0, 9 or 10 */
+/* a run that lies in the memory, with interval and limit in range; gives back 0, 9 or 13 */
 uint32_t plain_write(cartvesper_core *core, uint8_t *memory, uint32_t address, const uint8_t *bytes, size_t length, uint32_t interval, uint32_t limit,
                      uint32_t *pages, uint32_t *frames);
 /* the four numbers, for any address, length and part */
@@ -54,6 +55,7 @@ cartvesper_frame_answer plain_frame_call(cartvesper_core core, const uint8_t *me
                                          size_t length, size_t bits, uint8_t *out, size_t room);
 cartvesper_value plain_core_in_ranges_call(cartvesper_core core);
 cartvesper_value plain_core_status_call(cartvesper_core core);
+cartvesper_value plain_core_lowest_protected_call(cartvesper_core core);
 cartvesper_value plain_core_protected_call(cartvesper_core core, uint32_t address);
 
 cartvesper_device_answer plain_device_power_up_call(uint32_t cycle, uint8_t srwd, uint8_t bp1, uint8_t bp0, uint32_t reading);

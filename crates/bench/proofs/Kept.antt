@@ -7,11 +7,13 @@ use lib.Dec.{eqb}
 use borrow.Author.Tests.{ne-eqb}
 use Rattle.laws.specs.Pick.{pick, at-yes, at-no}
 use Rattle.codes.specs.Refusals.{refusalNumber, number}
-use Rattle.chip.specs.Questions.{protectionNumber, protectionValue}
+use Rattle.chip.specs.Questions.{protectedFromNumber, protectedFromValue, protectionNumber, protectionValue}
 use Rattle.codes.specs.declared.Refusal.{Refusal}
 use Rattle.codes.specs.declared.Refusal.the-variants.{MemoryLength, RecordRange, FrameLength, BitCount, OutputLength, CycleLength, AddressRange, PollRange}
 use Rattle.codes.specs.declared.Outcome.{Outcome}
 use Rattle.codes.specs.declared.Outcome.the-variants as outcome
+use Rattle.chip.specs.declared.ProtectedFrom.{ProtectedFrom}
+use Rattle.chip.specs.declared.ProtectedFrom.the-variants as start
 use Rattle.chip.specs.declared.Protection.{Protection}
 use Rattle.chip.specs.declared.Protection.the-variants as protection
 use Rattle.frames.specs.Answers as frames
@@ -58,7 +60,7 @@ refusal-range CycleLength = (omega arith, omega arith)
 refusal-range AddressRange = (omega arith, omega arith)
 refusal-range PollRange = (omega arith, omega arith)
 
--- a refusal is told from what is done (0) and from the endings of a run (9 and 10)
+-- a refusal is told from what is done (0) and from the endings of a run (9 and 13)
 not-done : (r : Refusal) → eqb (refusalNumber r) 0 ≡ false
 not-done r =
     let other : refusalNumber r ≡ 0 → ⊥ = λ e. omega (arith, refusal-range r .0) in
@@ -69,9 +71,9 @@ not-late r =
     let other : refusalNumber r ≡ 9 → ⊥ = λ e. omega (arith, refusal-range r .1) in
     ne-eqb _ _ other
 
-not-untaken : (r : Refusal) → eqb (refusalNumber r) 10 ≡ false
-not-untaken r =
-    let other : refusalNumber r ≡ 10 → ⊥ = λ e. omega (arith, refusal-range r .1) in
+not-touched : (r : Refusal) → eqb (refusalNumber r) 13 ≡ false
+not-touched r =
+    let other : refusalNumber r ≡ 13 → ⊥ = λ e. omega (arith, refusal-range r .1) in
     ne-eqb _ _ other
 
 -- ---- each kind of answer, from its number and its values
@@ -82,6 +84,13 @@ outcomeOf n = pick (eqb n 0) outcome.Done (outcome.Refused (refusalOf n))
 pub outcome-kept : (o : Outcome) → outcomeOf (number o) ≡ o
 outcome-kept outcome.Done = at-yes _ _ refl
 outcome-kept (outcome.Refused r) = at-no _ _ (not-done r) ∙ ap outcome.Refused (refusal-kept r)
+
+abbrev pub startOf : ℕ → ℕ → ProtectedFrom
+startOf n v = pick (eqb n 0) (start.Address v) (start.Refused (refusalOf n))
+
+pub start-kept : (x : ProtectedFrom) → startOf (protectedFromNumber x) (protectedFromValue x) ≡ x
+start-kept (start.Address a) = at-yes _ _ refl
+start-kept (start.Refused r) = at-no _ _ (not-done r) ∙ ap start.Refused (refusal-kept r)
 
 abbrev pub protectionOf : ℕ → ℕ → Protection
 protectionOf n v = pick (eqb n 0) (pick (eqb v 1) protection.Protected protection.Open) (protection.Refused (refusalOf n))
@@ -122,10 +131,10 @@ abbrev pub runOf : ℕ → ℕ → ℕ → driver-answer.RunReply
 runOf n pages frames =
     pick (eqb n 0) (driven.Done (record { pages = pages; frames = frames }))
     (pick (eqb n 9) (driven.TimedOut (record { pages = pages; frames = frames }))
-    (pick (eqb n 10) (driven.NotTaken (record { pages = pages; frames = frames })) (driven.Refused (refusalOf n))))
+    (pick (eqb n 13) (driven.Protected (record { pages = pages; frames = frames })) (driven.Refused (refusalOf n))))
 
 pub run-kept : (x : driver-answer.RunReply) → runOf (driver.runReplyNumber x) (driver.runReplyPages x) (driver.runReplyFrames x) ≡ x
 run-kept (driven.Done s) = at-yes _ _ refl
 run-kept (driven.TimedOut s) = at-no _ _ refl ∙ at-yes _ _ refl
-run-kept (driven.NotTaken s) = at-no _ _ refl ∙ at-no _ _ refl ∙ at-yes _ _ refl
-run-kept (driven.Refused r) = at-no _ _ (not-done r) ∙ at-no _ _ (not-late r) ∙ at-no _ _ (not-untaken r) ∙ ap driven.Refused (refusal-kept r)
+run-kept (driven.Protected s) = at-no _ _ refl ∙ at-no _ _ refl ∙ at-yes _ _ refl
+run-kept (driven.Refused r) = at-no _ _ (not-done r) ∙ at-no _ _ (not-late r) ∙ at-no _ _ (not-touched r) ∙ ap driven.Refused (refusal-kept r)

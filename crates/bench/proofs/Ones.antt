@@ -7,6 +7,8 @@ use Rattle.bench.proofs.core_calls.cartvesper_core_in_ranges.Kinds as c
 use Rattle.bench.proofs.core_calls.cartvesper_core_in_ranges.Reads as core-in-ranges-reads
 use Rattle.bench.proofs.core_calls.cartvesper_core_status.Kinds as core-status
 use Rattle.bench.proofs.core_calls.cartvesper_core_status.Reads as core-status-reads
+use Rattle.bench.proofs.core_calls.cartvesper_core_lowest_protected.Kinds as core-lowest-protected
+use Rattle.bench.proofs.core_calls.cartvesper_core_lowest_protected.Reads as core-lowest-protected-reads
 use Rattle.bench.proofs.core_calls.cartvesper_core_protected.Kinds as core-protected
 use Rattle.bench.proofs.core_calls.cartvesper_core_protected.Reads as core-protected-reads
 use Rattle.bench.proofs.device_calls.cartvesper_device_power_up.Kinds as device-power-up
@@ -54,6 +56,9 @@ core-in-ranges-one κs a z z′ e e′ p q = same p q
 
 pub core-status-one : OneResult core-status.ps core-status.r core-status-reads.Post
 core-status-one κs a z z′ e e′ p q = same p q
+
+pub core-lowest-protected-one : OneResult core-lowest-protected.ps core-lowest-protected.r core-lowest-protected-reads.Post
+core-lowest-protected-one κs a z z′ e e′ p q = same p q
 
 pub core-protected-one : OneResult core-protected.ps core-protected.r core-protected-reads.Post
 core-protected-one κs a z z′ e e′ p q = same p q

@@ -9,7 +9,7 @@ use Rattle.codes.specs.Part.{Part}
 use Rattle.codes.specs.Status.{on}
 use Rattle.chip.specs.Records.{status}
 use Rattle.chip.specs.Ranges.{inRanges}
-use Rattle.chip.specs.Questions.{questionNumber, questionValue}
+use Rattle.chip.specs.Questions.{lowestNumber, lowestValue, questionNumber, questionValue}
 use Rattle.chip.specs.Power.{delivered, poweredUp, powerUpNumber}
 use Rattle.chip.specs.Time.{readingNumber, clockReading}
 use Rattle.chip.specs.declared.Core.{Core}
@@ -52,6 +52,9 @@ inRangesCall P c = pick (inRanges P c) (valueAnswer 0 1) (valueAnswer 2 0)
 
 abbrev pub statusCall : Part → Core → Value
 statusCall P c = pick (inRanges P c) (valueAnswer 0 (status c)) (valueAnswer 2 0)
+
+abbrev pub lowestProtectedCall : Part → Core → Value
+lowestProtectedCall P c = valueAnswer (lowestNumber P c) (lowestValue P c)
 
 abbrev pub protectedCall : Part → Core → ℕ → Value
 protectedCall P c a = valueAnswer (questionNumber P c a) (questionValue P c a)

@@ -2,7 +2,7 @@
 ghost use mathlib.Core.Path.{_≡_};
 ghost use Rattle.codes.specs.Part.{m95512};
 ghost use Rattle.chip.specs.Time.{clockMemory};
-ghost use Rattle.bench.specs.Calls.{powerUpCall, readingCall, inRangesCall, statusCall, protectedCall};
+ghost use Rattle.bench.specs.Calls.{powerUpCall, readingCall, inRangesCall, statusCall, lowestProtectedCall, protectedCall};
 use crate::CoreAnswer;
 use crate::Value;
 use chip::Core;
@@ -84,6 +84,18 @@ pub extern "C" fn cartvesper_core_status(core: Core) -> Value
     Value {
         number: 2,
         value: 0,
+    }
+}
+
+// The lowest protected address, the memory's size for none. Refusal 2.
+#[no_mangle]
+pub extern "C" fn cartvesper_core_lowest_protected(core: Core) -> Value
+    ensures { λ r. ⌜ r ≡ lowestProtectedCall m95512 core ⌝ }
+{
+    let answer = core.protected_from();
+    Value {
+        number: answer.number(),
+        value: answer.value(),
     }
 }
 

@@ -6,7 +6,7 @@ ghost use Rattle.bench.specs.Calls.{writeCall};
 use crate::DriverAnswer;
 use chip::Core;
 
-// A run of bytes written as page writes. Refusals 1, 2, 7, 8; else 0, 9 or 10, with pages done and frames sent.
+// A run of bytes written as page writes. Refusals 1, 2, 7, 8; else 0, 9 or 13, with pages done and frames sent.
 #[no_mangle]
 pub extern "C" fn cartvesper_write(
     core: Core,

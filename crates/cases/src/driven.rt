@@ -1,4 +1,4 @@
-// Cases of the driver: g, h and l, a running cycle, a protected block in the middle of a run, and what is refused.
+// Cases of the driver: g, h and l, a running cycle, runs at the edge of the protected block, and what is refused.
 use crate::say;
 use chip::Core;
 use chip::power_up;
@@ -70,21 +70,53 @@ fn running_cycle() {
     run_300(b"a running cycle, limit 5", busy(), 1000, 5);
 }
 
-fn protected_block() {
+// A run at interval 5,000, and the cells on either side of C000h.
+fn at_block(what: &[u8], core: Core, address: u64, bytes: &[u8], limit: u32) {
     let mut memory = io::large_buffer();
-    let upper = power_up(5000, false, false, true, 0).core;
-    let bytes = bytes_300();
-    run(
-        b"32 bytes at BFF0h, BP 01",
-        upper,
-        &mut memory,
-        0xbff0,
-        &bytes[0..32],
-        5000,
-        1,
-    );
+    run(what, core, &mut memory, address, bytes, 5000, limit);
     say(b"  cell BFFFh", wide(memory[0xbfff]));
     say(b"  cell C000h", wide(memory[0xc000]));
+}
+
+fn protected_block() {
+    let upper = power_up(5000, false, false, true, 0).core;
+    let all = power_up(5000, false, true, true, 0).core;
+    let bytes = bytes_300();
+    at_block(b"BP 01, 16 bytes at BFF0h", upper, 0xbff0, &bytes[0..16], 1);
+    at_block(b"BP 01, 17 bytes at BFF0h", upper, 0xbff0, &bytes[0..17], 1);
+    at_block(b"BP 01, 300 bytes at BFF0h", upper, 0xbff0, &bytes, 1);
+    at_block(
+        b"BP 01, WEL 1, one byte at FFFFh",
+        upper.with_wel(1),
+        0xffff,
+        b"\x77",
+        1,
+    );
+    at_block(b"BP 11, one byte at 0", all, 0, b"\x77", 1);
+    at_block(b"BP 11, no data at 0", all, 0, b"", 1);
+}
+
+// A status cycle runs when the driver comes: WRSR is the code and the value that waits.
+fn moving(bp0: bool, wrsr: &[u8]) -> Core {
+    let memory = io::large_buffer();
+    let mut out = [0u8; 2];
+    let enabled = power_up(5000, false, false, bp0, 0).core.with_wel(1);
+    frames::frame(enabled, &memory, true, wrsr, 16, &mut out).core
+}
+
+fn moved_block() {
+    let sets = moving(false, b"\x01\x04");
+    let clears = moving(true, b"\x01\x00");
+    at_block(b"BP 00 to 01, one byte at C000h", sets, 0xc000, b"\x77", 2);
+    at_block(
+        b"BP 01 to 00, one byte at C000h",
+        clears,
+        0xc000,
+        b"\x77",
+        2,
+    );
+    at_block(b"BP 00 to 01, limit 1", sets, 0xc000, b"\x77", 1);
+    at_block(b"BP 01 to 00, limit 1", clears, 0xc000, b"\x77", 1);
 }
 
 fn nothing_to_write() {
@@ -227,6 +259,7 @@ pub(crate) fn all() {
     whole_runs();
     running_cycle();
     protected_block();
+    moved_block();
     nothing_to_write();
     bad_address();
     bad_polls();

@@ -33,6 +33,12 @@ fn protect(what: &[u8], bp1: bool, bp0: bool, address: u32) {
     say(b"  protected", answer.value());
 }
 
+fn lowest(what: &[u8], core: Core) {
+    let answer = core.protected_from();
+    say(what, answer.number());
+    say(b"  protected from", answer.value());
+}
+
 // A cycle of 5,000 that began at reading 4294967290, with page 1 waiting: cell 128 gets 11h.
 fn waiting() -> Core {
     let p = power_up(5000, false, false, false, 4294967290);
@@ -238,12 +244,17 @@ fn main() {
     protect(b"BP 11, 0000h", true, true, 0);
     protect(b"BP 00, FFFFh", false, false, 0xffff);
     protect(b"BP 00, 10000h", false, false, 0x10000);
+    lowest(b"BP 00", Core::delivered());
+    lowest(b"BP 01", power_up(5000, false, false, true, 0).core);
+    lowest(b"BP 10", power_up(5000, false, true, false, 0).core);
+    lowest(b"BP 11", power_up(5000, false, true, true, 0).core);
     time(b"16 microseconds later", waiting(), 10);
     time(b"4999 microseconds later", waiting(), 4993);
     time(b"5000 microseconds later", waiting(), 4994);
     let mut broken = waiting();
     broken.wel = 2;
     time(b"a WEL of 2", broken, 4994);
+    lowest(b"a WEL of 2", broken);
     let mut short = [0u8; 128];
     let outcome = clock_reading(broken, 0, &mut short).outcome;
     say(b"a memory of 128 bytes", outcome.number());

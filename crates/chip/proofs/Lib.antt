@@ -5,4 +5,5 @@ pub mod Passing
 pub mod Cases
 pub mod Ones
 pub mod Numbers
+pub mod Lowest
 pub mod Executed

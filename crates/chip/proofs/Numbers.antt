@@ -9,12 +9,13 @@ use Rattle.laws.specs.Pick.{pick, pick-ap, pick-cong, pick-same}
 use Rattle.codes.specs.Part.{Part}
 use Rattle.codes.specs.Refusals.{number}
 use Rattle.chip.specs.Ranges.{cycleFits, inRanges}
-use Rattle.chip.specs.Questions.{protects, protection, protectionNumber, protectionValue, questionNumber, questionValue}
+use Rattle.chip.specs.Questions.{protects, protectedFrom, protectedFromNumber, protectedFromValue, lowestNumber, lowestValue, protection, protectionNumber, protectionValue, questionNumber, questionValue}
 use Rattle.chip.specs.Power.{poweredUp, powerUpNumber}
 use Rattle.chip.specs.Time.{readingOutcome, readingNumber}
 use Rattle.chip.specs.declared.Core.{Core}
 use Rattle.codes.specs.declared.Outcome.{Outcome}
 use Rattle.chip.specs.declared.PoweredUp.{PoweredUp}
+use Rattle.chip.specs.declared.ProtectedFrom.{ProtectedFrom}
 use Rattle.chip.specs.declared.Protection.{Protection}
 use Rattle.chip.specs.declared.Protection.the-variants.{Open, Protected, Refused}
 use Rattle.codes.specs.declared.Refusal.the-variants.{RecordRange, AddressRange}
@@ -31,6 +32,14 @@ module _ (P : Part) (c : Core) (m : List ℕ) where
       ap number (sym e)
       ∙ pick-ap number (eqb (length m) (P .size)) _ _
       ∙ pick-cong (eqb (length m) (P .size)) 1 (λ q. pick-ap number (inRanges P c) _ _)
+
+module _ (P : Part) (c : Core) where
+  pub started : {r : ProtectedFrom} → r ≡ protectedFrom P c
+      → (r ≡ protectedFrom P c) × ((protectedFromNumber r ≡ lowestNumber P c) × (protectedFromValue r ≡ lowestValue P c))
+  started e = (
+    e,
+    (ap protectedFromNumber e ∙ pick-ap protectedFromNumber (inRanges P c) _ _, ap protectedFromValue e ∙ pick-ap protectedFromValue (inRanges P c) _ _),
+  )
 
 module _ (P : Part) (c : Core) (a : ℕ) where
   -- a function of the answer, taken through its two refusals

@@ -1,4 +1,5 @@
--- Is an address protected: the lowest protected one is at most this one.
+-- Where protection starts, and is an address protected. One definition, `lowest`, serves both questions, the verdict on
+-- a WRITE and the driver.
 use Prim.Native.Nat.{ℕ}
 use mathlib.Core.Bool.{Bool}
 use lib.Dec.{leb, ltb}
@@ -12,12 +13,43 @@ use Rattle.chip.specs.declared.Core.{Core}
 use Rattle.codes.specs.declared.Refusal.the-variants.{RecordRange, AddressRange}
 use Rattle.chip.specs.declared.Protection.{Protection}
 use Rattle.chip.specs.declared.Protection.the-variants.{Open, Protected, Refused}
+use Rattle.chip.specs.declared.ProtectedFrom.{ProtectedFrom}
+use Rattle.chip.specs.declared.ProtectedFrom.the-variants as start
 
--- the lowest protected address is at most this one
+-- the record's lowest protected address; the memory's size for none
+abbrev pub lowest : Part → Core → ℕ
+lowest P c = lowestProtected P (on (c .bp1)) (on (c .bp0))
+
+-- an address is protected where the lowest protected one is at most it
 abbrev pub protects : Part → Core → ℕ → Bool
-protects P c a = leb (lowestProtected P (on (c .bp1)) (on (c .bp0))) a
+protects P c a = leb (lowest P c) a
 
--- ---- the public question, for every record and every number
+-- ---- the public question where protection starts, for every record
+
+-- what stands for refusal 2, and for no refusal
+abbrev pub lowestChoice : {A : Type 0} → Part → Core → A → A → A
+lowestChoice P c two done = pick (inRanges P c) done two
+
+abbrev pub protectedFrom : Part → Core → ProtectedFrom
+protectedFrom P c = lowestChoice P c (start.Refused RecordRange) (start.Address (lowest P c))
+
+-- the number of an answer in document 01, and its value
+abbrev pub protectedFromNumber : ProtectedFrom → ℕ
+protectedFromNumber (start.Address a) = 0
+protectedFromNumber (start.Refused r) = refusalNumber r
+
+abbrev pub protectedFromValue : ProtectedFrom → ℕ
+protectedFromValue (start.Address a) = a
+protectedFromValue (start.Refused r) = 0
+
+-- the number and the value, by the input
+abbrev pub lowestNumber : Part → Core → ℕ
+lowestNumber P c = lowestChoice P c 2 0
+
+abbrev pub lowestValue : Part → Core → ℕ
+lowestValue P c = lowestChoice P c 0 (lowest P c)
+
+-- ---- the public question of one address, for every record and every number
 
 -- what stands for refusal 2, for 7 after it (an address that the memory lacks), and for no refusal
 abbrev pub questionChoice : {A : Type 0} → Part → Core → ℕ → A → A → A → A

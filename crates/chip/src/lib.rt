@@ -1,8 +1,8 @@
 // What both models of the M95512 share: the record that each holds, its ranges, passing time, power-up, and what waits
 // for the end of a cycle.
 //
-// Public calls, each for every input: power_up, in_ranges, protection, clock_reading. Every other public function is
-// an inner call of the models: total, and exactly its definition.
+// Public calls, each for every input: power_up, in_ranges, protected_from, protection, clock_reading. Every other
+// public function is an inner call of the models: total, and exactly its definition.
 use codes::Outcome;
 use codes::Refusal;
 use latch::Latch;
@@ -15,7 +15,7 @@ mod ranges;
 mod status;
 mod time;
 
-// Public calls, beside the methods Core::in_ranges and Core::protection.
+// Public calls, beside the methods Core::in_ranges, Core::protected_from and Core::protection.
 pub use power::power_up;
 pub use time::clock_reading;
 
@@ -44,6 +44,12 @@ pub struct Core {
     pub left: u32,
     pub last: u32,
     pub waits: Waiting,
+}
+
+// Where protection starts: the lowest protected address, the memory's size for none.
+pub enum ProtectedFrom {
+    Address(u32),
+    Refused(Refusal),
 }
 
 // Whether an address is protected.

@@ -1,6 +1,6 @@
--- The whole run: nothing for no data, a first wait that used its limit, or the page parts after it.
+-- The whole run: nothing for no data, a first wait that used its limit, data that touches the protected block, or the page parts.
 use mathlib.Core.Path.{_≡_, refl, ap, sym, _∙_}
-use mathlib.Core.Bool.{true, false}
+use mathlib.Core.Bool.{Bool, true, false}
 use mathlib.Core.List.{List, []}
 use Prim.Native.Nat.{ℕ}
 use lib.ListN.{length}
@@ -11,7 +11,7 @@ use Rattle.chip.specs.Records.{running}
 use Rattle.frames.specs.Play.{Act, FrameBench, actedAll}
 use Rattle.driver.specs.declared.Driven.{Driven}
 use Rattle.driver.specs.declared.RunReply.{RunReply}
-use Rattle.driver.specs.Sequence.{sent, firstWait, Ending, allDone, timedOut, Run, stopped, begun, allParts, run}
+use Rattle.driver.specs.Sequence.{sent, firstWait, Ending, allDone, timedOut, protected, Run, stopped, begun, allParts, touches, run}
 use Rattle.driver.specs.Answers.{endingAnswer, countedAnswer, partsAnswer, runAnswer}
 use Rattle.driver.proofs.Playing.{acted-all-append, sent-append}
 
@@ -25,7 +25,7 @@ module _ (P : Part) (i limit a : ℕ) (bytes : List ℕ) (d : FrameBench) where
   abbrev whole : Run
   whole = run P i limit a bytes d
 
-  -- ---- its three ways
+  -- ---- its four ways
 
   pub run-none : length bytes ≡ 0 → whole ≡ stopped [] allDone
   unfolding run
@@ -35,9 +35,17 @@ module _ (P : Part) (i limit a : ℕ) (bytes : List ℕ) (d : FrameBench) where
   unfolding run
   run-late n r = at-no _ _ (ne-eqb _ _ n) ∙ at-yes _ _ r
 
-  pub run-parts : (length bytes ≡ 0 → ⊥) → running (rested .core) ≡ false → whole ≡ begun first (allParts P i limit a bytes rested)
+  abbrev touched : FrameBench → Bool
+  touched x = touches P (x .core) a (length bytes)
+
+  pub run-touches : (length bytes ≡ 0 → ⊥) → running (rested .core) ≡ false → touched rested ≡ true → whole ≡ stopped first protected
   unfolding run
-  run-parts n r = at-no _ _ (ne-eqb _ _ n) ∙ at-no _ _ r
+  run-touches n r t = at-no _ _ (ne-eqb _ _ n) ∙ at-no _ _ r ∙ at-yes _ _ t
+
+  pub run-parts : (length bytes ≡ 0 → ⊥) → running (rested .core) ≡ false → touched rested ≡ false
+      → whole ≡ begun first (allParts P i limit a bytes rested)
+  unfolding run
+  run-parts n r t = at-no _ _ (ne-eqb _ _ n) ∙ at-no _ _ r ∙ at-no _ _ t
 
   -- ---- what is handed back of each, and what is left in the memory
 
@@ -55,13 +63,19 @@ module _ (P : Part) (i limit a : ℕ) (bytes : List ℕ) (d : FrameBench) where
       → Drove (record { answer = endingAnswer timedOut (record { pages = 0; frames = n }); core = y .core }) (y .memory)
   drove-late n y some e counted r = stops first timedOut n y (run-late some (sym (ap (λ (x : FrameBench). running (x .core)) e) ∙ r)) e counted
 
+  pub drove-touches : (n : ℕ) (y : FrameBench) → (length bytes ≡ 0 → ⊥) → y ≡ rested → n ≡ sent first → running (y .core) ≡ false → touched y ≡ true
+      → Drove (record { answer = endingAnswer protected (record { pages = 0; frames = n }); core = y .core }) (y .memory)
+  drove-touches n y some e counted idle t =
+      stops first protected n y (run-touches some (sym (ap (λ (x : FrameBench). running (x .core)) e) ∙ idle) (sym (ap touched e) ∙ t)) e counted
+
   pub drove-parts : (r : Driven) (m : List ℕ) (n : ℕ) (y : FrameBench) → (length bytes ≡ 0 → ⊥) → y ≡ rested → n ≡ sent first → running (y .core) ≡ false
+      → touched y ≡ false
       → r ≡ record { answer = partsAnswer n (allParts P i limit a bytes y); core = actedAll P (allParts P i limit a bytes y .acts) y .core }
       → m ≡ actedAll P (allParts P i limit a bytes y .acts) y .memory
       → Drove r m
-  drove-parts r m n y some e counted idle p q =
+  drove-parts r m n y some e counted idle t p q =
       let parts = allParts P i limit a bytes rested in
-      let there : whole ≡ begun first parts = run-parts some (sym (ap (λ (x : FrameBench). running (x .core)) e) ∙ idle) in
+      let there : whole ≡ begun first parts = run-parts some (sym (ap (λ (x : FrameBench). running (x .core)) e) ∙ idle) (sym (ap touched e) ∙ t) in
       let after : actedAll P (parts .acts) rested ≡ actedAll P (whole .acts) d =
       sym (ap (λ (x : Run). actedAll P (x .acts) d) there ∙ acted-all-append P first (parts .acts) d) in
       let answer : partsAnswer (sent first) parts ≡ runAnswer whole =

@@ -23,7 +23,7 @@ use Rattle.driver.specs.declared.Sent.{Sent}
 use Rattle.driver.specs.declared.RunReply.{RunReply}
 use Rattle.driver.specs.declared.RunReply.the-variants.{Refused}
 use Rattle.driver.specs.declared.Driven.{Driven}
-use Rattle.driver.specs.Sequence.{Ending, allDone, timedOut, notTaken, Run, run}
+use Rattle.driver.specs.Sequence.{Ending, allDone, timedOut, protected, Run, run}
 use Rattle.driver.specs.Answers.{runReplyNumber, runReplyPages, runReplyFrames, endingAnswer, runAnswer, pollsFit, driveChoice, driveOutcome, endingNumber, driveNumber, drivePages, driveFrames, runReply, driven, drivenMemory}
 
 -- the test that makes no sum
@@ -63,17 +63,17 @@ module _ (P : Part) (c : Core) (size a len interval limit : ℕ) where
 ending-number : (e : Ending) (s : Sent) → runReplyNumber (endingAnswer e s) ≡ endingNumber e
 ending-number allDone s = refl
 ending-number timedOut s = refl
-ending-number notTaken s = refl
+ending-number protected s = refl
 
 ending-pages : (e : Ending) (s : Sent) → runReplyPages (endingAnswer e s) ≡ s .pages
 ending-pages allDone s = refl
 ending-pages timedOut s = refl
-ending-pages notTaken s = refl
+ending-pages protected s = refl
 
 ending-frames : (e : Ending) (s : Sent) → runReplyFrames (endingAnswer e s) ≡ s .frames
 ending-frames allDone s = refl
 ending-frames timedOut s = refl
-ending-frames notTaken s = refl
+ending-frames protected s = refl
 
 module _ (P : Part) (c : Core) (size a len interval limit : ℕ) (r : Run) where
   -- a function of the answer, taken past its four refusals

@@ -8,7 +8,6 @@ use native.Mathlib.Omega.{arith}
 use lib.ListN.{length}
 use Rattle.laws.specs.Pick.{at-yes, at-no}
 use Rattle.codes.specs.Part.{Part, pages}
-use Rattle.codes.specs.Status.{on}
 use Rattle.chip.specs.Records.{running}
 use Rattle.codes.proofs.Sound.{Sound}
 use Rattle.codes.proofs.Starts.{page-of-memory}
@@ -16,10 +15,10 @@ use Rattle.split.specs.Split.{count, splitAddress}
 use Rattle.split.specs.Pieces.{piece}
 use Rattle.split.proofs.Parts.{there}
 use Rattle.split.proofs.Numbers.{count-formula}
-use Rattle.frames.specs.Play.{Act, FrameBench, acted, actedAll}
-use Rattle.driver.specs.declared.RunReply.the-variants.{Done, TimedOut, NotTaken}
+use Rattle.frames.specs.Play.{Act, FrameBench, actedAll}
+use Rattle.driver.specs.declared.RunReply.the-variants.{Done, TimedOut}
 use Rattle.driver.specs.declared.Driven.{Driven}
-use Rattle.driver.specs.Sequence.{sent, wrdi, pageActs, Ending, allDone, timedOut, notTaken, Run, stopped, pageDone, pagesFrom}
+use Rattle.driver.specs.Sequence.{sent, pageActs, Ending, allDone, timedOut, Run, stopped, pageDone, pagesFrom}
 use Rattle.driver.specs.Answers.{endingAnswer, partsAnswer}
 use Rattle.driver.proofs.Playing.{acted-all-append, sent-append}
 
@@ -38,15 +37,10 @@ module _ (P : Part) (i limit a : ℕ) (bytes : List ℕ) where
     unfolding pagesFrom
     pages-late r = at-yes _ _ r
 
-    pub pages-untaken : running (afterPart k d .core) ≡ false → on (afterPart k d .core .wel) ≡ true
-        → pagesFrom P i limit a bytes (suc n) k d ≡ stopped (partActs k d ++ (wrdi ∷ [])) notTaken
-    unfolding pagesFrom
-    pages-untaken r w = at-no _ _ r ∙ at-yes _ _ w
-
-    pub pages-next : running (afterPart k d .core) ≡ false → on (afterPart k d .core .wel) ≡ false
+    pub pages-next : running (afterPart k d .core) ≡ false
         → pagesFrom P i limit a bytes (suc n) k d ≡ pageDone (partActs k d) (pagesFrom P i limit a bytes n (suc k) (afterPart k d))
     unfolding pagesFrom
-    pages-next r w = at-no _ _ r ∙ at-no _ _ w
+    pages-next r = at-no _ _ r
 
   pub pages-none : (n k : ℕ) (d : FrameBench) → n ≡ 0 → pagesFrom P i limit a bytes n k d ≡ stopped [] allDone
   unfolding pagesFrom
@@ -81,13 +75,13 @@ module _ (P : Part) (i limit a : ℕ) (bytes : List ℕ) where
 
     -- a page is done
     pub rest-next : (k frames f : ℕ) (d x : FrameBench) → k < parts → x ≡ afterPart k d → f ≡ sent (partActs k d)
-        → running (x .core) ≡ false → on (x .core .wel) ≡ false → Rest k frames d → Rest (k + 1) (frames + f) x
-    rest-next k frames f d x h e g r w o =
+        → running (x .core) ≡ false → Rest k frames d → Rest (k + 1) (frames + f) x
+    rest-next k frames f d x h e g r o =
         let one : parts - k ≡ suc (parts - (k + 1)) = omega arith in
         let up : suc k ≡ k + 1 = omega arith in
         let there : rest k d ≡ pageDone (partActs k d) (rest (k + 1) x) =
         ap (λ (n : ℕ). pagesFrom P i limit a bytes n k d) one
-        ∙ pages-next (parts - (k + 1)) k d (sym (ap (λ (y : FrameBench). running (y .core)) e) ∙ r) (sym (ap (λ (y : FrameBench). on (y .core .wel)) e) ∙ w)
+        ∙ pages-next (parts - (k + 1)) k d (sym (ap (λ (y : FrameBench). running (y .core)) e) ∙ r)
         ∙ rw (up, e) in
         record {
           leaves =
@@ -129,17 +123,6 @@ module _ (P : Part) (i limit a : ℕ) (bytes : List ℕ) where
         rest-ends k frames (frames + f) d x (partActs k d) timedOut
         (ap (λ (n : ℕ). pagesFrom P i limit a bytes n k d) one
         ∙ pages-late (parts - (k + 1)) k d (sym (ap (λ (y : FrameBench). running (y .core)) e) ∙ r)) e (ap (λ (n : ℕ). frames + n) g) o
-
-    pub rest-untaken : (k frames f : ℕ) (d x y : FrameBench) → k < parts → x ≡ afterPart k d → f ≡ sent (partActs k d)
-        → running (x .core) ≡ false → on (x .core .wel) ≡ true → y ≡ acted P wrdi x → Rest k frames d
-        → Ended (record { answer = NotTaken (record { pages = k; frames = frames + f + 1 }); core = y .core }) (y .memory)
-    rest-untaken k frames f d x y h e g r w last o =
-        let one : parts - k ≡ suc (parts - (k + 1)) = omega arith in
-        let counted : frames + f + 1 ≡ frames + sent (partActs k d ++ (wrdi ∷ [])) = omega (arith, g, sent-append (partActs k d) (wrdi ∷ [])) in
-        rest-ends k frames (frames + f + 1) d y (partActs k d ++ (wrdi ∷ [])) notTaken
-        (ap (λ (n : ℕ). pagesFrom P i limit a bytes n k d) one
-        ∙ pages-untaken (parts - (k + 1)) k d (sym (ap (λ (z : FrameBench). running (z .core)) e) ∙ r) (sym (ap (λ (z : FrameBench). on (z .core .wel)) e) ∙ w))
-        (last ∙ ap (acted P wrdi) e ∙ sym (acted-all-append P (partActs k d) (wrdi ∷ []) d)) counted o
 
     pub rest-done : (k frames : ℕ) (d : FrameBench) → parts ≤ k → Rest k frames d
         → Ended (record { answer = Done (record { pages = k; frames = frames }); core = d .core }) (d .memory)

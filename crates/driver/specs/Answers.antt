@@ -15,9 +15,9 @@ use Rattle.codes.specs.declared.Outcome.the-variants as outcome
 use Rattle.frames.specs.Play.{FrameBench, actedAll, frameBench}
 use Rattle.driver.specs.declared.Sent.{Sent}
 use Rattle.driver.specs.declared.RunReply.{RunReply}
-use Rattle.driver.specs.declared.RunReply.the-variants.{Done, TimedOut, NotTaken, Refused}
+use Rattle.driver.specs.declared.RunReply.the-variants.{Done, TimedOut, Protected, Refused}
 use Rattle.driver.specs.declared.Driven.{Driven}
-use Rattle.driver.specs.Sequence.{sent, Ending, allDone, timedOut, notTaken, Run, run}
+use Rattle.driver.specs.Sequence.{sent, Ending, allDone, timedOut, protected, Run, run}
 
 -- ---- the answer
 
@@ -25,27 +25,27 @@ use Rattle.driver.specs.Sequence.{sent, Ending, allDone, timedOut, notTa
 abbrev pub runReplyNumber : RunReply → ℕ
 runReplyNumber (Done s) = 0
 runReplyNumber (TimedOut s) = 9
-runReplyNumber (NotTaken s) = 10
+runReplyNumber (Protected s) = 13
 runReplyNumber (Refused r) = refusalNumber r
 
 -- pages done, and frames sent: every count is 0 in a refusal
 abbrev pub runReplyPages : RunReply → ℕ
 runReplyPages (Done s) = s .pages
 runReplyPages (TimedOut s) = s .pages
-runReplyPages (NotTaken s) = s .pages
+runReplyPages (Protected s) = s .pages
 runReplyPages (Refused r) = 0
 
 abbrev pub runReplyFrames : RunReply → ℕ
 runReplyFrames (Done s) = s .frames
 runReplyFrames (TimedOut s) = s .frames
-runReplyFrames (NotTaken s) = s .frames
+runReplyFrames (Protected s) = s .frames
 runReplyFrames (Refused r) = 0
 
 -- by the ending of a run
 abbrev pub endingAnswer : Ending → Sent → RunReply
 endingAnswer allDone s = Done s
 endingAnswer timedOut s = TimedOut s
-endingAnswer notTaken s = NotTaken s
+endingAnswer protected s = Protected s
 
 -- of a run in which so many frames were sent ..
 abbrev pub countedAnswer : ℕ → Run → RunReply
@@ -83,7 +83,7 @@ driveOutcome P c size a len interval limit =
 abbrev pub endingNumber : Ending → ℕ
 endingNumber allDone = 0
 endingNumber timedOut = 9
-endingNumber notTaken = 10
+endingNumber protected = 13
 
 abbrev pub driveNumber : Part → Core → ℕ → ℕ → ℕ → ℕ → ℕ → Ending → ℕ
 driveNumber P c size a len interval limit e = driveChoice P c size a len interval limit 1 2 7 8 (endingNumber e)

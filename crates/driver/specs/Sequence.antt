@@ -2,15 +2,17 @@
 -- make; the state along the way is that of the frame definitions played over the list, and nothing here counts but
 -- `sent`, over the list itself.
 use Prim.Native.Nat.{ℕ, zero, suc, _+_, _-_, _*_, _/_, _%_, _^_}
-use mathlib.Core.Bool.{true}
+use mathlib.Core.Bool.{Bool, true}
 use mathlib.Core.List.{List, [], _∷_, _++_}
 use lib.ListN.{length}
-use lib.Dec.{eqb}
+use lib.Dec.{eqb, ltb}
 use Rattle.laws.specs.Pick.{pick}
 use Rattle.codes.specs.Part.{Part}
-use Rattle.codes.specs.Instructions.{wrenCode, wrdiCode, rdsrCode, writeCode}
-use Rattle.codes.specs.Status.{on}
+use Rattle.codes.specs.Instructions.{wrenCode, rdsrCode, writeCode}
+use Rattle.codes.specs.Protect.{lowestProtected}
+use Rattle.codes.specs.Status.{on, bitOf}
 use Rattle.chip.specs.Records.{running}
+use Rattle.chip.specs.Questions.{lowest}
 use Rattle.chip.specs.declared.Core.{Core}
 use Rattle.frames.specs.Play.{Act, frame, reading, FrameBench, acted, actedAll, frameBench}
 use Rattle.split.specs.Split.{count, splitAddress}
@@ -24,9 +26,6 @@ whole s = frame true s (8 * length s)
 
 abbrev pub wren : Act
 wren = whole (wrenCode ∷ [])
-
-abbrev pub wrdi : Act
-wrdi = whole (wrdiCode ∷ [])
 
 -- the code, and a byte in which the status shows
 abbrev pub rdsr : Act
@@ -92,11 +91,11 @@ partActs P interval limit a bytes k d =
 
 -- ---- a run
 
--- how it ends: all pages done, a wait that used its limit, a page that was not taken
+-- how it ends: all pages done, a wait that used its limit, data that touches the protected block
 pub data Ending : Type 0 where
   allDone : Ending
   timedOut : Ending
-  notTaken : Ending
+  protected : Ending
 
 pub record Run : Type 0 where
   pub acts : List Act
@@ -114,25 +113,34 @@ begun acts r = record { acts = acts ++ r .acts; pages = r .pages; ending = r .en
 abbrev pub pageDone : List Act → Run → Run
 pageDone acts r = record { acts = acts ++ r .acts; pages = suc (r .pages); ending = r .ending }
 
--- n page parts from part k on, in rising address order. WIP 0 and WEL 1 after a page's WRITE mean that it was not taken
+-- n page parts from part k on, in rising address order
 unfoldable pub pagesFrom : Part → ℕ → ℕ → ℕ → List ℕ → ℕ → ℕ → FrameBench → Run
 pagesFrom P interval limit a bytes zero k d = stopped [] allDone
 pagesFrom P interval limit a bytes (suc n) k d =
     let acts = partActs P interval limit a bytes k d in
     let next = actedAll P acts d in
     pick (running (next .core)) (stopped acts timedOut)
-    (pick (on (next .core .wel)) (stopped (acts ++ (wrdi ∷ [])) notTaken)
-    (pageDone acts (pagesFrom P interval limit a bytes n (suc k) next)))
+    (pageDone acts (pagesFrom P interval limit a bytes n (suc k) next))
 
 -- all of them
 abbrev pub allParts : Part → ℕ → ℕ → ℕ → List ℕ → FrameBench → Run
 allParts P interval limit a bytes d = pagesFrom P interval limit a bytes (count (P .size) (P .page) a (length bytes)) 0 d
 
--- the whole run: nothing for no data, else the first wait, in which WEL is not looked at, and the page parts
+-- where protection starts as a status byte shows it: BP1 and BP0 are its bits 3 and 2
+abbrev pub lowestShown : Part → ℕ → ℕ
+lowestShown P s = lowestProtected P (on (bitOf 3 s)) (on (bitOf 2 s))
+
+-- n cells from a on, some of them protected: the end is above the lowest protected address
+abbrev pub touches : Part → Core → ℕ → ℕ → Bool
+touches P c a n = ltb (lowest P c) (a + n)
+
+-- the whole run: nothing for no data, else the first wait and the page parts. Where protection starts is read from the
+-- device that the first wait leaves, which is what its last poll shows; a run that touches the block sends nothing more
 unfoldable pub run : Part → ℕ → ℕ → ℕ → List ℕ → FrameBench → Run
 run P interval limit a bytes d =
     let first = firstWait P interval limit d in
     let next = actedAll P first d in
     pick (eqb (length bytes) 0) (stopped [] allDone)
     (pick (running (next .core)) (stopped first timedOut)
-    (begun first (allParts P interval limit a bytes next)))
+    (pick (touches P (next .core) a (length bytes)) (stopped first protected)
+    (begun first (allParts P interval limit a bytes next))))

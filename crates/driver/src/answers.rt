@@ -10,7 +10,7 @@ impl RunReply {
         match self {
             RunReply::Done(_) => 0,
             RunReply::TimedOut(_) => 9,
-            RunReply::NotTaken(_) => 10,
+            RunReply::Protected(_) => 13,
             RunReply::Refused(r) => r.number(),
         }
     }
@@ -22,7 +22,7 @@ impl RunReply {
         match self {
             RunReply::Done(s) => s.pages,
             RunReply::TimedOut(s) => s.pages,
-            RunReply::NotTaken(s) => s.pages,
+            RunReply::Protected(s) => s.pages,
             RunReply::Refused(_) => 0,
         }
     }
@@ -34,7 +34,7 @@ impl RunReply {
         match self {
             RunReply::Done(s) => s.frames,
             RunReply::TimedOut(s) => s.frames,
-            RunReply::NotTaken(s) => s.frames,
+            RunReply::Protected(s) => s.frames,
             RunReply::Refused(_) => 0,
         }
     }

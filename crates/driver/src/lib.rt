@@ -1,7 +1,8 @@
 // The driver: writes any run of bytes as page writes, over the frame model and by its promises alone.
 //
-// It waits until no cycle runs, then sends WREN and WRITE for each page part and waits for the end of its cycle; it
-// sees a page that was not taken, and says exactly what it did. Public call, for every input: write.
+// It waits until no cycle runs, reads from the status byte that ended that wait where protection starts, and refuses a
+// run that touches the block. Else it sends WREN and WRITE for each page part and waits for the end of its cycle. It
+// says exactly what it did. Public call, for every input: write.
 ghost use mathlib.Core.Path.{_≡_};
 ghost use mathlib.Core.Bool.{true};
 ghost use Prim.Native.Nat.{_+_, _≤_};
@@ -19,6 +20,7 @@ mod answers;
 mod pages;
 mod refused;
 mod sending;
+mod status;
 mod waiting;
 
 // Pages done and frames sent.
@@ -31,7 +33,7 @@ pub struct Sent {
 pub enum RunReply {
     Done(Sent),
     TimedOut(Sent),
-    NotTaken(Sent),
+    Protected(Sent),
     Refused(Refusal),
 }
 
@@ -41,7 +43,8 @@ pub struct Driven {
     pub core: Core,
 }
 
-// The run of an input that is not refused: nothing for no data, else the first wait and the page parts.
+// The run of an input that is not refused: nothing for no data, else the first wait and, where the data does not touch
+// the protected block, the page parts.
 fn drive(
     core: Core,
     memory: &mut [u8],
@@ -52,6 +55,7 @@ fn drive(
 ) -> Driven
     requires { ⌜ length (now memory) ≡ m95512 .size ⌝ }
     requires { ⌜ inRanges m95512 core ≡ true ⌝ }
+    requires { ⌜ address + length (now bytes) ≤ m95512 .size ⌝ }
     requires { ⌜ (1 ≤ limit) × (limit ≤ m95512 .longest + 1) ⌝ }
     ensures { λ r. ⌜ r
         ≡ runDriven m95512 (run m95512 interval limit address (now (bytes .entry)) (frameBench core (now (memory .entry))))
@@ -72,9 +76,18 @@ fn drive(
     let first = waiting::first_wait(core, memory, interval, limit);
     let next = first.core;
     let frames = first.frames;
-    if pages::wip(first.status) {
+    if status::wip(first.status) {
         return Driven {
             answer: RunReply::TimedOut(Sent {
+                pages: 0,
+                frames: frames,
+            }),
+            core: next,
+        };
+    }
+    if status::block_touched(first.status, address, bytes.len()) {
+        return Driven {
+            answer: RunReply::Protected(Sent {
                 pages: 0,
                 frames: frames,
             }),
@@ -86,7 +99,7 @@ fn drive(
 
 // Writes the bytes from an address on, with polls at an interval of microseconds and a limit of polls for each wait.
 // Refusals 1, 2, 7 and 8 in that order leave the record and the memory as they were; else the answer is 0, 9 for a
-// wait that used its limit or 10 for a page that was not taken, with the pages done and the frames sent.
+// wait that used its limit or 13 for data that touches the protected block, with the pages done and the frames sent.
 pub fn write(
     core: Core,
     memory: &mut [u8],

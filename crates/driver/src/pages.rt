@@ -6,7 +6,6 @@ ghost use lib.ListN.{length};
 ghost use Rattle.codes.specs.Part.{m95512};
 ghost use Rattle.chip.specs.Ranges.{inRanges};
 ghost use Rattle.chip.specs.Records.{status};
-ghost use Rattle.codes.specs.Status.{on, bitOf};
 ghost use Rattle.split.specs.Split.{count};
 ghost use Rattle.frames.specs.Play.{frameBench};
 ghost use Rattle.driver.specs.Sequence.{sent, playedFrom, pageActs, partActs, allParts};
@@ -16,10 +15,10 @@ use crate::RunReply;
 use crate::Sent;
 use crate::sending::send;
 use crate::sending::send_write;
+use crate::status::wip;
 use crate::waiting::Waited;
 use crate::waiting::page_wait;
 use chip::Core;
-use codes::WRDI;
 use codes::WREN;
 use split::cartvesper_split_address;
 use split::cartvesper_split_length;
@@ -94,21 +93,7 @@ fn write_part(
     )
 }
 
-// WIP, and WEL, in the status byte that a poll saw.
-pub(crate) fn wip(status: u8) -> bool
-    ensures { λ r. ⌜ r ≡ on (bitOf 0 status) ⌝ }
-{
-    status & 1 == 1
-}
-
-fn wel(status: u8) -> bool
-    ensures { λ r. ⌜ r ≡ on (bitOf 1 status) ⌝ }
-{
-    status >> 1 & 1 == 1
-}
-
-// All parts, in rising address order, after `sent` frames. WIP 0 and WEL 1 after a page's WRITE mean that the page was
-// not taken.
+// All parts, in rising address order, after `sent` frames.
 pub(crate) fn write_parts(
     core: Core,
     memory: &mut [u8],
@@ -145,16 +130,6 @@ pub(crate) fn write_parts(
                     frames: frames,
                 }),
                 core: next,
-            };
-        }
-        if wel(page.status) {
-            let wrdi = [WRDI];
-            return Driven {
-                answer: RunReply::NotTaken(Sent {
-                    pages: k as u32,
-                    frames: frames + 1,
-                }),
-                core: send(next, memory, &wrdi),
             };
         }
         k += 1;

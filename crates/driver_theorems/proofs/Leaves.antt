@@ -1,6 +1,7 @@
--- What the page parts leave, from an idle device of any sound part: the cells of the parts done, and what each ending says.
+-- What the page parts leave, from an idle device of any sound part whose protected block they do not touch: the cells of the parts done, and what
+-- each ending says. Every frame of them is executed.
 use mathlib.Core.Path.{_≡_, refl, ap, sym, subst, _∙_}
-use mathlib.Core.Bool.{Bool, true, false}
+use mathlib.Core.Bool.{true, false}
 use mathlib.Core.List.{List, [], _∷_, _++_}
 use Prim.Native.Nat.{ℕ, zero, suc, _+_, _-_, _*_, _/_, _%_, _^_, _<_, _≤_}
 use native.Mathlib.Nat.{suc-mul, zero-mul}
@@ -8,11 +9,10 @@ use native.Mathlib.Decide.{decLe}
 use native.Mathlib.Omega.{arith}
 use lib.ListN.{length, drop, length-drop}
 use lib.Seq.{length-take-le}
-use borrow.Author.Tests.{lt-ltb}
+use borrow.Author.Tests.{lt-ltb, lt-leb}
 use Rattle.codes.specs.Part.{Part}
-use Rattle.codes.specs.Status.{on}
-use Rattle.chip.specs.Questions.{protects}
-use Rattle.chip.specs.Records.{running, withWel}
+use Rattle.chip.specs.Questions.{lowest, protects}
+use Rattle.chip.specs.Records.{running}
 use Rattle.chip.specs.declared.Core.{Core}
 use Rattle.codes.proofs.Sound.{Sound}
 use Rattle.codes.proofs.Starts.{start-of}
@@ -20,14 +20,15 @@ use Rattle.split.specs.Split.{count, splitAddress, splitLength}
 use Rattle.split.specs.Pieces.{piece, pieces}
 use Rattle.split.proofs.Numbers.{length-some, one-page}
 use Rattle.split.proofs.Whole.{pieces-more, before-part}
-use Rattle.frames.specs.Play.{FrameBench, acted, actedAll}
-use Rattle.driver.specs.Sequence.{sent, wrdi, Ending, allDone, timedOut, notTaken, Run, pagesFrom}
-use Rattle.driver_theorems.specs.Counts.{roundedUp, overwritten}
+use Rattle.frames.specs.Play.{FrameBench, actedAll}
+use Rattle.driver.specs.Sequence.{sent, Ending, allDone, timedOut, protected, Run, pagesFrom}
+use Rattle.driver_theorems.specs.Counts.{roundedUp, allExecuted, overwritten}
 use Rattle.driver_theorems.specs.Endings.{pageFrames, Meaning}
 use Rattle.driver.proofs.Playing.{acted-all-append, sent-append}
 use Rattle.driver.proofs.Parts.{Lies, lies}
-use Rattle.driver.proofs.Runs.{partActs, afterPart, pages-late, pages-untaken, pages-next, pages-none}
-use Rattle.driver_theorems.proofs.Writing.{disables, page-done, page-late, page-untaken}
+use Rattle.driver.proofs.Runs.{partActs, afterPart, pages-late, pages-next, pages-none}
+use Rattle.driver_theorems.proofs.Executed.{executed-append}
+use Rattle.driver_theorems.proofs.Writing.{page-executed, page-done, page-late}
 use Rattle.driver_theorems.proofs.Stored.{stored-run, overwritten-length, overwritten-append}
 
 -- ---- a part and the memory
@@ -53,6 +54,14 @@ module _ (P : Part) (sound : Sound P) (a : ℕ) (bytes : List ℕ) (k : ℕ) (h 
       let to = l .to in
       let fits : long ≤ length (drop (at - a) bytes) = simp length-drop (omega arith) in
       length-take-le long (drop (at - a) bytes) fits
+
+  -- no cell of it is above the run's
+  pub part-below : at < a + length bytes
+  part-below =
+      let l = there in
+      let to = l .to in
+      let some = length-some (P .size) (P .page) a (length bytes) (sound .page-some) k h in
+      omega arith
 
   pub part-some : 0 < length (piece (P .size) (P .page) a bytes k)
   part-some = rw piece-length (length-some (P .size) (P .page) a (length bytes) (sound .page-some) k h)
@@ -98,12 +107,12 @@ protects-kept : (P : Part) (c₀ : Core) (d : FrameBench) → Idle P c₀ d → 
 protects-kept P c₀ d i x = rw (i .bp1, i .bp0) refl
 
 module _ (P : Part) (sound : Sound P) (i limit : ℕ) (some : 0 < i) (small : i ≤ P .longest) (polls : 1 ≤ limit)
-    (a : ℕ) (bytes : List ℕ) (c₀ : Core) (cycle : 0 < c₀ .cycle) (m₀ : List ℕ) (size : length m₀ ≡ P .size) where
+    (a : ℕ) (bytes : List ℕ) (c₀ : Core) (cycle : 0 < c₀ .cycle) (unprotected : a + length bytes ≤ lowest P c₀) (m₀ : List ℕ) (size : length m₀ ≡ P .size) where
   abbrev parts : ℕ
   parts = count (P .size) (P .page) a (length bytes)
 
-  abbrev Told : Ending → ℕ → ℕ → ℕ → ℕ → Core → Type 0
-  Told = Meaning P i limit a (length bytes) c₀
+  abbrev Told : Ending → ℕ → ℕ → ℕ → Core → Type 0
+  Told = Meaning i limit c₀
 
   -- part k's first cell, and the bytes of the k parts before it
   abbrev first-cell : ℕ → ℕ
@@ -115,19 +124,17 @@ module _ (P : Part) (sound : Sound P) (i limit : ℕ) (some : 0 < i) (small : i 
   abbrev frames-each : ℕ
   frames-each = pageFrames i c₀
 
-  meaning-more : (e : Ending) (n k pages frames : ℕ) (c : Core) → c₀ .cycle ≤ limit * i → Told e n (suc k) pages frames c
-      → Told e (suc n) k (suc pages) (frames-each + frames) c
-  meaning-more allDone n k pages frames c h t = (omega (arith, t .0), (omega (arith, t .1 .0, suc-mul n frames-each), t .1 .1))
-  meaning-more timedOut n k pages frames c h t = absurd (omega (arith, t .1 .1 .0))
-  meaning-more notTaken n k pages frames c h t =
-      let at : suc k + pages ≡ k + suc pages = omega arith in
-      (sym (ap (λ (j : ℕ). protects P c₀ (first-cell j)) at) ∙ t .0, (omega (arith, t .1 .0, suc-mul pages frames-each), t .1 .1))
+  meaning-more : (e : Ending) (n pages frames : ℕ) (c : Core) → c₀ .cycle ≤ limit * i → Told e n pages frames c
+      → Told e (suc n) (suc pages) (frames-each + frames) c
+  meaning-more allDone n pages frames c h t = (omega (arith, t .0), (omega (arith, t .1 .0, suc-mul n frames-each), t .1 .1))
+  meaning-more timedOut n pages frames c h t = absurd (omega (arith, t .1 .1 .0))
+  meaning-more protected n pages frames c h t = t
 
   -- the cells of the pages done, and every other cell as it was
   abbrev pub Leaves : ℕ → ℕ → FrameBench → Run → Type 0
   Leaves n k d r =
       (actedAll P (r .acts) d .memory ≡ overwritten a (carried (k + r .pages)) m₀)
-      × Told (r .ending) n k (r .pages) (sent (r .acts)) (actedAll P (r .acts) d .core)
+      × (Told (r .ending) n (r .pages) (sent (r .acts)) (actedAll P (r .acts) d .core) × (allExecuted P (r .acts) d ≡ true))
 
   abbrev rest : ℕ → ℕ → FrameBench → Run
   rest n k d = pagesFrom P i limit a bytes n k d
@@ -162,42 +169,30 @@ module _ (P : Part) (sound : Sound P) (i limit : ℕ) (some : 0 < i) (small : i 
     some-k : 0 < length bytes-k
     some-k = part-some P sound a bytes k h
 
-    -- part k is protected
-    untaken : protects P c₀ at-k ≡ true → Leaves (suc n) k d (rest (suc n) k d)
-    untaken p =
-        let u = page-untaken P sound i limit some small polls d (idle .low) free positive at-k bytes-k low-k some-k (protects-kept P c₀ d idle at-k ∙ p) in
-        let still : running (next .core) ≡ false = ap running (u .core) in
-        let acts = partActs P i limit a bytes k d in
-        let y : actedAll P (acts ++ (wrdi ∷ [])) d ≡ acted P wrdi next = acted-all-append P acts (wrdi ∷ []) d in
-        let last : actedAll P (acts ++ (wrdi ∷ [])) d .core ≡ withWel 0 (next .core) =
-        ap (λ (x : FrameBench). x .core) y ∙ disables P (next .core) still in
-        let frames : sent (acts ++ (wrdi ∷ [])) ≡ 0 * frames-each + 4 =
-        omega (arith, sent-append acts (wrdi ∷ []), u .frames, zero-mul frames-each) in
-        let left : withWel 0 (next .core) .left ≡ 0 = ap (λ (c : Core). c .left) (u .core) in
-        let here : at-k ≡ first-cell (k + 0) = ap first-cell (omega arith) in
-        subst (Leaves (suc n) k d) (sym (pages-untaken P i limit a bytes n k d still (ap (λ (c : Core). on (c .wel)) (u .core)))) (
-          stays k (d .memory) _ (ap (λ (x : FrameBench). x .memory) y ∙ u .memory) w,
-          (sym (ap (protects P c₀) here) ∙ p, (frames, (ap (λ (c : Core). c .left) last ∙ left, ap (λ (c : Core). c .wel) last))),
-        )
+    -- it is not protected
+    unprotected-k : protects P (d .core) at-k ≡ false
+    unprotected-k =
+        let below = part-below P sound a bytes k h in
+        let low : at-k < lowest P c₀ = omega arith in
+        protects-kept P c₀ d idle at-k ∙ lt-leb (lowest P c₀) at-k low
+
+    executed-k : allExecuted P (partActs P i limit a bytes k d) d ≡ true
+    executed-k = page-executed P sound i limit some small polls d (idle .low) free positive at-k bytes-k low-k some-k unprotected-k
 
     -- its wait runs out
-    runs-out : protects P c₀ at-k ≡ false → limit * i < c₀ .cycle → Leaves (suc n) k d (rest (suc n) k d)
-    runs-out p few =
-        let u =
-        page-late P sound i limit some small polls d (idle .low) free positive at-k bytes-k low-k some-k
-        (protects-kept P c₀ d idle at-k ∙ p) (rw (idle .cycle) few) in
+    runs-out : limit * i < c₀ .cycle → Leaves (suc n) k d (rest (suc n) k d)
+    runs-out few =
+        let u = page-late P sound i limit some small polls d (idle .low) free positive at-k bytes-k low-k some-k unprotected-k (rw (idle .cycle) few) in
         let left : next .core .left ≡ c₀ .cycle - limit * i = ap (λ (c : Core). c .left) (u .core) ∙ ap (λ (x : ℕ). x - limit * i) (idle .cycle) in
         let positive-left : 0 < next .core .left = omega arith in
         subst (Leaves (suc n) k d) (sym (pages-late P i limit a bytes n k d (lt-ltb _ _ positive-left)))
-        (stays k (d .memory) _ (u .memory) w, (refl, (u .frames, (few, left))))
+        (stays k (d .memory) _ (u .memory) w, ((refl, (u .frames, (few, left))), executed-k))
 
     -- it is done, and the others follow
-    goes-on : protects P c₀ at-k ≡ false → c₀ .cycle ≤ limit * i
+    goes-on : c₀ .cycle ≤ limit * i
         → (Idle P c₀ next → Written (suc k) (next .memory) → Leaves n (suc k) next (rest n (suc k) next)) → Leaves (suc n) k d (rest (suc n) k d)
-    goes-on p enough others =
-        let u =
-        page-done P sound i limit some small polls d (idle .low) free positive at-k bytes-k low-k some-k
-        (protects-kept P c₀ d idle at-k ∙ p) (rw (idle .cycle) enough) in
+    goes-on enough others =
+        let u = page-done P sound i limit some small polls d (idle .low) free positive at-k bytes-k low-k some-k unprotected-k (rw (idle .cycle) enough) in
         let acts = partActs P i limit a bytes k d in
         let stored =
         u .memory ∙ stored-run P sound at-k bytes-k (d .memory) low-k (part-page P sound a bytes k h) (idle .whole) ∙ ap (overwritten at-k bytes-k) w in
@@ -218,27 +213,28 @@ module _ (P : Part) (sound : Sound P) (i limit : ℕ) (some : 0 < i) (small : i 
         let on-k : suc k + r .pages ≡ k + suc (r .pages) = omega arith in
         let frames : frames-each + sent (r .acts) ≡ sent (acts ++ r .acts) =
         omega (arith, sent-append acts (r .acts), u .frames, ap (λ (x : ℕ). roundedUp x i) (idle .cycle)) in
-        subst (Leaves (suc n) k d) (sym (pages-next P i limit a bytes n k d (ap running (u .core)) (ap (λ (c : Core). on (c .wel)) (u .core)))) (
+        subst (Leaves (suc n) k d) (sym (pages-next P i limit a bytes n k d (ap running (u .core)))) (
           ap (λ (x : FrameBench). x .memory) y ∙ l .0 ∙ ap (λ (j : ℕ). overwritten a (carried j) m₀) on-k,
-          subst (λ (f : ℕ). Told (r .ending) (suc n) k (suc (r .pages)) f (actedAll P (acts ++ r .acts) d .core)) frames
-              (subst (λ (x : FrameBench). Told (r .ending) (suc n) k (suc (r .pages)) (frames-each + sent (r .acts)) (x .core)) (sym y)
-              (meaning-more (r .ending) n k (r .pages) (sent (r .acts)) (actedAll P (r .acts) next .core) enough (l .1))),
+          (
+            subst (λ (f : ℕ). Told (r .ending) (suc n) (suc (r .pages)) f (actedAll P (acts ++ r .acts) d .core)) frames
+                (subst (λ (x : FrameBench). Told (r .ending) (suc n) (suc (r .pages)) (frames-each + sent (r .acts)) (x .core)) (sym y)
+                (meaning-more (r .ending) n (r .pages) (sent (r .acts)) (actedAll P (r .acts) next .core) enough (l .1 .0))),
+            executed-append P acts (r .acts) d executed-k (l .1 .1),
+          ),
         )
 
-    -- one of the three
-    part-leaves : (b : Bool) → protects P c₀ at-k ≡ b
-        → (Idle P c₀ next → Written (suc k) (next .memory) → Leaves n (suc k) next (rest n (suc k) next)) → Leaves (suc n) k d (rest (suc n) k d)
-    part-leaves true p others = untaken p
-    part-leaves false p others = elim (decLe (c₀ .cycle) (limit * i)) [
-      | yes enough ↦ goes-on p enough others
-      | no few ↦ runs-out p (omega arith)
+    -- one of the two
+    part-leaves : (Idle P c₀ next → Written (suc k) (next .memory) → Leaves n (suc k) next (rest n (suc k) next)) → Leaves (suc n) k d (rest (suc n) k d)
+    part-leaves others = elim (decLe (c₀ .cycle) (limit * i)) [
+      | yes enough ↦ goes-on enough others
+      | no few ↦ runs-out (omega arith)
     ]
 
   pub parts-leave : (n k : ℕ) (d : FrameBench) → k + n ≡ parts → Idle P c₀ d → Written k (d .memory) → Leaves n k d (rest n k d)
   parts-leave zero k d e idle w =
       subst (Leaves zero k d) (sym (pages-none P i limit a bytes 0 k d refl))
-      (stays k (d .memory) (d .memory) refl w, (refl, (omega (arith, zero-mul frames-each), idle .left)))
+      (stays k (d .memory) (d .memory) refl w, ((refl, (omega (arith, zero-mul frames-each), idle .left)), refl))
   parts-leave (suc n) k d e idle w =
       let below : k < parts = omega arith in
-      part-leaves n k d below idle w (protects P c₀ (first-cell k)) refl
+      part-leaves n k d below idle w
       (λ idle-next written. parts-leave n (suc k) (afterPart P i limit a bytes k d) (omega arith) idle-next written)

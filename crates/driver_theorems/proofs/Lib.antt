@@ -1,5 +1,6 @@
--- Theorems on the driver's runs: how many polls a wait makes, what a page and a run leave, what each ending means; case h.
+-- Theorems on the driver's runs: how many polls a wait makes, that every frame is executed, what a page and a run leave, what each ending means; case h.
 pub mod Addresses
+pub mod Executed
 pub mod Writing
 pub mod Polls
 pub mod Stored

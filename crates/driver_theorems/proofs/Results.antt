@@ -1,8 +1,8 @@
 -- What a run leaves, for any sound part and every input that is not refused and has data: how the first wait ends, what is stored, and how many
 -- frames were sent.
 use mathlib.Core.Path.{_≡_, refl, ap, sym, subst, _∙_}
-use mathlib.Core.Bool.{Bool, true, false, true≢false}
-use mathlib.Core.Logic.{_⊎_, inl, inr}
+use mathlib.Core.Bool.{Bool, true, false}
+use mathlib.Core.Logic.{_↔_, _⊎_, inl, inr}
 use mathlib.Core.List.{List}
 use Prim.Native.Nat.{ℕ, _+_, _-_, _*_, _^_, _<_, _≤_}
 use native.Mathlib.Decide.{decLe}
@@ -10,45 +10,42 @@ use native.Mathlib.Omega.{arith}
 use lib.ListN.{length}
 use lib.Dec.{leb}
 use borrow.Author.Tests.{lt-ltb, le-ltb, leb-true, ltb-false, ltb-true}
-use Rattle.laws.specs.Pick.{at-yes, at-no, and-left, pick-case}
+use Rattle.laws.specs.Pick.{pick, at-yes, at-no, and-left, pick-case}
 use Rattle.codes.specs.Part.{Part}
-use Rattle.chip.specs.Questions.{protects}
-use Rattle.chip.specs.Records.{running, waitsStatus, withoutCycle}
+use Rattle.chip.specs.Questions.{lowest}
+use Rattle.chip.specs.Records.{running, status, waitsStatus, withoutCycle}
 use Rattle.chip.specs.Time.{ended}
 use Rattle.chip.specs.declared.Core.{Core}
 use Rattle.chip.proofs.Within.{within}
 use Rattle.codes.proofs.Sound.{Sound}
-use Rattle.split.specs.Split.{count, splitAddress}
+use Rattle.split.specs.Split.{count}
 use Rattle.split.specs.Pieces.{pieces}
 use Rattle.split.proofs.Whole.{pieces-none, whole}
-use Rattle.frames.specs.Play.{FrameBench, actedAll}
-use Rattle.driver.specs.Sequence.{sent, pollsOn, firstWait, Ending, allDone, timedOut, notTaken, Run, stopped, begun, allParts, run}
-use Rattle.driver_theorems.specs.Counts.{roundedUp, overwritten, onceEnded}
+use Rattle.frames.specs.Play.{Act, FrameBench, actedAll}
+use Rattle.driver.specs.Sequence.{sent, pollsOn, firstWait, Ending, allDone, timedOut, protected, Run, stopped, begun, allParts, lowestShown, touches, run}
+use Rattle.driver.specs.Answers.{endingNumber}
+use Rattle.driver_theorems.specs.Counts.{roundedUp, allExecuted, overwritten, onceEnded}
 use Rattle.driver.proofs.Playing.{acted-all-append, sent-append}
 use Rattle.driver.proofs.Ready.{Ready, ready-acted-all}
 use Rattle.driver.proofs.Waits.{polls-on-free}
 use Rattle.driver.proofs.Joined.{first-wait}
 use Rattle.driver_theorems.proofs.Polls.{waited, late}
-use Rattle.driver.proofs.Drives.{run-late, run-parts}
+use Rattle.driver.proofs.Drives.{run-late, run-touches, run-parts}
+use Rattle.driver.proofs.Seen.{seen-lowest}
 use Rattle.driver_theorems.specs.Endings.{pageFrames, Meaning}
+use Rattle.driver_theorems.proofs.Executed.{executed-append, first-executed}
 use Rattle.driver_theorems.proofs.Leaves.{Idle, parts-leave}
 use Rattle.driver_theorems.proofs.Stored.{overwritten-none}
 
+-- no two endings are one: they have different numbers
 done-late : _≡_ {A = Ending} allDone timedOut → ⊥
-done-late e = true≢false (ap isAll e)
-  where
-    isAll : Ending → Bool
-    isAll allDone = true
-    isAll timedOut = false
-    isAll notTaken = false
+done-late e = let n : _≡_ {A = ℕ} 0 9 = ap endingNumber e in omega arith
 
-untaken-late : _≡_ {A = Ending} notTaken timedOut → ⊥
-untaken-late e = true≢false (ap isUntaken e)
-  where
-    isUntaken : Ending → Bool
-    isUntaken allDone = false
-    isUntaken timedOut = false
-    isUntaken notTaken = true
+done-protected : _≡_ {A = Ending} allDone protected → ⊥
+done-protected e = let n : _≡_ {A = ℕ} 0 13 = ap endingNumber e in omega arith
+
+late-protected : _≡_ {A = Ending} timedOut protected → ⊥
+late-protected e = let n : _≡_ {A = ℕ} 9 13 = ap endingNumber e in omega arith
 
 -- an input that is not refused, with data; the reading is one of 32 bits
 pub record Given (P : Part) (i limit a : ℕ) (bytes : List ℕ) (d : FrameBench) : Type 0 where
@@ -93,18 +90,24 @@ module _ (P : Part) (sound : Sound P) (i limit a : ℕ) (bytes : List ℕ) (d : 
     pub left : rested .core .left ≡ 0
     pub low : rested .core .last < 2 ^ 32
     pub cycle : rested .core .cycle ≡ d .core .cycle
+    pub wel : rested .core .wel ≡ pick (running (d .core)) 0 (d .core .wel)
     pub memory : rested .memory ≡ onceEnded P (d .core) (d .memory)
 
-  -- no cycle runs: one poll
+  -- no cycle runs: one poll, which leaves the device as it was
+  waits-idle : running (d .core) ≡ false → (d ≡ rested) × (first ≡ 1)
+  waits-idle e =
+      let none = polls-on-free P i d (limit - 1) e in
+      (sym (ap (λ acts. actedAll P acts d) none) ∙ follows .0, omega (arith, follows .1, ap sent none))
+
   pub rests-idle : running (d .core) ≡ false → Rests 1
   rests-idle e =
-      let none = polls-on-free P i d (limit - 1) e in
-      let same : d ≡ rested = sym (ap (λ acts. actedAll P acts d) none) ∙ follows .0 in
+      let same = waits-idle e .0 in
       record {
-        frames-first = omega (arith, follows .1, ap sent none);
+        frames-first = waits-idle e .1;
         left = sym (ap (λ (x : FrameBench). x .core .left) same) ∙ (let z = ltb-false 0 (d .core .left) e in omega arith);
         low = subst (λ (x : FrameBench). x .core .last < 2 ^ 32) same (g .low);
         cycle = sym (ap (λ (x : FrameBench). x .core .cycle) same);
+        wel = sym (ap (λ (x : FrameBench). x .core .wel) same) ∙ sym (at-no _ _ e);
         memory = sym (ap (λ (x : FrameBench). x .memory) same) ∙ sym (at-no _ _ e);
       }
 
@@ -123,11 +126,13 @@ module _ (P : Part) (sound : Sound P) (i limit a : ℕ) (bytes : List ℕ) (d : 
         left = sym (ap (λ (x : FrameBench). x .core .left) (follows .0)) ∙ ap (λ (c : Core). c .left) (o .core);
         low = subst (λ (x : FrameBench). x .core .last < 2 ^ 32) (follows .0) (rw (ap (λ (c : Core). c .last) (o .core)) (o .low));
         cycle = sym (ap (λ (x : FrameBench). x .core .cycle) (follows .0)) ∙ ap (λ (c : Core). c .cycle) (o .core) ∙ ended-cycle (d .core);
+        wel = sym (ap (λ (x : FrameBench). x .core .wel) (follows .0)) ∙ ap (λ (c : Core). c .wel) (o .core) ∙ sym (at-yes _ _ e);
         memory = sym (ap (λ (x : FrameBench). x .memory) (follows .0)) ∙ o .memory ∙ sym (at-yes _ _ e);
       }
 
   -- one runs, and they do not: 9 with no page done, the limit's frames sent, and only time moved
   pub record FirstLate : Type 0 where
+    pub stops : whole-run ≡ stopped (firstWait P i limit d) timedOut
     pub ending : whole-run .ending ≡ timedOut
     pub pages : whole-run .pages ≡ 0
     pub frames : sent (whole-run .acts) ≡ limit
@@ -145,6 +150,7 @@ module _ (P : Part) (sound : Sound P) (i limit a : ℕ) (bytes : List ℕ) (d : 
       let r : whole-run ≡ stopped (firstWait P i limit d) timedOut = run-late P i limit a bytes d some-bytes (lt-ltb _ _ runs) in
       let y = ap (λ (x : Run). actedAll P (x .acts) d) r in
       record {
+        stops = r;
         ending = ap (λ (x : Run). x .ending) r;
         pages = ap (λ (x : Run). x .pages) r;
         frames = ap (λ (x : Run). sent (x .acts)) r ∙ omega (arith, follows .1, w .polls);
@@ -153,7 +159,8 @@ module _ (P : Part) (sound : Sound P) (i limit a : ℕ) (bytes : List ℕ) (d : 
         memory = ap (λ (x : FrameBench). x .memory) y ∙ sym (ap (λ (x : FrameBench). x .memory) (follows .0)) ∙ w .runs .memory;
       }
 
-  -- ---- after a first wait that ends: the cells of the pages done, every other cell as it is, and what the ending says
+  -- ---- after a first wait that ends, with no cell of the run protected: the cells of the pages done, every other cell as it is, and what the
+  -- ending says
 
   abbrev pub parts : ℕ
   parts = count (P .size) (P .page) a (length bytes)
@@ -168,16 +175,24 @@ module _ (P : Part) (sound : Sound P) (i limit a : ℕ) (bytes : List ℕ) (d : 
 
   -- what an ending says of the whole run
   abbrev Says : Run → Ending → ℕ → FrameBench → Type 0
-  Says r e frames x = Meaning P i limit a (length bytes) (rested .core) e parts 0 (r .pages) frames (x .core)
+  Says r e frames x = Meaning i limit (rested .core) e parts (r .pages) frames (x .core)
 
   pub record Leaving (n : ℕ) (r : Run) : Type 0 where
     pub frames : ℕ
     pub counts : sent (r .acts) ≡ n + frames
     pub memory : actedAll P (r .acts) d .memory ≡ overwritten a (pieces (P .size) (P .page) a bytes (r .pages)) (onceEnded P (d .core) (d .memory))
-    pub meaning : Meaning P i limit a (length bytes) (rested .core) (r .ending) parts 0 (r .pages) frames (actedAll P (r .acts) d .core)
+    pub meaning : Meaning i limit (rested .core) (r .ending) parts (r .pages) frames (actedAll P (r .acts) d .core)
+    pub executed : allExecuted P (r .acts) d ≡ true
 
-  pub run-leaves : (n : ℕ) → Rests n → Leaving n whole-run
-  run-leaves n r =
+  -- the run's cells touch the protected block of the device that the first wait leaves
+  abbrev touched : Bool
+  touched = touches P (rested .core) a (length bytes)
+
+  still : (n : ℕ) → Rests n → running (rested .core) ≡ false
+  still n r = le-ltb 0 (rested .core .left) (let z = r .left in omega arith)
+
+  run-leaves : (n : ℕ) → Rests n → touched ≡ false → Leaving n whole-run
+  run-leaves n r t =
       let idle : Idle P (rested .core) rested = record {
         left = r .left;
         low = r .low;
@@ -190,11 +205,10 @@ module _ (P : Part) (sound : Sound P) (i limit a : ℕ) (bytes : List ℕ) (d : 
       let none : rested .memory ≡ overwritten a (carried 0) (rested .memory) =
       sym (ap (λ (l : List ℕ). overwritten a l (rested .memory)) (pieces-none (P .size) (P .page) a bytes) ∙ overwritten-none a (rested .memory)) in
       let l =
-      parts-leave P sound i limit (g .interval-some) (g .interval-most) (g .limit-some) a bytes (rested .core) positive (rested .memory) (idle .whole)
-      parts 0 rested (omega arith) idle none in
-      let still : running (rested .core) ≡ false = le-ltb 0 (rested .core .left) (let z = r .left in omega arith) in
+      parts-leave P sound i limit (g .interval-some) (g .interval-most) (g .limit-some) a bytes (rested .core) positive
+      (ltb-false _ _ t) (rested .memory) (idle .whole) parts 0 rested (omega arith) idle none in
       let all = allParts P i limit a bytes rested in
-      let there : begun (firstWait P i limit d) all ≡ whole-run = sym (run-parts P i limit a bytes d some-bytes still) in
+      let there : begun (firstWait P i limit d) all ≡ whole-run = sym (run-parts P i limit a bytes d some-bytes (still n r) t) in
       let count-from : 0 + all .pages ≡ all .pages = omega arith in
       let y : actedAll P (all .acts) rested ≡ actedAll P (begun (firstWait P i limit d) all .acts) d =
       sym (acted-all-append P (firstWait P i limit d) (all .acts) d) in
@@ -207,26 +221,47 @@ module _ (P : Part) (sound : Sound P) (i limit a : ℕ) (bytes : List ℕ) (d : 
             ∙ l .0
             ∙ ap (λ (k : ℕ). overwritten a (carried k) (rested .memory)) count-from
             ∙ ap (overwritten a (carried (all .pages))) (r .memory);
-        meaning = subst (Says all (all .ending) (sent (all .acts))) y (l .1);
+        meaning = subst (Says all (all .ending) (sent (all .acts))) y (l .1 .0);
+        executed = executed-append P (firstWait P i limit d) (all .acts) d (first-executed P i limit d) (l .1 .1);
       })
 
-  -- ---- one of the two for every input
+  -- ---- one of the three for every input
 
   pub data First : Type 0 where
-    ends : (n : ℕ) → Rests n → First
+    ends : (n : ℕ) → Rests n → touched ≡ false → First
+    ends-touched : (n : ℕ) → Rests n → touched ≡ true → First
     uses-limit : FirstLate → First
 
   pub first-ends : First
   first-ends = by (running (d .core)) refl
     where
+      rests : (n : ℕ) (b : Bool) → touched ≡ b → Rests n → First
+      rests n false t r = ends n r t
+      rests n true t r = ends-touched n r t
+
       by : (b : Bool) → running (d .core) ≡ b → First
-      by false e = ends 1 (rests-idle e)
+      by false e = rests 1 touched refl (rests-idle e)
       by true e = elim (decLe (d .core .left) ((limit - 1) * i)) [
-        | yes enough ↦ ends (1 + roundedUp (d .core .left) i) (rests-running e enough)
+        | yes enough ↦ rests (1 + roundedUp (d .core .left) i) touched refl (rests-running e enough)
         | no few ↦
             let late-left : (limit - 1) * i < d .core .left = omega arith in
             uses-limit (first-late late-left)
       ]
+
+  stops-touched : (n : ℕ) → Rests n → touched ≡ true → whole-run ≡ stopped (firstWait P i limit d) protected
+  stops-touched n r t = run-touches P i limit a bytes d some-bytes (still n r) t
+
+  -- every frame of the run is executed where it is sent: every page sent is taken
+  pub run-executed : allExecuted P (whole-run .acts) d ≡ true
+  run-executed = by first-ends
+    where
+      wait-alone : (e : Ending) → whole-run ≡ stopped (firstWait P i limit d) e → allExecuted P (whole-run .acts) d ≡ true
+      wait-alone e r = ap (λ (x : Run). allExecuted P (x .acts) d) r ∙ first-executed P i limit d
+
+      by : First → allExecuted P (whole-run .acts) d ≡ true
+      by (uses-limit l) = wait-alone timedOut (l .stops)
+      by (ends-touched n r t) = wait-alone protected (stops-touched n r t)
+      by (ends n r t) = run-leaves n r t .executed
 
   -- ---- by the ending
 
@@ -242,48 +277,76 @@ module _ (P : Part) (sound : Sound P) (i limit a : ℕ) (bytes : List ℕ) (d : 
     where
       by : First → AllDone
       by (uses-limit l) = absurd (done-late (sym e ∙ l .ending))
-      by (ends n r) =
-          let l = run-leaves n r in
-          let t = subst (λ (x : Ending). Says whole-run x (l .frames) exit) e (l .meaning) in
+      by (ends-touched n r t) = absurd (done-protected (sym e ∙ ap (λ (x : Run). x .ending) (stops-touched n r t)))
+      by (ends n r t) =
+          let l = run-leaves n r t in
+          let s = subst (λ (x : Ending). Says whole-run x (l .frames) exit) e (l .meaning) in
           record {
-            pages = t .0;
+            pages = s .0;
             memory =
                 l .memory
-                ∙ ap (λ (k : ℕ). overwritten a (carried k) ended-first) (t .0)
-                ∙ ap (λ (s : List ℕ). overwritten a s ended-first) (whole (P .size) (P .page) a bytes (sound .page-some) (g .inside));
-            left = t .1 .1;
+                ∙ ap (λ (k : ℕ). overwritten a (carried k) ended-first) (s .0)
+                ∙ ap (λ (l : List ℕ). overwritten a l ended-first) (whole (P .size) (P .page) a bytes (sound .page-some) (g .inside));
+            left = s .1 .1;
             frames =
                 λ idle. l .counts
                 ∙ (let one = sym (r .frames-first) ∙ rests-idle idle .frames-first in
-                omega (arith, one, t .1 .0, ap (λ (x : ℕ). parts * (2 + roundedUp x i)) (r .cycle)));
+                omega (arith, one, s .1 .0, ap (λ (x : ℕ). parts * (2 + roundedUp x i)) (r .cycle)));
           }
 
-  -- 10: the earlier pages stored, WEL 0, no cycle; the page that was not taken is protected
-  pub record NotTaken : Type 0 where
-    pub memory : exit .memory ≡ overwritten a (pieces (P .size) (P .page) a bytes (whole-run .pages)) (onceEnded P (d .core) (d .memory))
-    pub wel : exit .core .wel ≡ 0
+  -- 13: the first wait and nothing more, and so the device as that wait leaves it: no cell changed but by a cycle that was already running, WEL as
+  -- it is, or 0 where that cycle ended. From an idle device it is one poll, and leaves everything as it was
+  pub record Refuses : Type 0 where
+    pub acts : whole-run .acts ≡ firstWait P i limit d
+    pub pages : whole-run .pages ≡ 0
+    pub memory : exit .memory ≡ onceEnded P (d .core) (d .memory)
+    pub wel : exit .core .wel ≡ pick (running (d .core)) 0 (d .core .wel)
     pub left : exit .core .left ≡ 0
-    pub protected : protects P (rested .core) (splitAddress (P .size) (P .page) a (length bytes) (0 + whole-run .pages)) ≡ true
-    pub frames : running (d .core) ≡ false → sent (whole-run .acts) ≡ 1 + (whole-run .pages * pageFrames i (d .core) + 4)
+    pub idle : running (d .core) ≡ false → (exit ≡ d) × (sent (whole-run .acts) ≡ 1)
 
-  pub run-not-taken : whole-run .ending ≡ notTaken → NotTaken
-  run-not-taken e = by first-ends
+  pub run-protected : whole-run .ending ≡ protected → Refuses
+  run-protected e = by first-ends
     where
-      by : First → NotTaken
-      by (uses-limit l) = absurd (untaken-late (sym e ∙ l .ending))
-      by (ends n r) =
-          let l = run-leaves n r in
-          let t = subst (λ (x : Ending). Says whole-run x (l .frames) exit) e (l .meaning) in
+      by : First → Refuses
+      by (uses-limit l) = absurd (late-protected (sym (l .ending) ∙ e))
+      by (ends n r t) = absurd (subst (λ (x : Ending). Says whole-run x (run-leaves n r t .frames) exit) e (run-leaves n r t .meaning))
+      by (ends-touched n r t) =
+          let s = stops-touched n r t in
+          let acts : whole-run .acts ≡ firstWait P i limit d = ap (λ (x : Run). x .acts) s in
+          let there : exit ≡ rested = ap (λ (l : List Act). actedAll P l d) acts in
           record {
-            memory = l .memory;
-            wel = t .1 .1 .1;
-            left = t .1 .1 .0;
-            protected = t .0;
-            frames =
-                λ idle. l .counts
-                ∙ (let one = sym (r .frames-first) ∙ rests-idle idle .frames-first in
-                omega (arith, one, t .1 .0, ap (λ (x : ℕ). whole-run .pages * (2 + roundedUp x i)) (r .cycle)));
+            acts = acts;
+            pages = ap (λ (x : Run). x .pages) s;
+            memory = ap (λ (x : FrameBench). x .memory) there ∙ r .memory;
+            wel = ap (λ (x : FrameBench). x .core .wel) there ∙ r .wel;
+            left = ap (λ (x : FrameBench). x .core .left) there ∙ r .left;
+            idle = λ free. (there ∙ sym (waits-idle free .0), ap sent acts ∙ waits-idle free .1);
           }
+
+  -- and it comes exactly where the first wait ends and some byte of the run would lie at or above the lowest protected address of the status that
+  -- the wait leaves
+  pub run-protected-exactly : (whole-run .ending ≡ protected)
+      ↔ ((running (rested .core) ≡ false) × ((j : ℕ) × ((j < length bytes) × (lowestShown P (status (rested .core)) ≤ a + j))))
+  run-protected-exactly = (by first-ends, back)
+    where
+      shown : lowestShown P (status (rested .core)) ≡ lowest P (rested .core)
+      shown = seen-lowest (status (rested .core)) (rested .core) refl P
+
+      Touching : Type 0
+      Touching = (running (rested .core) ≡ false) × ((j : ℕ) × ((j < length bytes) × (lowestShown P (status (rested .core)) ≤ a + j)))
+
+      by : First → whole-run .ending ≡ protected → Touching
+      by (uses-limit l) e = absurd (late-protected (sym (l .ending) ∙ e))
+      by (ends n r t) e = absurd (subst (λ (x : Ending). Says whole-run x (run-leaves n r t .frames) exit) e (run-leaves n r t .meaning))
+      by (ends-touched n r t) e =
+          let above : lowest P (rested .core) < a + length bytes = ltb-true _ _ t in
+          let some = g .carries in
+          (still n r, (length bytes - 1, (omega arith, omega (arith, shown))))
+
+      back : Touching → whole-run .ending ≡ protected
+      back x =
+          let above : lowest P (rested .core) < a + length bytes = omega (arith, shown, x .1 .1 .0, x .1 .1 .1) in
+          ap (λ (r : Run). r .ending) (run-touches P i limit a bytes d some-bytes (x .0) (lt-ltb _ _ above))
 
   -- 9: no page done and none stored, and a cycle still runs; its wait made as many polls as its limit. The memory is as it was, or, where a page's
   -- wait ran out, as it is once a cycle that was already running has ended
@@ -298,18 +361,19 @@ module _ (P : Part) (sound : Sound P) (i limit a : ℕ) (bytes : List ℕ) (d : 
     where
       by : First → TimedOut
       by (uses-limit l) = record { pages = l .pages; memory = inl (l .memory); left = l .runs; frames = inl (l .frames) }
-      by (ends n r) =
-          let l = run-leaves n r in
-          let t = subst (λ (x : Ending). Says whole-run x (l .frames) exit) e (l .meaning) in
-          let few = t .1 .1 .0 in
+      by (ends-touched n r t) = absurd (late-protected (sym e ∙ ap (λ (x : Run). x .ending) (stops-touched n r t)))
+      by (ends n r t) =
+          let l = run-leaves n r t in
+          let s = subst (λ (x : Ending). Says whole-run x (l .frames) exit) e (l .meaning) in
+          let few = s .1 .1 .0 in
           record {
-            pages = t .0;
+            pages = s .0;
             memory =
                 inr
                 (l .memory
-                ∙ ap (λ (k : ℕ). overwritten a (carried k) ended-first) (t .0)
-                ∙ ap (λ (s : List ℕ). overwritten a s ended-first) (pieces-none (P .size) (P .page) a bytes)
+                ∙ ap (λ (k : ℕ). overwritten a (carried k) ended-first) (s .0)
+                ∙ ap (λ (l : List ℕ). overwritten a l ended-first) (pieces-none (P .size) (P .page) a bytes)
                 ∙ overwritten-none a ended-first);
-            left = omega (arith, t .1 .1 .1);
-            frames = inr (l .counts ∙ omega (arith, t .1 .0, r .frames-first));
+            left = omega (arith, s .1 .1 .1);
+            frames = inr (l .counts ∙ omega (arith, s .1 .0, r .frames-first));
           }

@@ -1,14 +1,14 @@
--- A page of any sound part: what WREN and WRITE do to an idle device, how many frames the page takes, and what it leaves. It is done, or its
--- wait runs out of polls, or it is protected and not taken.
+-- A page of any sound part, sent to an idle device at an address that is not protected: WREN and WRITE are executed. How many frames the page
+-- takes, and what it leaves: it is done, or its wait runs out of polls.
 use mathlib.Core.Path.{_≡_, refl, ap, sym, _∙_}
-use mathlib.Core.Bool.{Bool, true, false, not}
+use mathlib.Core.Bool.{true, false}
 use mathlib.Core.List.{List, [], _∷_}
 use Prim.Native.Nat.{ℕ, suc, _+_, _-_, _*_, _/_, _%_, _^_, _<_, _≤_}
 use native.Mathlib.Omega.{arith}
 use lib.ListN.{length}
 use lib.Dec.{ltb}
 use borrow.Author.Tests.{lt-ltb, le-ltb, le-leb, eq-eqb}
-use Rattle.laws.specs.Pick.{pick, at-yes, at-no, and-both, and-no-left}
+use Rattle.laws.specs.Pick.{pick, at-yes, and-both}
 use Rattle.codes.specs.Part.{Part}
 use Rattle.codes.specs.Status.{on}
 use Rattle.chip.specs.Questions.{protects}
@@ -16,38 +16,36 @@ use Rattle.latch.specs.Latches.{stored}
 use Rattle.chip.specs.Records.{running, pageWaits, withWel, withTime, withCycle, withoutCycle}
 use Rattle.codes.specs.Instructions.{decode, row, countFits}
 use Rattle.codes.specs.Verdicts.{isExecuted, verdictBy}
-use Rattle.chip.specs.Time.{elapsed, ends, ended, endedMemory, timed}
+use Rattle.chip.specs.Time.{ended, endedMemory}
 use Rattle.latch.specs.declared.Latch.{Latch}
 use Rattle.chip.specs.declared.Core.{Core}
 use Rattle.codes.specs.declared.Instruction.the-variants.{Write}
 use Rattle.codes.proofs.Sound.{Sound}
-use Rattle.chip.proofs.Passing.{on-core, no-end}
 use Rattle.frames.specs.Bytes.{written}
 use Rattle.frames.specs.After.{judged, after}
 use Rattle.frames.specs.Play.{Act, FrameBench, actedAll}
-use Rattle.driver.specs.Sequence.{sent, writeBytes, latePoll, pollsOn, pageWait, wrenAndWrite, pageActs}
-use Rattle.driver_theorems.specs.Counts.{roundedUp}
+use Rattle.driver.specs.Sequence.{sent, writeBytes, pollsOn, pageWait, wrenAndWrite, pageActs}
+use Rattle.driver_theorems.specs.Counts.{roundedUp, allExecuted}
 use Rattle.driver.proofs.Playing.{acted-all-append, sent-append}
-use Rattle.driver.proofs.Frames.{poll-leaves}
-use Rattle.driver.proofs.Waits.{polls-on-free}
 use Rattle.driver_theorems.proofs.Polls.{waited, late}
+use Rattle.driver_theorems.proofs.Executed.{executed-append, wait-executed}
 use Rattle.driver_theorems.proofs.Addresses.{write-length, write-address}
 
 abbrev wrenBytes : List ℕ
 wrenBytes = 0x06 ∷ []
 
--- WREN sets WEL, WRDI clears it, where no cycle runs
-pub enables : (P : Part) (c : Core) → running c ≡ false → after P (running c) true c wrenBytes 8 ≡ withWel 1 c
+-- where no cycle runs WREN is executed, and sets WEL
+enabling : (P : Part) (c : Core) → running c ≡ false → isExecuted (judged P (running c) true c wrenBytes 8) ≡ true
 unfolding decode verdictBy pick
-enables P c e = rw e refl
+enabling P c e = rw e refl
 
-pub disables : (P : Part) (c : Core) → running c ≡ false → after P (running c) true c (0x04 ∷ []) 8 ≡ withWel 0 c
-unfolding decode verdictBy pick
-disables P c e = rw e refl
+enables : (P : Part) (c : Core) → running c ≡ false → after P (running c) true c wrenBytes 8 ≡ withWel 1 c
+unfolding decode pick
+enables P c e = at-yes _ _ (enabling P c e)
 
--- a WRITE of whole bytes where no cycle runs and WEL is 1: it is executed unless the address is protected
+-- a WRITE of whole bytes where no cycle runs, WEL is 1 and the address is not protected: it is executed
 module _ (P : Part) (sound : Sound P) (c : Core) (a : ℕ) (bytes : List ℕ) (low : a < P .size) (some : 0 < length bytes) (idle : running c ≡ false)
-    (enabled : on (c .wel) ≡ true) where
+    (enabled : on (c .wel) ≡ true) (unprotected : protects P c a ≡ false) where
   abbrev bits : ℕ
   bits = 8 * length (writeBytes P a bytes)
 
@@ -60,20 +58,15 @@ module _ (P : Part) (sound : Sound P) (c : Core) (a : ℕ) (bytes : List ℕ) (l
   long : ltb bits 8 ≡ false
   long = let many : 8 ≤ bits = omega arith in le-ltb bits 8 many
 
-  judges : (b : Bool) → protects P c a ≡ b → isExecuted (judged P (running c) true c (writeBytes P a bytes) bits) ≡ not b
+  executed : isExecuted (judged P (running c) true c (writeBytes P a bytes) bits) ≡ true
   unfolding decode verdictBy pick
-  judges true p = rw (write-address P sound a bytes low, p, idle, enabled, whole, long) refl
-  judges false p = rw (write-address P sound a bytes low, p, idle, enabled, whole, long) refl
+  executed = rw (write-address P sound a bytes low, unprotected, idle, enabled, whole, long) refl
 
-  pub taken : protects P c a ≡ false
-      → after P (running c) true c (writeBytes P a bytes) bits ≡ withCycle (pageWaits (a / P .page) (written P (writeBytes P a bytes))) c
+  taken : after P (running c) true c (writeBytes P a bytes) bits ≡ withCycle (pageWaits (a / P .page) (written P (writeBytes P a bytes))) c
   unfolding decode pick
-  taken p =
-      at-yes _ _ (judges false p)
+  taken =
+      at-yes _ _ executed
       ∙ ap (λ (n : ℕ). withCycle (pageWaits (n / P .page) (written P (writeBytes P a bytes))) c) (write-address P sound a bytes low)
-
-  pub not-taken : protects P c a ≡ true → after P (running c) true c (writeBytes P a bytes) bits ≡ c
-  not-taken p = at-no _ _ (judges true p)
 
 -- ---- a page part sent to an idle device
 
@@ -90,7 +83,7 @@ wait-running P i limit d h r =
 
 module _ (P : Part) (sound : Sound P) (i limit : ℕ) (some : 0 < i) (small : i ≤ P .longest) (polls : 1 ≤ limit) (d : FrameBench)
     (low : d .core .last < 2 ^ 32) (none : d .core .left ≡ 0) (cycle : 0 < d .core .cycle) (a : ℕ) (bytes : List ℕ) (inside : a < P .size)
-    (carries : 0 < length bytes) where
+    (carries : 0 < length bytes) (unprotected : protects P (d .core) a ≡ false) where
   idle : running (d .core) ≡ false
   idle = le-ltb 0 (d .core .left) (omega arith)
 
@@ -122,7 +115,7 @@ module _ (P : Part) (sound : Sound P) (i limit : ℕ) (some : 0 < i) (small : i 
   unfolding pageActs
   leaves = acted-all-append P (wrenAndWrite P a bytes) (pageWait P i limit begun) d
 
-  -- ---- it is taken, and the polls suffice: its cycle ends
+  -- ---- the polls suffice: its cycle ends
 
   pub record PageDone : Type 0 where
     pub frames : sent acts ≡ 2 + roundedUp (d .core .cycle) i
@@ -134,13 +127,24 @@ module _ (P : Part) (sound : Sound P) (i limit : ℕ) (some : 0 < i) (small : i 
   abbrev cycling : Core
   cycling = withCycle (pageWaits (a / P .page) latch) enabled
 
-  cycles : protects P (d .core) a ≡ false → begun .core ≡ cycling
-  cycles p = begun-core ∙ taken P sound enabled a bytes inside carries idle refl p
+  cycles : begun .core ≡ cycling
+  cycles = begun-core ∙ taken P sound enabled a bytes inside carries idle refl unprotected
 
-  pub page-done : protects P (d .core) a ≡ false → d .core .cycle ≤ limit * i → PageDone
+  -- every frame of it is executed: the WRITE is taken
+  pub page-executed : allExecuted P acts d ≡ true
+  unfolding pageActs
+  page-executed =
+      executed-append P (wrenAndWrite P a bytes) (pageWait P i limit begun) d
+      (and-both _ _ (enabling P (d .core) idle)
+      (and-both _ true
+      (ap (λ (c : Core). isExecuted (judged P (running c) true c (writeBytes P a bytes) (8 * length (writeBytes P a bytes)))) (enables P (d .core) idle)
+      ∙ executed P sound enabled a bytes inside carries idle refl unprotected) refl))
+      (wait-executed P i limit begun)
+
+  pub page-done : d .core .cycle ≤ limit * i → PageDone
   unfolding pick
-  page-done p enough =
-      let c = cycles p in
+  page-done enough =
+      let c = cycles in
       let busy : running (begun .core) ≡ true = ap running c ∙ lt-ltb 0 (d .core .cycle) cycle in
       let total : begun .core .left ≡ d .core .cycle = ap (λ (x : Core). x .left) c in
       let last : begun .core .last ≡ d .core .last = ap (λ (x : Core). x .last) c in
@@ -155,7 +159,7 @@ module _ (P : Part) (sound : Sound P) (i limit : ℕ) (some : 0 < i) (small : i 
         memory = ap (λ (x : FrameBench). x .memory) y ∙ w .over .memory ∙ ap (λ (x : Core). endedMemory P x (d .memory)) c;
       }
 
-  -- ---- it is taken, and they do not: its cycle still runs
+  -- ---- they do not: its cycle still runs
 
   pub record PageLate : Type 0 where
     pub frames : sent acts ≡ 2 + limit
@@ -163,9 +167,9 @@ module _ (P : Part) (sound : Sound P) (i limit : ℕ) (some : 0 < i) (small : i 
     pub core : left .core ≡ withTime read (d .core .cycle - limit * i) cycling
     pub memory : left .memory ≡ d .memory
 
-  pub page-late : protects P (d .core) a ≡ false → limit * i < d .core .cycle → PageLate
-  page-late p few =
-      let c = cycles p in
+  pub page-late : limit * i < d .core .cycle → PageLate
+  page-late few =
+      let c = cycles in
       let busy : running (begun .core) ≡ true = ap running c ∙ lt-ltb 0 (d .core .cycle) cycle in
       let total : begun .core .left ≡ d .core .cycle = ap (λ (x : Core). x .left) c in
       let last : begun .core .last ≡ d .core .last = ap (λ (x : Core). x .last) c in
@@ -181,32 +185,4 @@ module _ (P : Part) (sound : Sound P) (i limit : ℕ) (some : 0 < i) (small : i 
             ∙ ap (λ (n : ℕ). withTime (w .runs .read) (n - limit * i) (begun .core)) total
             ∙ ap (withTime (w .runs .read) (d .core .cycle - limit * i)) c;
         memory = ap (λ (x : FrameBench). x .memory) y ∙ w .runs .memory;
-      }
-
-  -- ---- it is protected: not taken, and one poll sees it
-
-  pub record PageUntaken : Type 0 where
-    pub frames : sent acts ≡ 3
-    pub read : ℕ
-    pub core : left .core ≡ withTime read 0 enabled
-    pub memory : left .memory ≡ d .memory
-
-  pub page-untaken : protects P (d .core) a ≡ true → PageUntaken
-  unfolding pageWait
-  page-untaken p =
-      let c : begun .core ≡ enabled = begun-core ∙ not-taken P sound enabled a bytes inside carries idle refl p in
-      let t = (begun .core .last + i) % 2 ^ 32 in
-      let free : running (begun .core) ≡ false = ap running c ∙ idle in
-      let still : ends t (begun .core) ≡ false = and-no-left (running (begun .core)) _ free in
-      let spent : begun .core .left - elapsed (begun .core .last) t ≡ 0 = omega (arith, ap (λ (x : Core). x .left) c) in
-      let x = actedAll P (latePoll i begun) begun in
-      let core : x .core ≡ withTime t 0 enabled =
-      poll-leaves P (timed P t (begun .core)) ∙ on-core P t (begun .core) still ∙ ap (λ (n : ℕ). withTime t n (begun .core)) spent ∙ ap (withTime t 0) c in
-      let over = polls-on-free P i x (limit - 1) (ap running core) in
-      let y : left ≡ x = leaves ∙ acted-all-append P (latePoll i begun) (pollsOn P i (limit - 1) x) begun ∙ ap (λ (l : List Act). actedAll P l x) over in
-      record {
-        frames = counted 1 (sent-append (latePoll i begun) (pollsOn P i (limit - 1) x) ∙ omega (arith, ap sent over));
-        read = t;
-        core = ap (λ (z : FrameBench). z .core) y ∙ core;
-        memory = ap (λ (z : FrameBench). z .memory) y ∙ no-end P t (begun .core) (d .memory) still;
       }

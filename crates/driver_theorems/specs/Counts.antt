@@ -1,7 +1,7 @@
--- What the driver's theorems speak of: a quotient rounded up, the polls of each page, a memory with a run of bytes
--- written over it, and the one that a running cycle leaves.
+-- What the driver's theorems speak of: a quotient rounded up, the polls of each page, frames that are all executed, a
+-- memory with a run of bytes written over it, and the one that a running cycle leaves.
 use Prim.Native.Nat.{ℕ, suc, _+_, _-_, _/_}
-use mathlib.Core.Bool.{_&&_}
+use mathlib.Core.Bool.{Bool, true, _&&_}
 use mathlib.Core.List.{List, [], _∷_}
 use lib.ListN.{length, getD}
 use lib.Dec.{eqb, leb, ltb}
@@ -9,10 +9,12 @@ use Rattle.laws.specs.Pick.{pick}
 use Rattle.laws.specs.Table.{table}
 use Rattle.codes.specs.Part.{Part}
 use Rattle.codes.specs.Instructions.{rdsrCode, writeCode}
+use Rattle.codes.specs.Verdicts.{isExecuted}
 use Rattle.chip.specs.Records.{running}
 use Rattle.chip.specs.Time.{endedMemory}
 use Rattle.chip.specs.declared.Core.{Core}
-use Rattle.frames.specs.Play.{Act, frame, reading}
+use Rattle.frames.specs.After.{judged}
+use Rattle.frames.specs.Play.{Act, frame, reading, FrameBench, acted}
 
 -- x divided by y, rounded up
 abbrev pub roundedUp : ℕ → ℕ → ℕ
@@ -30,6 +32,13 @@ pagePolls [] = []
 pagePolls (frame w s n ∷ acts) =
     pick (eqb (getD s 0 0) writeCode) (pollsNow acts ∷ pagePolls acts) (pagePolls acts)
 pagePolls (reading t ∷ acts) = pagePolls acts
+
+-- every frame of a list is executed where it is sent
+abbrev pub allExecuted : Part → List Act → FrameBench → Bool
+allExecuted P [] d = true
+allExecuted P (frame w s n ∷ acts) d =
+    isExecuted (judged P (running (d .core)) w (d .core) s n) && allExecuted P acts (acted P (frame w s n) d)
+allExecuted P (reading t ∷ acts) d = allExecuted P acts (acted P (reading t) d)
 
 -- the given bytes in the cells from a on, every other cell as it is
 unfoldable pub overwritten : ℕ → List ℕ → List ℕ → List ℕ

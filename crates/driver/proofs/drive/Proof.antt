@@ -8,15 +8,16 @@ use Rattle.frames.specs.Play.{FrameBench, frameBench}
 use Rattle.driver.specs.Sequence.{firstWait}
 use Rattle.driver.proofs.Ready.{bench-of, ready-acted-all}
 use Rattle.driver.proofs.Joined.{first-most}
-use Rattle.driver.proofs.Seen.{seen-wip}
-use Rattle.driver.proofs.Drives.{rested, drove-none, drove-late, drove-parts}
+use Rattle.driver.proofs.Seen.{seen-wip, seen-touches}
+use Rattle.driver.proofs.Drives.{rested, drove-none, drove-late, drove-touches, drove-parts}
 use borrow.Author.Needs.{needs}
 use Rattle.driver.proofs.drive.Statement.{statement}
 use Rattle.driver.proofs.drive.Tie as tie
 use Rattle.driver.proofs.drive.Reads as reads
 use Rattle.driver.proofs.drive.Lts as lts
-use Rattle.driver.proofs.pages.wip.Reads as wip-reads
 use Rattle.driver.proofs.pages.write_parts.Reads as write-parts-reads
+use Rattle.driver.proofs.status.block_touched.Reads as block-touched-reads
+use Rattle.driver.proofs.status.wip.Reads as wip-reads
 use Rattle.driver.proofs.waiting.first_wait.Reads as first-wait-reads
 
 returns : tie.Need-returns
@@ -46,31 +47,50 @@ returns-2 c =
     drove-late m95512 (a .interval) (a .limit) (a .address) (a .bytes .now) d (wait .result .frames) y (c .before .before .before .before .before .before .before .if1 .left) e (wait .ensures .1 .1 .0)
     (sym (seen-wip (wait .result .status) (y .core) (wait .ensures .1 .0)) ∙ sym (c .before .wip .ensures) ∙ c .if2 .taken)
 
-write-parts-requires : tie.Need-write-parts-requires
-write-parts-requires c κs =
-    let start = c .before .before .before .before .before .before .before .before .before .before .before in
-    let a = start .args in
-    let d : FrameBench = frameBench (a .core) (a .memory .now) in
-    let wait = c .before .before .before .before .before .before .first-wait in
-    let ready =
-    ready-acted-all m95512 m95512-sound (firstWait m95512 (a .interval) (a .limit) d) d (record { whole = start .pre .0; ranges = start .pre .1 .0 }) in
-    let most = first-most m95512 (a .interval) (a .limit) d (start .pre .1 .1 .0) in
-    (ap length (wait .ensures .1 .1 .1) ∙ ready .whole, (ap (inRanges m95512) (wait .ensures .0) ∙ ready .ranges, (start .pre .1 .1, omega (arith, wait .ensures .1 .1 .0))))
+block-touched-requires : tie.Need-block-touched-requires
+block-touched-requires c κs = search needs
 
 same-length-2 : tie.Need-same-length-2
 same-length-2 c = search needs
 
 returns-3 : tie.Need-returns-3
 returns-3 c =
-    let start = c .before .before .before .before .before .before .before .before .before .before .before .before .before .before in
+    let start = c .before .before .before .before .before .before .before .before .before .before .before .before in
     let a = start .args in
     let d : FrameBench = frameBench (a .core) (a .memory .now) in
-    let wait = c .before .before .before .before .before .before .before .before .before .first-wait in
+    let wait = c .before .before .before .before .before .before .before .first-wait in
+    let y : FrameBench = frameBench (wait .result .core) (wait .last .1 .0) in
+    let e = bench-of (rested m95512 (a .interval) (a .limit) (a .address) (a .bytes .now) d) (wait .ensures .0) (wait .ensures .1 .1 .1) in
+    drove-touches m95512 (a .interval) (a .limit) (a .address) (a .bytes .now) d (wait .result .frames) y (c .before .before .before .before .before .before .before .before .before .if1 .left) e (wait .ensures .1 .1 .0)
+    (sym (seen-wip (wait .result .status) (y .core) (wait .ensures .1 .0)) ∙ sym (c .before .before .before .wip .ensures) ∙ c .before .before .if2 .left)
+    (sym (seen-touches (wait .result .status) (y .core) (wait .ensures .1 .0) m95512 _ _) ∙ sym (c .before .block-touched .ensures) ∙ c .if3 .taken)
+
+write-parts-requires : tie.Need-write-parts-requires
+write-parts-requires c κs =
+    let start = c .before .before .before .before .before .before .before .before .before .before .before .before .before in
+    let a = start .args in
+    let d : FrameBench = frameBench (a .core) (a .memory .now) in
+    let wait = c .before .before .before .before .before .before .before .before .first-wait in
+    let ready =
+    ready-acted-all m95512 m95512-sound (firstWait m95512 (a .interval) (a .limit) d) d (record { whole = start .pre .0; ranges = start .pre .1 .0 }) in
+    let most = first-most m95512 (a .interval) (a .limit) d (start .pre .1 .1 .1 .0) in
+    (ap length (wait .ensures .1 .1 .1) ∙ ready .whole, (ap (inRanges m95512) (wait .ensures .0) ∙ ready .ranges, (start .pre .1 .1 .1, omega (arith, wait .ensures .1 .1 .0))))
+
+same-length-3 : tie.Need-same-length-3
+same-length-3 c = search needs
+
+returns-4 : tie.Need-returns-4
+returns-4 c =
+    let start = c .before .before .before .before .before .before .before .before .before .before .before .before .before .before .before .before in
+    let a = start .args in
+    let d : FrameBench = frameBench (a .core) (a .memory .now) in
+    let wait = c .before .before .before .before .before .before .before .before .before .before .before .first-wait in
     let parts = c .before .before .write-parts in
     let y : FrameBench = frameBench (wait .result .core) (wait .last .1 .0) in
     let e = bench-of (rested m95512 (a .interval) (a .limit) (a .address) (a .bytes .now) d) (wait .ensures .0) (wait .ensures .1 .1 .1) in
-    drove-parts m95512 (a .interval) (a .limit) (a .address) (a .bytes .now) d (parts .result) (parts .last .1 .0) (wait .result .frames) y (c .before .before .before .before .before .before .before .before .before .before .before .if1 .left) e (wait .ensures .1 .1 .0)
-    (sym (seen-wip (wait .result .status) (y .core) (wait .ensures .1 .0)) ∙ sym (c .before .before .before .before .before .wip .ensures) ∙ c .before .before .before .before .if2 .left) (parts .ensures .0) (parts .ensures .1)
+    drove-parts m95512 (a .interval) (a .limit) (a .address) (a .bytes .now) d (parts .result) (parts .last .1 .0) (wait .result .frames) y (c .before .before .before .before .before .before .before .before .before .before .before .before .before .if1 .left) e (wait .ensures .1 .1 .0)
+    (sym (seen-wip (wait .result .status) (y .core) (wait .ensures .1 .0)) ∙ sym (c .before .before .before .before .before .before .before .wip .ensures) ∙ c .before .before .before .before .before .before .if2 .left)
+    (sym (seen-touches (wait .result .status) (y .core) (wait .ensures .1 .0) m95512 _ _) ∙ sym (c .before .before .before .before .before .block-touched .ensures) ∙ c .before .before .before .before .if3 .left) (parts .ensures .0) (parts .ensures .1)
 
 pub drive-spec : {M : Type 1} → statement M
 drive-spec =
@@ -81,6 +101,9 @@ drive-spec =
     wip-requires
     same-length
     returns-2
-    write-parts-requires
+    block-touched-requires
     same-length-2
-    returns-3)
+    returns-3
+    write-parts-requires
+    same-length-3
+    returns-4)

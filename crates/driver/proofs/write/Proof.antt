@@ -21,7 +21,7 @@ drive-requires c κs =
     let t =
     taken m95512 (a .core) (length (a .memory .now)) (a .address) (length (a .bytes .now)) (a .interval) (a .limit)
     (c .before .before .before .outcome .ensures) (c .before .enum-told .given .1) in
-    (t .whole, (t .ranges, t .limits))
+    (t .whole, (t .ranges, (t .inside, t .limits)))
 
 enum-known-r : tie.Need-enum-known-r
 enum-known-r c = search needs

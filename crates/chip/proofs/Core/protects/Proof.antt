@@ -2,11 +2,11 @@ use borrow.Author.Needs.{needs}
 use Rattle.chip.proofs.Core.protects.Statement.{statement}
 use Rattle.chip.proofs.Core.protects.Tie as tie
 
-lowest-protected-requires : tie.Need-lowest-protected-requires
-lowest-protected-requires c κs = search needs
+lowest-requires : tie.Need-lowest-requires
+lowest-requires c κs = search needs
 
 returns : tie.Need-returns
-returns c = rw (c .lowest-protected .ensures)
+returns c = rw (c .lowest .ensures)
 
 pub protects-spec : {M : Type 1} → statement M
-protects-spec = tie.close (tie.spec lowest-protected-requires returns)
+protects-spec = tie.close (tie.spec lowest-requires returns)

@@ -1,4 +1,4 @@
-use mathlib.Core.Path.{_≡_, refl, sym, subst, _∙_}
+use mathlib.Core.Path.{_≡_, sym, subst, _∙_}
 use Prim.Native.Nat.{ℕ, _+_, _-_, _*_, _<_, _≤_}
 use native.Mathlib.Omega.{arith}
 use lib.ListN.{length}
@@ -7,20 +7,17 @@ use Rattle.codes.proofs.Sound.{m95512-sound}
 use Rattle.split.specs.Split.{count, splitAddress}
 use Rattle.split.specs.Pieces.{piece}
 use Rattle.split.proofs.Numbers.{parts-asked}
-use Rattle.frames.specs.Play.{FrameBench, acted, frameBench}
-use Rattle.driver.specs.Sequence.{wrdi}
+use Rattle.frames.specs.Play.{FrameBench, frameBench}
 use Rattle.driver.proofs.Ready.{Ready, bench-of, ready-acted-all}
 use Rattle.driver.proofs.Joined.{acts-most}
-use Rattle.driver.proofs.Seen.{seen-wip, seen-wel}
-use Rattle.driver.proofs.Runs.{partActs, afterPart, Rest, ended-of, rest-first, rest-next, rest-late, rest-untaken, rest-done, parts-few}
+use Rattle.driver.proofs.Seen.{seen-wip}
+use Rattle.driver.proofs.Runs.{partActs, afterPart, Rest, ended-of, rest-first, rest-next, rest-late, rest-done, parts-few}
 use Rattle.driver.proofs.pages.write_parts.Statement.{statement}
 use Rattle.driver.proofs.pages.write_parts.Tie as tie
 use Rattle.driver.proofs.pages.write_parts.Reads as reads
 use Rattle.driver.proofs.pages.write_parts.Lts as lts
-use Rattle.driver.proofs.pages.wel.Reads as wel-reads
-use Rattle.driver.proofs.pages.wip.Reads as wip-reads
+use Rattle.driver.proofs.status.wip.Reads as wip-reads
 use Rattle.driver.proofs.pages.write_part.Reads as write-part-reads
-use Rattle.driver.proofs.sending.send.Reads as send-reads
 use Rattle.split.proofs.cartvesper_split_parts.Reads as cartvesper-split-parts-reads
 
 abbrev Inv-loop : tie.InvT-loop
@@ -70,8 +67,8 @@ add-frames c =
 wip-requires : tie.Need-wip-requires Inv-loop μ-loop
 wip-requires c κs = tt
 
-cast-t20 : tie.Need-cast-t20 Inv-loop μ-loop
-cast-t20 c =
+cast-t19 : tie.Need-cast-t19 Inv-loop μ-loop
+cast-t19 c =
     let start = c .before .before .before .before .before .before .before .before .before .before .before .before .before in
     let a = start .args in
     let l = c .before .before .before .before .before .before .before .before .before .loop in
@@ -105,102 +102,30 @@ returns c =
     ended-of m95512 (a .interval) (a .limit) (a .address) (a .bytes .now) (c .before .before .before .before .before .before .before .before .before .before .cartvesper-split-parts .result) _ (a .sent) (frameBench (a .core) (a .memory .now)) (l .inv .1 .1 .0)
     (rest-late m95512 (a .interval) (a .limit) (a .address) (a .bytes .now) (c .before .before .before .before .before .before .before .before .before .before .cartvesper-split-parts .result) (a .sent) _ (l .k) (l .frames) (part .result .frames) d x (c .before .before .before .before .before .before .before .before .loop-test .taken) e (part .ensures .1 .1 .0) (sym (seen-wip (part .result .status) (x .core) (part .ensures .1 .0)) ∙ sym (c .before .wip .ensures) ∙ c .if1 .taken) (l .inv .1 .1 .1 .1))
 
-wel-requires : tie.Need-wel-requires Inv-loop μ-loop
-wel-requires c κs = tt
-
-cast-t24 : tie.Need-cast-t24 Inv-loop μ-loop
-cast-t24 c =
-    let start = c .before .before .before .before .before .before .before .before .before .before .before .before .before .before .before in
-    let a = start .args in
-    let l = c .before .before .before .before .before .before .before .before .before .before .before .loop in
-    let few = parts-few m95512 m95512-sound (a .address) (length (a .bytes .now)) in
-    let all = l .inv .1 .1 .0 in
-    omega (arith, l .inv .0)
-
-add-t25 : tie.Need-add-t25 Inv-loop μ-loop
-add-t25 c =
-    let start = c .before .before .before .before .before .before .before .before .before .before .before .before .before .before .before in
-    let a = start .args in
-    let l = c .before .before .before .before .before .before .before .before .before .before .before .loop in
-    let part = c .before .before .before .before .before .before .before .before .write-part in
-    let d : FrameBench = frameBench (l .next) (l .memory) in
-    let x : FrameBench = frameBench (part .result .core) (part .last .1 .0) in
-    let e = bench-of (afterPart m95512 (a .interval) (a .limit) (a .address) (a .bytes .now) (l .k) d) (part .ensures .0) (part .ensures .1 .1 .1) in
-    let most = acts-most m95512 (a .interval) (a .limit) (splitAddress 65536 128 (a .address) (length (a .bytes .now)) (l .k)) (piece 65536 128 (a .address) (a .bytes .now) (l .k)) d (start .pre .1 .1 .0 .0) in
-    let few = parts-few m95512 m95512-sound (a .address) (length (a .bytes .now)) in
-    let all = l .inv .1 .1 .0 in
-    let below = c .before .before .before .before .before .before .before .before .before .before .loop-test .taken in
-    let counts = part .ensures .1 .1 .0 in
-    omega (arith, l .inv .1 .0)
-
-slice-aggregate-send : tie.Need-slice-aggregate-send Inv-loop μ-loop
-slice-aggregate-send c = refl
-
-send-requires : tie.Need-send-requires Inv-loop μ-loop
-send-requires c κs =
-    let start = c .before .before .before .before .before .before .before .before .before .before .before .before .before .before .before .before .before in
-    let a = start .args in
-    let l = c .before .before .before .before .before .before .before .before .before .before .before .before .before .loop in
-    let part = c .before .before .before .before .before .before .before .before .before .before .write-part in
-    let d : FrameBench = frameBench (l .next) (l .memory) in
-    let x : FrameBench = frameBench (part .result .core) (part .last .1 .0) in
-    let e = bench-of (afterPart m95512 (a .interval) (a .limit) (a .address) (a .bytes .now) (l .k) d) (part .ensures .0) (part .ensures .1 .1 .1) in
-    let ready : Ready m95512 x =
-    subst (Ready m95512) (sym e)
-    (ready-acted-all m95512 m95512-sound (partActs m95512 (a .interval) (a .limit) (a .address) (a .bytes .now) (l .k) d) d (l .inv .1 .1 .1 .0)) in
-    (ready .whole, (ready .ranges, omega arith))
-
-same-length-2 : tie.Need-same-length-2 Inv-loop μ-loop
-same-length-2 c =
-    let start = c .before .before .before .before .before .before .before .before .before .before .before .before .before .before .before .before .before .before in
-    let a = start .args in
-    let l = c .before .before .before .before .before .before .before .before .before .before .before .before .before .before .loop in
-    let part = c .before .before .before .before .before .before .before .before .before .before .before .write-part in
-    let d : FrameBench = frameBench (l .next) (l .memory) in
-    let x : FrameBench = frameBench (part .result .core) (part .last .1 .0) in
-    let e = bench-of (afterPart m95512 (a .interval) (a .limit) (a .address) (a .bytes .now) (l .k) d) (part .ensures .0) (part .ensures .1 .1 .1) in
-    let ready : Ready m95512 x =
-    subst (Ready m95512) (sym e)
-    (ready-acted-all m95512 m95512-sound (partActs m95512 (a .interval) (a .limit) (a .address) (a .bytes .now) (l .k) d) d (l .inv .1 .1 .1 .0)) in
-    ready .whole ∙ sym (start .pre .0)
-
-returns-2 : tie.Need-returns-2 Inv-loop μ-loop
-returns-2 c =
-    let start = c .before .before .before .before .before .before .before .before .before .before .before .before .before .before .before .before .before .before in
-    let a = start .args in
-    let l = c .before .before .before .before .before .before .before .before .before .before .before .before .before .before .loop in
-    let part = c .before .before .before .before .before .before .before .before .before .before .before .write-part in
-    let d : FrameBench = frameBench (l .next) (l .memory) in
-    let x : FrameBench = frameBench (part .result .core) (part .last .1 .0) in
-    let e = bench-of (afterPart m95512 (a .interval) (a .limit) (a .address) (a .bytes .now) (l .k) d) (part .ensures .0) (part .ensures .1 .1 .1) in
-    let y : FrameBench = frameBench (c .send .result) (part .last .1 .0) in
-    ended-of m95512 (a .interval) (a .limit) (a .address) (a .bytes .now) (c .before .before .before .before .before .before .before .before .before .before .before .before .before .before .before .cartvesper-split-parts .result) _ (a .sent) (frameBench (a .core) (a .memory .now)) (l .inv .1 .1 .0)
-    (rest-untaken m95512 (a .interval) (a .limit) (a .address) (a .bytes .now) (c .before .before .before .before .before .before .before .before .before .before .before .before .before .before .before .cartvesper-split-parts .result) (a .sent) _ (l .k) (l .frames) (part .result .frames) d x y (c .before .before .before .before .before .before .before .before .before .before .before .before .before .loop-test .taken) e (part .ensures .1 .1 .0) (sym (seen-wip (part .result .status) (x .core) (part .ensures .1 .0)) ∙ sym (c .before .before .before .before .before .before .wip .ensures) ∙ c .before .before .before .before .before .if1 .left) (sym (seen-wel (part .result .status) (x .core) (part .ensures .1 .0)) ∙ sym (c .before .before .before .before .wel .ensures) ∙ c .before .before .before .if2 .taken) (bench-of (acted m95512 wrdi x) (c .send .ensures) refl) (l .inv .1 .1 .1 .1))
-
 add-k : tie.Need-add-k Inv-loop μ-loop
 add-k c =
-    let start = c .before .before .before .before .before .before .before .before .before .before .before .before .before .before .before in
+    let start = c .before .before .before .before .before .before .before .before .before .before .before .before .before in
     let a = start .args in
-    let l = c .before .before .before .before .before .before .before .before .before .before .before .loop in
+    let l = c .before .before .before .before .before .before .before .before .before .loop in
     let few = parts-few m95512 m95512-sound (a .address) (length (a .bytes .now)) in
     let all = l .inv .1 .1 .0 in
-    let below = c .before .before .before .before .before .before .before .before .before .before .loop-test .taken in
+    let below = c .before .before .before .before .before .before .before .before .loop-test .taken in
     omega arith
 
 loop-less : tie.Need-loop-less Inv-loop μ-loop
 loop-less c =
-    let start = c .before .before .before .before .before .before .before .before .before .before .before .before .before .before .before in
+    let start = c .before .before .before .before .before .before .before .before .before .before .before .before .before in
     let a = start .args in
-    let l = c .before .before .before .before .before .before .before .before .before .before .before .loop in
-    let below = c .before .before .before .before .before .before .before .before .before .before .loop-test .taken in
+    let l = c .before .before .before .before .before .before .before .before .before .loop in
+    let below = c .before .before .before .before .before .before .before .before .loop-test .taken in
     omega arith
 
 loop-again : tie.Need-loop-again Inv-loop μ-loop
 loop-again c =
-    let start = c .before .before .before .before .before .before .before .before .before .before .before .before .before .before .before in
+    let start = c .before .before .before .before .before .before .before .before .before .before .before .before .before in
     let a = start .args in
-    let l = c .before .before .before .before .before .before .before .before .before .before .before .loop in
-    let part = c .before .before .before .before .before .before .before .before .write-part in
+    let l = c .before .before .before .before .before .before .before .before .before .loop in
+    let part = c .before .before .before .before .before .before .write-part in
     let d : FrameBench = frameBench (l .next) (l .memory) in
     let x : FrameBench = frameBench (part .result .core) (part .last .1 .0) in
     let e = bench-of (afterPart m95512 (a .interval) (a .limit) (a .address) (a .bytes .now) (l .k) d) (part .ensures .0) (part .ensures .1 .1 .1) in
@@ -208,12 +133,12 @@ loop-again c =
     let ready : Ready m95512 x =
     subst (Ready m95512) (sym e)
     (ready-acted-all m95512 m95512-sound (partActs m95512 (a .interval) (a .limit) (a .address) (a .bytes .now) (l .k) d) d (l .inv .1 .1 .1 .0)) in
-    let below = c .before .before .before .before .before .before .before .before .before .before .loop-test .taken in
+    let below = c .before .before .before .before .before .before .before .before .loop-test .taken in
     let counts = part .ensures .1 .1 .0 in
-    (omega arith, (omega (arith, l .inv .1 .0), (l .inv .1 .1 .0, (ready, rest-next m95512 (a .interval) (a .limit) (a .address) (a .bytes .now) (c .before .before .before .before .before .before .before .before .before .before .before .before .cartvesper-split-parts .result) (a .sent) _ (l .k) (l .frames) (part .result .frames) d x below e counts (sym (seen-wip (part .result .status) (x .core) (part .ensures .1 .0)) ∙ sym (c .before .before .before .wip .ensures) ∙ c .before .before .if1 .left) (sym (seen-wel (part .result .status) (x .core) (part .ensures .1 .0)) ∙ sym (c .before .wel .ensures) ∙ c .if2 .left) (l .inv .1 .1 .1 .1)))))
+    (omega arith, (omega (arith, l .inv .1 .0), (l .inv .1 .1 .0, (ready, rest-next m95512 (a .interval) (a .limit) (a .address) (a .bytes .now) (c .before .before .before .before .before .before .before .before .before .before .cartvesper-split-parts .result) (a .sent) _ (l .k) (l .frames) (part .result .frames) d x below e counts (sym (seen-wip (part .result .status) (x .core) (part .ensures .1 .0)) ∙ sym (c .before .wip .ensures) ∙ c .if1 .left) (l .inv .1 .1 .1 .1)))))
 
-cast-t33 : tie.Need-cast-t33 Inv-loop μ-loop
-cast-t33 c =
+cast-t22 : tie.Need-cast-t22 Inv-loop μ-loop
+cast-t22 c =
     let start = c .before .before .before .before .before in
     let a = start .args in
     let l = c .before .loop in
@@ -221,15 +146,15 @@ cast-t33 c =
     let all = l .inv .1 .1 .0 in
     omega (arith, l .inv .0)
 
-same-length-3 : tie.Need-same-length-3 Inv-loop μ-loop
-same-length-3 c =
+same-length-2 : tie.Need-same-length-2 Inv-loop μ-loop
+same-length-2 c =
     let start = c .before .before .before .before .before in
     let a = start .args in
     let l = c .before .loop in
     l .inv .1 .1 .1 .0 .whole ∙ sym (start .pre .0)
 
-returns-3 : tie.Need-returns-3 Inv-loop μ-loop
-returns-3 c =
+returns-2 : tie.Need-returns-2 Inv-loop μ-loop
+returns-2 c =
     let start = c .before .before .before .before .before in
     let a = start .args in
     let l = c .before .loop in
@@ -248,19 +173,12 @@ write-parts-spec =
     write-part-requires
     add-frames
     wip-requires
-    cast-t20
+    cast-t19
     same-length
     returns
-    wel-requires
-    cast-t24
-    add-t25
-    slice-aggregate-send
-    send-requires
-    same-length-2
-    returns-2
     add-k
     loop-less
     loop-again
-    cast-t33
-    same-length-3
-    returns-3)
+    cast-t22
+    same-length-2
+    returns-2)

@@ -1,0 +1,19 @@
+use borrow.Author.Needs.{needs}
+use Rattle.bench.proofs.core_calls.cartvesper_core_lowest_protected.Statement.{statement}
+use Rattle.bench.proofs.core_calls.cartvesper_core_lowest_protected.Tie as tie
+
+protected-from-requires : tie.Need-protected-from-requires
+protected-from-requires c κs = search needs
+
+number-requires : tie.Need-number-requires
+number-requires c κs = search needs
+
+value-requires : tie.Need-value-requires
+value-requires c κs = search needs
+
+returns : tie.Need-returns
+returns c = rw (c .before .number .ensures, c .value .ensures, c .before .before .protected-from .ensures .1 .0, c .before .before .protected-from .ensures .1 .1)
+
+pub cartvesper-core-lowest-protected-spec : {M : Type 1} → statement M
+cartvesper-core-lowest-protected-spec =
+    tie.close (tie.spec protected-from-requires number-requires value-requires returns)
