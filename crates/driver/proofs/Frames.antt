@@ -1,30 +1,26 @@
--- The driver's frames through the frame model's promise, for any part: none is refused, a poll shows the status and leaves the record as it was.
-use mathlib.Core.Path.{_≡_, refl, ap, sym, _∙_}
+-- The driver's frames and readings through the models' promises, for any part: none is refused.
+use mathlib.Core.Path.{_≡_, ap, sym, _∙_}
 use mathlib.Core.Bool.{true}
-use mathlib.Core.List.{List, [], _∷_, _++_, append-assoc}
+use mathlib.Core.List.{List, _++_, append-assoc}
 use Prim.Native.Nat.{ℕ, _+_, _*_, _-_, _≤_}
 use native.Mathlib.Decide.{ℕ-discrete}
 use native.Mathlib.Omega.{arith}
-use lib.ListN.{length, getD, take, drop, length-append, length-drop}
+use lib.ListN.{length, take, drop, length-append, length-drop}
 use lib.Seq.{length-take-le, take-at}
 use borrow.Author.Tests.{le-leb, eq-eqb}
-use Rattle.laws.specs.Pick.{pick, pick-same, at-yes, yes-so, eq-so, ne-so, le-so, and-both}
+use Rattle.laws.specs.Pick.{at-yes, eq-so, ne-so, and-both}
 use Rattle.laws.specs.Spliced.{spliced, spliced-length}
-use Rattle.laws.specs.Table.{from, table}
 use Rattle.codes.specs.Part.{Part}
-use Rattle.chip.specs.Records.{running, status}
+use Rattle.chip.specs.Records.{running}
 use Rattle.chip.specs.Ranges.{inRanges}
 use Rattle.codes.specs.Refusals.{isDone}
 use Rattle.chip.specs.Time.{timed, timedMemory, clockReading, clockMemory}
 use Rattle.chip.proofs.Readings.{reading-taken}
-use Rattle.codes.specs.Instructions.{decode}
-use Rattle.codes.specs.Verdicts.{isExecuted}
 use Rattle.chip.specs.declared.Core.{Core}
-use Rattle.codes.specs.declared.Outcome.the-variants.{Done}
 use Rattle.frames.proofs.Showing.{copied}
-use Rattle.frames.specs.After.{judged, after}
-use Rattle.frames.specs.Shown.{padded, output}
-use Rattle.frames.specs.Answers.{bitsFit, longestFrame, frameOutcome, framed, framedOutput}
+use Rattle.frames.proofs.Outcomes.{accepted}
+use Rattle.frames.specs.After.{after}
+use Rattle.frames.specs.Answers.{bitsFit, longestFrame, framed}
 
 -- the first n of a list that has them
 pub part-length : (l : List ℕ) (k n : ℕ) → k ≡ n → n ≤ length l → length (take k l) ≡ n
@@ -64,37 +60,11 @@ whole-fits len = elim (ℕ-discrete len 0) [
 ]
 
 module _ (P : Part) (c : Core) (m s : List ℕ) (size : length m ≡ P .size) (ranges : inRanges P c ≡ true) (short : length s ≤ longestFrame P) where
-  accepted : (room : ℕ) → room ≡ length s → frameOutcome P c (length m) (length s) (8 * length s) room ≡ Done
-  accepted room e =
-      sym (eq-so _ size (yes-so _ ranges (le-so _ short (yes-so _ (whole-fits (length s)) (eq-so _ e refl)))))
-
   -- what it leaves
   pub sent-core : (room : ℕ) → room ≡ length s
       → framed P c m true s (8 * length s) room .core ≡ after P (running c) true c s (8 * length s)
   unfolding framed
-  sent-core room e = at-yes _ _ (ap isDone (accepted room e))
-
-  -- what stands in the output
-  pub sent-output : (out : List ℕ) → length out ≡ length s
-      → framedOutput P c m s (8 * length s) out ≡ output P (running c) (λ j. status c) m s (8 * length s)
-  unfolding framedOutput
-  sent-output out e = at-yes _ _ (ap isDone (accepted (length out) e))
-
--- ---- RDSR
-
-abbrev poll : List ℕ
-poll = 0x05 ∷ 0x00 ∷ []
-
-pub poll-leaves : (P : Part) (c : Core) → after P (running c) true c poll 16 ≡ c
-unfolding decode pick
-poll-leaves P c = pick-same (isExecuted (judged P (running c) true c poll 16)) c
-
-unpadded : (v : ℕ) → padded 0 v ≡ v
-unpadded v = omega arith
-
-pub poll-shows : (P : Part) (c : Core) (m : List ℕ) → getD (output P (running c) (λ j. status c) m poll 16) 1 0 ≡ status c
-unfolding decode output table from pick
-poll-shows P c m = unpadded (status c)
+  sent-core room e = at-yes _ _ (ap isDone (accepted P c (length m) (length s) (8 * length s) room size ranges short (whole-fits (length s)) e))
 
 -- ---- a clock reading
 

@@ -8,10 +8,10 @@ use Rattle.codes.specs.Part.{Part}
 use Rattle.chip.specs.Records.{status}
 use Rattle.chip.specs.declared.Core.{Core}
 use Rattle.frames.specs.Play.{Act, FrameBench, acted, actedAll, frameBench}
-use Rattle.driver.specs.Sequence.{sent, rdsr, latePoll, pollsOn, firstWait, pageWait, wrenAndWrite, pageActs}
+use Rattle.driver.specs.Sequence.{sent, rdsr, moved, latePoll, pollsOn, firstWait, pageWait, wrenAndWrite, pageActs}
 use Rattle.driver.specs.declared.waiting.Waited.{Waited}
 use Rattle.driver.proofs.Playing.{acted-all-append, sent-append}
-use Rattle.driver.proofs.Frames.{poll-leaves}
+use Rattle.frames.proofs.Polls.{poll-leaves}
 use Rattle.driver.proofs.Waits.{sent-most}
 
 pub record Follows (P : Part) (all : List Act) (d : FrameBench) (rest : List Act) (x : FrameBench) (n : ℕ) : Type 0 where
@@ -42,6 +42,10 @@ told P all d rest x n f w r m t e =
 -- a poll leaves the device as it was
 pub rdsr-leaves : (P : Part) (d : FrameBench) → acted P rdsr d ≡ d
 rdsr-leaves P d = ap (λ (c : Core). frameBench c (d .memory)) (poll-leaves P (d .core))
+
+-- so a poll after moving the clock leaves what the reading leaves
+pub late-poll-leaves : (P : Part) (i : ℕ) (d : FrameBench) → acted P (moved i d) d ≡ actedAll P (latePoll i d) d
+late-poll-leaves P i d = sym (rdsr-leaves P (acted P (moved i d) d))
 
 module _ (P : Part) (i limit : ℕ) (d x : FrameBench) where
   pub first-wait : x ≡ d → Follows P (firstWait P i limit d) d (pollsOn P i (limit - 1) x) x 1

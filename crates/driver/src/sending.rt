@@ -1,4 +1,4 @@
-// Frames sent through the frame model's public call: whole bytes, W high. A frame of these lengths, from a record
+// Frames sent through the frame model's public calls: whole bytes, W high. A frame of these lengths, from a record
 // inside its ranges, is not refused.
 ghost use mathlib.Core.Path.{_≡_};
 ghost use mathlib.Core.Bool.{true};
@@ -12,17 +12,10 @@ ghost use Rattle.driver.specs.Sequence.{writeBytes};
 use chip::Core;
 use codes::HEAD;
 use codes::PAGE;
-use codes::RDSR;
 use codes::WRITE;
 
 // The longest frame sent: the code, the address and a page.
 const LONGEST: usize = HEAD + PAGE;
-
-// What a poll sees, and the record that the frame hands back.
-pub(crate) struct Polled {
-    pub(crate) status: u8,
-    pub(crate) core: Core,
-}
 
 pub(crate) fn send(core: Core, memory: &[u8], bytes: &[u8]) -> Core
     requires { ⌜ length (now memory) ≡ m95512 .size ⌝ }
@@ -37,20 +30,13 @@ pub(crate) fn send(core: Core, memory: &[u8], bytes: &[u8]) -> Core
     framed.core
 }
 
-// RDSR, and the status byte that it shows.
-pub(crate) fn poll(core: Core, memory: &[u8]) -> Polled
+// RDSR, and the status byte that it shows; the record that follows is the one given.
+pub(crate) fn poll(core: Core, memory: &[u8]) -> u8
     requires { ⌜ length (now memory) ≡ m95512 .size ⌝ }
     requires { ⌜ inRanges m95512 core ≡ true ⌝ }
-    ensures { λ r. ⌜ (r .status ≡ status core) × (r .core ≡ core) ⌝ }
+    ensures { λ r. ⌜ r ≡ status core ⌝ }
 {
-    let bytes = [RDSR, 0];
-    let mut out = [0u8; 2];
-    let framed = frames::frame(core, memory, true, &bytes, 16, &mut out);
-    let next = framed.core;
-    Polled {
-        status: out[1],
-        core: next,
-    }
+    frames::poll(core, memory).status
 }
 
 // Room for the longest frame.

@@ -6,9 +6,8 @@ ghost use lib.ListN.{length};
 ghost use Rattle.codes.specs.Part.{m95512};
 ghost use Rattle.chip.specs.Ranges.{inRanges};
 ghost use Rattle.chip.specs.Records.{status};
-ghost use Rattle.frames.specs.Play.{frameBench};
-ghost use Rattle.driver.specs.Sequence.{sent, playedFrom, latePoll, pollsOn, firstWait, pageWait};
-use crate::sending::Polled;
+ghost use Rattle.frames.specs.Play.{acted, frameBench};
+ghost use Rattle.driver.specs.Sequence.{sent, playedFrom, moved, pollsOn, firstWait, pageWait};
 use crate::sending::poll;
 use chip::Core;
 
@@ -30,40 +29,40 @@ impl Waited {
     }
 }
 
-// A poll after moving the clock by the interval. The counter wraps.
-fn late_poll(core: Core, memory: &mut [u8], interval: u32) -> Polled
+// The clock moved by the interval. The counter wraps.
+fn moved(core: Core, memory: &mut [u8], interval: u32) -> Core
     requires { ⌜ length (now memory) ≡ m95512 .size ⌝ }
     requires { ⌜ inRanges m95512 core ≡ true ⌝ }
-    ensures { λ r. ⌜ r .core ≡ playedFrom m95512 (latePoll interval) core (now (memory .entry)) .core ⌝ }
-    ensures { λ r. ⌜ r .status ≡ status (r .core) ⌝ }
-    ensures { λ _. ⌜ now (memory .exit) ≡ playedFrom m95512 (latePoll interval) core (now (memory .entry)) .memory ⌝ }
+    ensures { λ r. ⌜ r
+        ≡ acted m95512 (moved interval (frameBench core (now (memory .entry)))) (frameBench core (now (memory .entry)))
+        .core ⌝ }
+    ensures { λ _. ⌜ now (memory .exit)
+        ≡ acted m95512 (moved interval (frameBench core (now (memory .entry)))) (frameBench core (now (memory .entry)))
+        .memory ⌝ }
 {
     let reading = std::num::wrapping_add_u32(core.last, interval);
-    let timed = chip::clock_reading(core, reading, memory);
-    let next = timed.core;
-    poll(next, memory)
+    chip::clock_reading(core, reading, memory).core
 }
 
-// Polls while WIP is 1 and some are left.
-fn poll_on(seen: Polled, memory: &mut [u8], interval: u32, left: u32) -> Waited
+// Polls while WIP is 1 and some are left, each after moving the clock, after one that saw a status byte.
+fn poll_on(start: Core, seen: u8, memory: &mut [u8], interval: u32, left: u32) -> Waited
     requires { ⌜ length (now memory) ≡ m95512 .size ⌝ }
-    requires { ⌜ inRanges m95512 (seen .core) ≡ true ⌝ }
-    requires { ⌜ seen .status ≡ status (seen .core) ⌝ }
-    ensures { λ r. ⌜ r .core
-        ≡ playedFrom m95512 (pollsOn m95512 interval left) (seen .core) (now (memory .entry)) .core ⌝ }
+    requires { ⌜ inRanges m95512 start ≡ true ⌝ }
+    requires { ⌜ seen ≡ status start ⌝ }
+    ensures { λ r. ⌜ r .core ≡ playedFrom m95512 (pollsOn m95512 interval left) start (now (memory .entry)) .core ⌝ }
     ensures { λ r. ⌜ r .status ≡ status (r .core) ⌝ }
-    ensures { λ r. ⌜ r .frames ≡ sent (pollsOn m95512 interval left (frameBench (seen .core) (now (memory .entry)))) ⌝ }
+    ensures { λ r. ⌜ r .frames ≡ sent (pollsOn m95512 interval left (frameBench start (now (memory .entry)))) ⌝ }
     ensures { λ _. ⌜ now (memory .exit)
-        ≡ playedFrom m95512 (pollsOn m95512 interval left) (seen .core) (now (memory .entry)) .memory ⌝ }
+        ≡ playedFrom m95512 (pollsOn m95512 interval left) start (now (memory .entry)) .memory ⌝ }
 {
-    let mut polled = seen;
+    let mut core = start;
+    let mut status = seen;
     let mut polls: u32 = 0;
-    while (polls < left) & (polled.status & 1 == 1) {
-        polled = late_poll(polled.core, memory, interval);
+    while (polls < left) & (status & 1 == 1) {
+        core = moved(core, memory, interval);
+        status = poll(core, memory);
         polls += 1;
     }
-    let status = polled.status;
-    let core = polled.core;
     Waited {
         status: status,
         core: core,
@@ -83,7 +82,7 @@ pub(crate) fn first_wait(core: Core, memory: &mut [u8], interval: u32, limit: u3
         ≡ playedFrom m95512 (firstWait m95512 interval limit) core (now (memory .entry)) .memory ⌝ }
 {
     let seen = poll(core, memory);
-    poll_on(seen, memory, interval, limit - 1).and_sent(1)
+    poll_on(core, seen, memory, interval, limit - 1).and_sent(1)
 }
 
 // The wait of a page: each poll after moving the clock.
@@ -97,6 +96,7 @@ pub(crate) fn page_wait(core: Core, memory: &mut [u8], interval: u32, limit: u32
     ensures { λ _. ⌜ now (memory .exit)
         ≡ playedFrom m95512 (pageWait m95512 interval limit) core (now (memory .entry)) .memory ⌝ }
 {
-    let seen = late_poll(core, memory, interval);
-    poll_on(seen, memory, interval, limit - 1).and_sent(1)
+    let next = moved(core, memory, interval);
+    let seen = poll(next, memory);
+    poll_on(next, seen, memory, interval, limit - 1).and_sent(1)
 }

@@ -18,7 +18,7 @@ use Rattle.chip.proofs.Passing.{on-core, no-end}
 use Rattle.frames.specs.Play.{FrameBench, actedAll}
 use Rattle.driver.specs.Sequence.{sent, latePoll, pollsOn}
 use Rattle.driver_theorems.specs.Counts.{roundedUp}
-use Rattle.driver.proofs.Frames.{poll-leaves}
+use Rattle.frames.proofs.Polls.{poll-leaves}
 use Rattle.driver.proofs.Waits.{polls-on-free, polls-on-none, acted-all-busy, sent-busy}
 
 -- ---- a quotient, rounded up

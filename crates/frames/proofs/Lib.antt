@@ -3,6 +3,7 @@ pub mod Latching
 pub mod Padding
 pub mod Showing
 pub mod Outcomes
+pub mod Polls
 pub mod Ones
 pub mod Kept
 pub mod Ignored

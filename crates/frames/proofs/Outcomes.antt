@@ -7,7 +7,7 @@ use mathlib.Core.List.{List}
 use lib.ListN.{length}
 use lib.Dec.{eqb, leb}
 use borrow.Author.Tests.{eqb-true, leb-true}
-use Rattle.laws.specs.Pick.{pick, pick-ap, pick-cong}
+use Rattle.laws.specs.Pick.{pick, pick-ap, pick-cong, yes-so, eq-so, le-so}
 use Rattle.codes.specs.Part.{Part}
 use Rattle.chip.specs.Ranges.{inRanges}
 use Rattle.chip.specs.Records.{running, status}
@@ -53,6 +53,11 @@ module _ (P : Part) (c : Core) (size len n room : ℕ) where
         counted = bits .0;
         roomy = eqb-true _ _ (out .0);
       }
+
+  -- and that is all that it needs
+  pub accepted : size ≡ P .size → inRanges P c ≡ true → len ≤ longestFrame P → bitsFit len n ≡ true → room ≡ len → frameOutcome P c size len n room ≡ Done
+  accepted whole inside short counted roomy =
+      sym (eq-so _ whole (yes-so _ inside (le-so _ short (yes-so _ counted (eq-so _ roomy refl)))))
 
   outcome-number : number (frameOutcome P c size len n room) ≡ frameNumber P c size len n room
   outcome-number =

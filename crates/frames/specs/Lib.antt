@@ -4,4 +4,5 @@ pub mod Bytes
 pub mod After
 pub mod Shown
 pub mod Answers
+pub mod Polls
 pub mod Play

@@ -1,6 +1,6 @@
 // The frame model of the M95512: it takes whole frames.
 //
-// Public calls, each for every input: frame, here, and chip's power_up and clock_reading, whose record this model
+// Public calls, each for every input: frame and poll, and chip's power_up and clock_reading, whose record this model
 // holds.
 ghost use mathlib.Core.Path.{_≡_};
 ghost use lib.ListN.{length};
@@ -16,8 +16,11 @@ use codes::Refusal;
 mod answers;
 mod executed;
 mod fields;
+mod polling;
 mod refused;
 mod shown;
+
+pub use polling::poll;
 
 // How many leading bits of the count were undriven, or the refusal.
 pub enum FrameReply {
@@ -29,6 +32,12 @@ pub enum FrameReply {
 pub struct Framed {
     pub answer: FrameReply,
     pub core: Core,
+}
+
+// What a poll hands back: its answer, and the status byte that it shows, 0 in a refusal.
+pub struct Seen {
+    pub answer: FrameReply,
+    pub status: u8,
 }
 
 // A frame for every record, memory, level of W, slice, bit count and output. Refusals 1, 2, 3, 4 and 5 in that order

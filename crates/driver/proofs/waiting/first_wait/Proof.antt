@@ -1,11 +1,8 @@
-use mathlib.Core.Path.{refl, ap, sym, _∙_}
+use mathlib.Core.Path.{refl}
 use Prim.Native.Nat.{_-_}
 use native.Mathlib.Omega.{arith}
 use Rattle.codes.specs.Part.{m95512}
-use Rattle.chip.specs.Ranges.{inRanges}
-use Rattle.chip.specs.Records.{status}
 use Rattle.frames.specs.Play.{FrameBench, frameBench}
-use Rattle.driver.proofs.Ready.{bench-of}
 use Rattle.driver.proofs.Waits.{sent-most}
 use Rattle.driver.proofs.Joined.{told, first-wait}
 use borrow.Author.Needs.{needs}
@@ -24,30 +21,25 @@ sub-poll-on : tie.Need-sub-poll-on
 sub-poll-on c = search needs
 
 poll-on-requires : tie.Need-poll-on-requires
-poll-on-requires c κs =
-    let start = c .before .before .before .before in
-    let poll = c .before .poll in
-    (start .pre .0, (ap (inRanges m95512) (poll .ensures .1) ∙ start .pre .1 .0, poll .ensures .0 ∙ ap status (sym (poll .ensures .1))))
+poll-on-requires c κs = search needs
 
 and-sent-requires : tie.Need-and-sent-requires
 and-sent-requires c κs =
-    let start = c .before .before .before .before .before .before .before in
+    let a = c .before .before .before .before .before .before .before .args in
     let wait = c .before .before .poll-on in
-    let x : FrameBench = frameBench (c .before .before .before .before .poll .result .core) (start .args .memory .now) in
-    omega (arith, wait .ensures .1 .1 .0, sent-most m95512 (start .args .interval) (start .args .limit - 1) x)
+    let d : FrameBench = frameBench (a .core) (a .memory .now) in
+    let most = c .before .before .before .before .before .before .before .pre .1 .1 in
+    omega (arith, wait .ensures .1 .1 .0, sent-most m95512 (a .interval) (a .limit - 1) d)
 
 same-length : tie.Need-same-length
 same-length c = search needs
 
 returns : tie.Need-returns
 returns c =
-    let start = c .before .before .before .before .before .before .before .before in
-    let poll = c .before .before .before .before .before .poll in
+    let a = c .before .before .before .before .before .before .before .before .args in
     let wait = c .before .before .before .poll-on in
-    let d : FrameBench = frameBench (start .args .core) (start .args .memory .now) in
-    let x : FrameBench = frameBench (poll .result .core) (start .args .memory .now) in
-    let follows = first-wait m95512 (start .args .interval) (start .args .limit) d x (bench-of d (poll .ensures .1) refl) in
-    told m95512 _ d _ x 1 follows (wait .result) (c .and-sent .result) (wait .last .1 .0) (wait .ensures) (c .and-sent .ensures)
+    let d : FrameBench = frameBench (a .core) (a .memory .now) in
+    told m95512 _ d _ d 1 (first-wait m95512 (a .interval) (a .limit) d d refl) (wait .result) (c .and-sent .result) (wait .last .1 .1 .0) (wait .ensures) (c .and-sent .ensures)
 
 pub first-wait-spec : {M : Type 1} → statement M
 first-wait-spec =
