@@ -1,0 +1,18 @@
+-- The bytes of the literal are the closing line's.
+use Rattle.hex.specs.Writing.{endLine}
+use borrow.Author.Needs.{needs}
+use Rattle.hex.proofs.reading.is_end.Statement.{statement}
+use Rattle.hex.proofs.reading.is_end.Tie as tie
+
+slice-aggregate-same : tie.Need-slice-aggregate-same
+slice-aggregate-same c = search needs
+
+same-requires : tie.Need-same-requires
+same-requires c κs = search needs
+
+returns : tie.Need-returns
+unfolding endLine
+returns c = c .same .ensures
+
+pub is-end-spec : {M : Type 1} → statement M
+is-end-spec = tie.close (tie.spec slice-aggregate-same same-requires returns)

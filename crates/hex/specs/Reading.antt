@@ -1,0 +1,104 @@
+-- Intel HEX as it is read: the record at the front of a text, the records that a text says, and the cells that they give.
+-- That a good text is the written text of its records, and no other is good, is a theorem (proofs/Read.antt).
+use Prim.Native.Nat.{ℕ, zero, suc, _+_, _*_, _-_, _%_}
+use mathlib.Core.Bool.{Bool, _&&_}
+use mathlib.Core.List.{List, [], _∷_}
+use lib.ListN.{length, getD, take, drop}
+use lib.Dec.{eqb, leb, ltb}
+use Rattle.laws.specs.Pick.{pick}
+use Rattle.laws.specs.Each.{each}
+use Rattle.laws.specs.Table.{table}
+use Rattle.codes.specs.Part.{Part}
+use Rattle.printing.specs.Put.{put}
+use Rattle.hex.specs.Writing.{Piece, total, endLine}
+
+-- the value of a digit, 0 to 9 and upper case A to F; 256 for every other byte
+unfoldable pub digit : ℕ → ℕ
+digit b = pick (ltb b 48) 256 (pick (leb b 57) (b - 48) (pick (ltb b 65) 256 (pick (leb b 70) (b - 55) 256)))
+
+-- byte i of the line at the front of a text, which begins with a colon: 256 or more where it is not two digits
+unfoldable pub byteAt : List ℕ → ℕ → ℕ
+byteAt t i = digit (getD t (2 * i + 1) 0) * 16 + digit (getD t (2 * i + 2) 0)
+
+abbrev pub isByte : List ℕ → ℕ → Bool
+isByte t i = ltb (byteAt t i) 256
+
+-- ---- the record at the front of a text: its fields by their places in the line
+
+abbrev pub dataLength : List ℕ → ℕ
+dataLength t = byteAt t 0
+
+abbrev pub addressAt : List ℕ → ℕ
+addressAt t = byteAt t 1 * 256 + byteAt t 2
+
+abbrev pub typeAt : List ℕ → ℕ
+typeAt t = byteAt t 3
+
+abbrev pub pieceAt : List ℕ → Piece
+pieceAt t = record { address = addressAt t; bytes = table (dataLength t) (λ i. byteAt t (i + 4)) }
+
+-- the colon, two digits for each byte, LF
+abbrev pub lineLength : List ℕ → ℕ
+lineLength t = 2 * dataLength t + 12
+
+-- ---- whether there is a good one
+
+-- a colon, and LF after the digits
+abbrev pub isFramed : List ℕ → Bool
+isFramed t = eqb (getD t 0 0) 58 && eqb (getD t (2 * dataLength t + 11) 0) 10
+
+-- type 00, and no byte past the last cell
+abbrev pub isPlaced : Part → List ℕ → Bool
+isPlaced P t = eqb (typeAt t) 0 && leb (addressAt t + dataLength t) (P .size)
+
+-- the first n bytes are all in digits, and their sum is 0 in its low eight bits
+abbrev pub sumsUp : List ℕ → ℕ → Bool
+sumsUp t n = each (isByte t) n && eqb (total (table n (byteAt t)) % 256) 0
+
+-- five bytes beside the data: length, address, type and sum
+unfoldable pub saysPiece : Part → List ℕ → Bool
+saysPiece P t = isFramed t && isPlaced P t && sumsUp t (dataLength t + 5)
+
+-- ---- a text: the records at its front, and what is left after them. No text has more records than bytes
+
+pub record Said : Type 0 where
+  pub pieces : List Piece
+  pub rest : List ℕ
+
+abbrev pub saidFirst : Piece → Said → Said
+saidFirst r s = record { pieces = r ∷ s .pieces; rest = s .rest }
+
+abbrev pub saidNone : List ℕ → Said
+saidNone t = record { pieces = []; rest = t }
+
+-- n records at most
+unfoldable pub saidBy : Part → ℕ → List ℕ → Said
+saidBy P zero t = saidNone t
+saidBy P (suc n) t = pick (saysPiece P t) (saidFirst (pieceAt t) (saidBy P n (drop (lineLength t) t))) (saidNone t)
+
+unfoldable pub said : Part → List ℕ → Said
+said P t = saidBy P (length t) t
+
+-- two lists with the same elements
+abbrev pub same : List ℕ → List ℕ → Bool
+same x y = eqb (length x) (length y) && each (λ i. eqb (getD x i 0) (getD y i 0)) (length y)
+
+-- after its records there is the closing one, and nothing after it
+abbrev pub isGood : Part → List ℕ → Bool
+isGood P t = same (said P t .rest) endLine
+
+-- the number of the first bad line, 0 for a good text: the one after the records; where that is the closing one, and
+-- more follows it, the next
+abbrev pub badLine : Part → List ℕ → ℕ
+badLine P t = pick (isGood P t) 0 (length (said P t .pieces) + pick (same (take 12 (said P t .rest)) endLine) 2 1)
+
+-- ---- the cells
+
+-- a record's bytes, from its address on
+abbrev pub laidPiece : Piece → List ℕ → List ℕ
+laidPiece r m = put m (r .address) (r .bytes)
+
+-- one after another: a later one wins
+unfoldable pub laidPieces : List Piece → List ℕ → List ℕ
+laidPieces [] m = m
+laidPieces (r ∷ rs) m = laidPieces rs (laidPiece r m)

@@ -1,0 +1,125 @@
+// The public calls: export, import, and where a text is not good.
+ghost use mathlib.Core.Path.{_≡_};
+ghost use mathlib.Core.Bool.{not, _&&_};
+ghost use Prim.Native.Nat.{_≤_};
+ghost use lib.ListN.{length, take};
+ghost use Rattle.laws.specs.Pick.{pick};
+ghost use Rattle.codes.specs.Part.{m95512};
+ghost use Rattle.hex.specs.Writing.{endLine};
+ghost use Rattle.hex.specs.Reading.{said, same, isGood, badLine, laidPieces};
+ghost use Rattle.hex.specs.Answers.{hexNumber, takenReply, exportReply, exportNumber, exportOutput, importAnswer, importNumber, importMemory};
+use crate::HexReply;
+use crate::Imported;
+use crate::TEXT_SIZE;
+use crate::reading::check;
+use crate::reading::is_end;
+use crate::storing::store;
+use crate::writing::put_image;
+use chip::Core;
+use codes::Refusal;
+use codes::SIZE;
+
+impl HexReply {
+    // Document 02's number: 0, 12 for what is not taken, 1, 2 and 5.
+    pub fn number(self) -> u32
+        ensures { λ r. ⌜ r ≡ hexNumber self ⌝ }
+    {
+        match self {
+            HexReply::Done => 0,
+            HexReply::NotTaken => 12,
+            HexReply::Refused(refusal) => refusal.number(),
+        }
+    }
+}
+
+// All cells as a text, as stored, in a cycle too. Refusals 1 for a memory of another length, 2 for a record outside its
+// ranges, 5 for an output that is not of 180,236 bytes, each with the output as it was.
+pub fn export(core: Core, memory: &[u8], out: &mut [u8]) -> HexReply
+    ensures { λ r. ⌜ r ≡ exportReply m95512 core (now (memory .entry)) (length (now (out .entry))) ⌝ }
+    ensures { λ r. ⌜ hexNumber r ≡ exportNumber m95512 core (now (memory .entry)) (length (now (out .entry))) ⌝ }
+    ensures { λ _. ⌜ now (out .exit) ≡ exportOutput m95512 core (now (memory .entry)) (now (out .entry)) ⌝ }
+{
+    if memory.len() == SIZE {
+        if core.in_ranges() {
+            if out.len() == TEXT_SIZE {
+                put_image(out, memory);
+                return HexReply::Done;
+            }
+            return HexReply::Refused(Refusal::OutputLength);
+        }
+        return HexReply::Refused(Refusal::RecordRange);
+    }
+    HexReply::Refused(Refusal::MemoryLength)
+}
+
+// The text is checked whole before a cell changes.
+fn take_text(running: bool, memory: &mut [u8], text: &[u8]) -> HexReply
+    requires { ⌜ length (now memory) ≡ m95512 .size ⌝ }
+    ensures { λ r. ⌜ r ≡ takenReply (not running && isGood m95512 (now (text .entry))) ⌝ }
+    ensures { λ _. ⌜ now (memory .exit) ≡ pick (not running && isGood m95512 (now (text .entry)))
+        (laidPieces (said m95512 (now (text .entry)) .pieces) (now (memory .entry))) (now (memory .entry)) ⌝ }
+{
+    if running {
+        return HexReply::NotTaken;
+    }
+    let checked = check(text);
+    let at = checked.at;
+    if is_end(&text[at..]) {
+        store(memory, text, at);
+        return HexReply::Done;
+    }
+    HexReply::NotTaken
+}
+
+// The cells that a text names, a later record over an earlier one. Refusals 1 for a memory of another length, 2 for a
+// record outside its ranges, 12 for a text that is not good or while a cycle runs, each with the memory as it was. The
+// record comes back as it was given.
+pub fn import(core: Core, memory: &mut [u8], text: &[u8]) -> Imported
+    ensures { λ r. ⌜ r ≡ importAnswer m95512 core (now (memory .entry)) (now (text .entry)) ⌝ }
+    ensures { λ r. ⌜ hexNumber (r .answer) ≡ importNumber m95512 core (now (memory .entry)) (now (text .entry)) ⌝ }
+    ensures { λ _. ⌜ now (memory .exit) ≡ importMemory m95512 core (now (memory .entry)) (now (text .entry)) ⌝ }
+{
+    if memory.len() == SIZE {
+        if core.in_ranges() {
+            let answer = take_text(core.running(), memory, text);
+            return Imported {
+                answer: answer,
+                core: core,
+            };
+        }
+        return Imported {
+            answer: HexReply::Refused(Refusal::RecordRange),
+            core: core,
+        };
+    }
+    Imported {
+        answer: HexReply::Refused(Refusal::MemoryLength),
+        core: core,
+    }
+}
+
+// How many lines after the records the first bad line is: 2 where the first is the closing one and more follows it.
+fn lines_on(rest: &[u8]) -> usize
+    ensures { λ r. ⌜ (r ≡ pick (same (take 12 (now (rest .entry))) endLine) 2 1) × (r ≤ 2) ⌝ }
+{
+    if rest.len() < 12 {
+        return 1;
+    }
+    if is_end(&rest[..12]) {
+        return 2;
+    }
+    1
+}
+
+// The number of the first line of a text that is bad, 0 where the text is good. A text that ends too early is bad in the
+// line after its last.
+pub fn bad_line(text: &[u8]) -> usize
+    ensures { λ r. ⌜ r ≡ badLine m95512 (now (text .entry)) ⌝ }
+{
+    let checked = check(text);
+    let at = checked.at;
+    if is_end(&text[at..]) {
+        return 0;
+    }
+    checked.lines + lines_on(&text[at..])
+}
