@@ -14,11 +14,11 @@ use Rattle.laws.specs.Each.{each, each-at}
 use Rattle.laws.specs.Table.{table}
 use Rattle.codes.specs.Part.{Part}
 use Rattle.hex.specs.Writing.{total}
-use Rattle.hex.specs.Reading.{byteAt, isByte, dataLength, addressAt, typeAt, isFramed, isPlaced, sumsUp, saysPiece, lineLength}
+use Rattle.hex.specs.Reading.{lineByte, isByte, dataLength, addressAt, typeAt, isFramed, isPlaced, sumsUp, saysRecord, lineLength}
 
-pub split : {A : Type 0} (t : Bool) → (t ≡ true → A) → (t ≡ false → A) → A
-split true f g = f refl
-split false f g = g refl
+pub by-test : {A : Type 0} (t : Bool) → (t ≡ true → A) → (t ≡ false → A) → A
+by-test true f g = f refl
+by-test false f g = g refl
 
 -- no LF after the digits: the text is too short for them
 pub unframed : (t : List ℕ) → length t < 2 * dataLength t + 12 → isFramed t ≡ false
@@ -26,26 +26,26 @@ unframed t h =
     and-no-right (eqb (getD t 0 0) 58) (eqb (getD t (2 * dataLength t + 11) 0) 10)
     (ap (λ (b : ℕ). eqb b 10) (List·getD-eq-default t 0 {n = 2 * dataLength t + 11} (omega arith)))
 
-pub too-short : (P : Part) (t : List ℕ) → length t < 2 * dataLength t + 12 → saysPiece P t ≡ false
-unfolding saysPiece
+pub too-short : (P : Part) (t : List ℕ) → length t < 2 * dataLength t + 12 → saysRecord P t ≡ false
+unfolding saysRecord
 too-short P t h =
     and-no-left (isFramed t && isPlaced P t) (sumsUp t (dataLength t + 5)) (and-no-left (isFramed t) (isPlaced P t) (unframed t h))
 
 -- a length that is not two digits
-pub no-length : (P : Part) (t : List ℕ) → 256 ≤ dataLength t → saysPiece P t ≡ false
-unfolding saysPiece
+pub no-length : (P : Part) (t : List ℕ) → 256 ≤ dataLength t → saysRecord P t ≡ false
+unfolding saysRecord
 no-length P t h =
     let no : each (isByte t) (dataLength t + 5) ≡ false =
-    split (each (isByte t) (dataLength t + 5))
-    (λ e. absurd (true≢false (sym (each-at (isByte t) (dataLength t + 5) 0 e (omega arith)) ∙ le-ltb (byteAt t 0) 256 h))) (λ e. e) in
+    by-test (each (isByte t) (dataLength t + 5))
+    (λ e. absurd (true≢false (sym (each-at (isByte t) (dataLength t + 5) 0 e (omega arith)) ∙ le-ltb (lineByte t 0) 256 h))) (λ e. e) in
     and-no-right (isFramed t && isPlaced P t) (sumsUp t (dataLength t + 5))
-    (and-no-left (each (isByte t) (dataLength t + 5)) (eqb (total (table (dataLength t + 5) (byteAt t)) % 256) 0) no)
+    (and-no-left (each (isByte t) (dataLength t + 5)) (eqb (total (table (dataLength t + 5) (lineByte t)) % 256) 0) no)
 
 -- ---- what a good record has
 
-module _ (P : Part) (t : List ℕ) (h : saysPiece P t ≡ true) where
+module _ (P : Part) (t : List ℕ) (h : saysRecord P t ≡ true) where
   parts : (isFramed t ≡ true) × ((isPlaced P t ≡ true) × (sumsUp t (dataLength t + 5) ≡ true))
-  unfolding saysPiece
+  unfolding saysRecord
   parts = and-3-out (isFramed t) (isPlaced P t) (sumsUp t (dataLength t + 5)) h
 
   pub front-colon : getD t 0 0 ≡ 58
@@ -62,14 +62,14 @@ module _ (P : Part) (t : List ℕ) (h : saysPiece P t ≡ true) where
 
   pub front-digits : each (isByte t) (dataLength t + 5) ≡ true
   front-digits =
-      and-left (each (isByte t) (dataLength t + 5)) (eqb (total (table (dataLength t + 5) (byteAt t)) % 256) 0) (parts .1 .1)
+      and-left (each (isByte t) (dataLength t + 5)) (eqb (total (table (dataLength t + 5) (lineByte t)) % 256) 0) (parts .1 .1)
 
-  pub front-sum : total (table (dataLength t + 5) (byteAt t)) % 256 ≡ 0
+  pub front-sum : total (table (dataLength t + 5) (lineByte t)) % 256 ≡ 0
   front-sum =
       eqb-true _ _
-      (and-right (each (isByte t) (dataLength t + 5)) (eqb (total (table (dataLength t + 5) (byteAt t)) % 256) 0) (parts .1 .1))
+      (and-right (each (isByte t) (dataLength t + 5)) (eqb (total (table (dataLength t + 5) (lineByte t)) % 256) 0) (parts .1 .1))
 
-  pub front-byte : (i : ℕ) → i < dataLength t + 5 → byteAt t i < 256
+  pub front-byte : (i : ℕ) → i < dataLength t + 5 → lineByte t i < 256
   front-byte i b = ltb-true _ _ (each-at (isByte t) (dataLength t + 5) i front-digits b)
 
   pub front-length : lineLength t ≤ length t

@@ -8,7 +8,7 @@ use lib.Seq.{take-suc, length-take-le, drop-length}
 use Rattle.laws.specs.Table.{from, table}
 use Rattle.printing.specs.Put.{put}
 use Rattle.printing.proofs.Puts.{put-nil, put-put, put-more, put-length}
-use Rattle.hex.specs.Writing.{Piece, byteText, bytesText, total, sumByte, lineOf, fields, pieceLine, piecesText, pieceOf}
+use Rattle.hex.specs.Writing.{HexRecord, byteText, bytesText, total, sumByte, lineOf, fields, recordLine, recordsText, recordOf}
 use Rattle.hex.proofs.Sums.{total-append, table-more}
 
 pub put-set : (d : List ℕ) (at v : ℕ) → at < length d → set d at v ≡ put d at (v ∷ [])
@@ -46,9 +46,9 @@ bytesText-more x i h =
 
 -- ---- a line
 
-pub pieceLine-length : (r : Piece) → length (pieceLine r) ≡ 2 * length (r .bytes) + 12
-unfolding pieceLine
-pieceLine-length r = rw (length-append, bytesText-length (fields r)) (omega arith)
+pub recordLine-length : (r : HexRecord) → length (recordLine r) ≡ 2 * length (r .bytes) + 12
+unfolding recordLine
+recordLine-length r = rw (length-append, bytesText-length (fields r)) (omega arith)
 
 -- the colon, the head, the data, the sum and LF, one after another
 pub line-written : (d w x y z v : List ℕ) (at n s : ℕ) (hd bs : List ℕ) → length hd ≡ 4 → length bs ≡ n → at + 2 * n + 12 ≤ length d
@@ -79,38 +79,38 @@ line-written d w x y z v at n s hd bs e f h o p q r k i =
 
 -- ---- lines
 
-pub piecesText-append : (x y : List Piece) → piecesText (x ++ y) ≡ piecesText x ++ piecesText y
-unfolding piecesText
-piecesText-append [] y = refl
-piecesText-append (r ∷ x) y =
-    ap (λ (l : List ℕ). pieceLine r ++ l) (piecesText-append x y) ∙ sym (append-assoc (pieceLine r) (piecesText x) (piecesText y))
+pub recordsText-append : (x y : List HexRecord) → recordsText (x ++ y) ≡ recordsText x ++ recordsText y
+unfolding recordsText
+recordsText-append [] y = refl
+recordsText-append (r ∷ x) y =
+    ap (λ (l : List ℕ). recordLine r ++ l) (recordsText-append x y) ∙ sym (append-assoc (recordLine r) (recordsText x) (recordsText y))
 
-pub piecesText-none : (f : ℕ → Piece) → piecesText (table 0 f) ≡ []
-unfolding piecesText table from
-piecesText-none f = refl
+pub recordsText-none : (f : ℕ → HexRecord) → recordsText (table 0 f) ≡ []
+unfolding recordsText table from
+recordsText-none f = refl
 
-pub piecesText-one : (r : Piece) → piecesText (r ∷ []) ≡ pieceLine r
-unfolding piecesText
-piecesText-one r = append-nil (pieceLine r)
+pub recordsText-one : (r : HexRecord) → recordsText (r ∷ []) ≡ recordLine r
+unfolding recordsText
+recordsText-one r = append-nil (recordLine r)
 
-pub piecesText-more : (f : ℕ → Piece) (k : ℕ) → piecesText (table (k + 1) f) ≡ piecesText (table k f) ++ pieceLine (f k)
-piecesText-more f k =
-    ap piecesText (table-more f k) ∙ piecesText-append (table k f) (f k ∷ []) ∙ ap (λ (l : List ℕ). piecesText (table k f) ++ l) (piecesText-one (f k))
+pub recordsText-more : (f : ℕ → HexRecord) (k : ℕ) → recordsText (table (k + 1) f) ≡ recordsText (table k f) ++ recordLine (f k)
+recordsText-more f k =
+    ap recordsText (table-more f k) ∙ recordsText-append (table k f) (f k ∷ []) ∙ ap (λ (l : List ℕ). recordsText (table k f) ++ l) (recordsText-one (f k))
 
 -- ---- the lines of an image, 44 bytes each
 
 module _ (m : List ℕ) where
-  pub sixteen : (k : ℕ) → 16 * k + 16 ≤ length m → length (pieceOf m k .bytes) ≡ 16
+  pub sixteen : (k : ℕ) → 16 * k + 16 ≤ length m → length (recordOf m k .bytes) ≡ 16
   sixteen k h = length-take-le 16 (drop (16 * k) m) (rw length-drop (omega arith))
 
-  pub lines-length : (k : ℕ) → 16 * k ≤ length m → length (piecesText (table k (pieceOf m))) ≡ 44 * k
-  lines-length zero h = ap length (piecesText-none (pieceOf m))
+  pub lines-length : (k : ℕ) → 16 * k ≤ length m → length (recordsText (table k (recordOf m))) ≡ 44 * k
+  lines-length zero h = ap length (recordsText-none (recordOf m))
   lines-length (suc k) h =
       let one : k + 1 ≡ suc k = omega arith in
-      let more : piecesText (table (suc k) (pieceOf m)) ≡ piecesText (table k (pieceOf m)) ++ pieceLine (pieceOf m k) =
-      ap (λ (j : ℕ). piecesText (table j (pieceOf m))) (sym one) ∙ piecesText-more (pieceOf m) k in
-      ap length more ∙ length-append (piecesText (table k (pieceOf m))) (pieceLine (pieceOf m k))
-      ∙ omega (arith, lines-length k (omega arith), pieceLine-length (pieceOf m k), sixteen k (omega arith))
+      let more : recordsText (table (suc k) (recordOf m)) ≡ recordsText (table k (recordOf m)) ++ recordLine (recordOf m k) =
+      ap (λ (j : ℕ). recordsText (table j (recordOf m))) (sym one) ∙ recordsText-more (recordOf m) k in
+      ap length more ∙ length-append (recordsText (table k (recordOf m))) (recordLine (recordOf m k))
+      ∙ omega (arith, lines-length k (omega arith), recordLine-length (recordOf m k), sixteen k (omega arith))
 
 -- bytes of the same number take the place of all
 pub put-all : (d s : List ℕ) → length s ≡ length d → put d 0 s ≡ s

@@ -15,7 +15,7 @@ use Rattle.hex.specs.declared.HexReply.{HexReply}
 use Rattle.hex.specs.declared.HexReply.the-variants.{Done, NotTaken, Refused}
 use Rattle.hex.specs.declared.Imported.{Imported}
 use Rattle.hex.specs.Writing.{imageText, imageRoom}
-use Rattle.hex.specs.Reading.{said, isGood, laidPieces}
+use Rattle.hex.specs.Reading.{parted, isGood, laidRecords}
 
 -- document 02's number of an answer
 abbrev pub hexNumber : HexReply → ℕ
@@ -65,4 +65,4 @@ abbrev pub importNumber : Part → Core → List ℕ → List ℕ → ℕ
 importNumber P c m t = importChoice P c m t 1 2 12 0
 
 abbrev pub importMemory : Part → Core → List ℕ → List ℕ → List ℕ
-importMemory P c m t = importChoice P c m t m m m (laidPieces (said P t .pieces) m)
+importMemory P c m t = importChoice P c m t m m m (laidRecords (parted P t .records) m)

@@ -10,32 +10,32 @@ use Rattle.laws.specs.Each.{each}
 use Rattle.laws.specs.Table.{table}
 use Rattle.codes.specs.Part.{Part}
 use Rattle.printing.specs.Put.{put}
-use Rattle.hex.specs.Writing.{Piece, total, endLine}
+use Rattle.hex.specs.Writing.{HexRecord, total, endLine}
 
 -- the value of a digit, 0 to 9 and upper case A to F; 256 for every other byte
 unfoldable pub digit : ℕ → ℕ
 digit b = pick (ltb b 48) 256 (pick (leb b 57) (b - 48) (pick (ltb b 65) 256 (pick (leb b 70) (b - 55) 256)))
 
 -- byte i of the line at the front of a text, which begins with a colon: 256 or more where it is not two digits
-unfoldable pub byteAt : List ℕ → ℕ → ℕ
-byteAt t i = digit (getD t (2 * i + 1) 0) * 16 + digit (getD t (2 * i + 2) 0)
+unfoldable pub lineByte : List ℕ → ℕ → ℕ
+lineByte t i = digit (getD t (2 * i + 1) 0) * 16 + digit (getD t (2 * i + 2) 0)
 
 abbrev pub isByte : List ℕ → ℕ → Bool
-isByte t i = ltb (byteAt t i) 256
+isByte t i = ltb (lineByte t i) 256
 
 -- ---- the record at the front of a text: its fields by their places in the line
 
 abbrev pub dataLength : List ℕ → ℕ
-dataLength t = byteAt t 0
+dataLength t = lineByte t 0
 
 abbrev pub addressAt : List ℕ → ℕ
-addressAt t = byteAt t 1 * 256 + byteAt t 2
+addressAt t = lineByte t 1 * 256 + lineByte t 2
 
 abbrev pub typeAt : List ℕ → ℕ
-typeAt t = byteAt t 3
+typeAt t = lineByte t 3
 
-abbrev pub pieceAt : List ℕ → Piece
-pieceAt t = record { address = addressAt t; bytes = table (dataLength t) (λ i. byteAt t (i + 4)) }
+abbrev pub recordAt : List ℕ → HexRecord
+recordAt t = record { address = addressAt t; bytes = table (dataLength t) (λ i. lineByte t (i + 4)) }
 
 -- the colon, two digits for each byte, LF
 abbrev pub lineLength : List ℕ → ℕ
@@ -53,52 +53,52 @@ isPlaced P t = eqb (typeAt t) 0 && leb (addressAt t + dataLength t) (P .size)
 
 -- the first n bytes are all in digits, and their sum is 0 in its low eight bits
 abbrev pub sumsUp : List ℕ → ℕ → Bool
-sumsUp t n = each (isByte t) n && eqb (total (table n (byteAt t)) % 256) 0
+sumsUp t n = each (isByte t) n && eqb (total (table n (lineByte t)) % 256) 0
 
 -- five bytes beside the data: length, address, type and sum
-unfoldable pub saysPiece : Part → List ℕ → Bool
-saysPiece P t = isFramed t && isPlaced P t && sumsUp t (dataLength t + 5)
+unfoldable pub saysRecord : Part → List ℕ → Bool
+saysRecord P t = isFramed t && isPlaced P t && sumsUp t (dataLength t + 5)
 
 -- ---- a text: the records at its front, and what is left after them. No text has more records than bytes
 
-pub record Said : Type 0 where
-  pub pieces : List Piece
+pub record Parted : Type 0 where
+  pub records : List HexRecord
   pub rest : List ℕ
 
-abbrev pub saidFirst : Piece → Said → Said
-saidFirst r s = record { pieces = r ∷ s .pieces; rest = s .rest }
+abbrev pub partedFirst : HexRecord → Parted → Parted
+partedFirst r s = record { records = r ∷ s .records; rest = s .rest }
 
-abbrev pub saidNone : List ℕ → Said
-saidNone t = record { pieces = []; rest = t }
+abbrev pub partedNone : List ℕ → Parted
+partedNone t = record { records = []; rest = t }
 
 -- n records at most
-unfoldable pub saidBy : Part → ℕ → List ℕ → Said
-saidBy P zero t = saidNone t
-saidBy P (suc n) t = pick (saysPiece P t) (saidFirst (pieceAt t) (saidBy P n (drop (lineLength t) t))) (saidNone t)
+unfoldable pub partedBy : Part → ℕ → List ℕ → Parted
+partedBy P zero t = partedNone t
+partedBy P (suc n) t = pick (saysRecord P t) (partedFirst (recordAt t) (partedBy P n (drop (lineLength t) t))) (partedNone t)
 
-unfoldable pub said : Part → List ℕ → Said
-said P t = saidBy P (length t) t
+unfoldable pub parted : Part → List ℕ → Parted
+parted P t = partedBy P (length t) t
 
 -- two lists with the same elements
-abbrev pub same : List ℕ → List ℕ → Bool
-same x y = eqb (length x) (length y) && each (λ i. eqb (getD x i 0) (getD y i 0)) (length y)
+abbrev pub sameBytes : List ℕ → List ℕ → Bool
+sameBytes x y = eqb (length x) (length y) && each (λ i. eqb (getD x i 0) (getD y i 0)) (length y)
 
 -- after its records there is the closing one, and nothing after it
 abbrev pub isGood : Part → List ℕ → Bool
-isGood P t = same (said P t .rest) endLine
+isGood P t = sameBytes (parted P t .rest) endLine
 
 -- the number of the first bad line, 0 for a good text: the one after the records; where that is the closing one, and
 -- more follows it, the next
-abbrev pub badLine : Part → List ℕ → ℕ
-badLine P t = pick (isGood P t) 0 (length (said P t .pieces) + pick (same (take 12 (said P t .rest)) endLine) 2 1)
+abbrev pub firstBad : Part → List ℕ → ℕ
+firstBad P t = pick (isGood P t) 0 (length (parted P t .records) + pick (sameBytes (take 12 (parted P t .rest)) endLine) 2 1)
 
 -- ---- the cells
 
 -- a record's bytes, from its address on
-abbrev pub laidPiece : Piece → List ℕ → List ℕ
-laidPiece r m = put m (r .address) (r .bytes)
+abbrev pub laidRecord : HexRecord → List ℕ → List ℕ
+laidRecord r m = put m (r .address) (r .bytes)
 
 -- one after another: a later one wins
-unfoldable pub laidPieces : List Piece → List ℕ → List ℕ
-laidPieces [] m = m
-laidPieces (r ∷ rs) m = laidPieces rs (laidPiece r m)
+unfoldable pub laidRecords : List HexRecord → List ℕ → List ℕ
+laidRecords [] m = m
+laidRecords (r ∷ rs) m = laidRecords rs (laidRecord r m)

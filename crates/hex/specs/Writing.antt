@@ -9,7 +9,7 @@ use Rattle.laws.specs.Table.{table}
 use Rattle.codes.specs.Part.{Part}
 
 -- a record of type 00: where its bytes go, and the bytes, 255 at most
-pub record Piece : Type 0 where
+pub record HexRecord : Type 0 where
   pub address : ℕ
   pub bytes : List ℕ
 
@@ -37,38 +37,38 @@ sumByte s = (256 - s % 256) % 256
 abbrev pub head : ℕ → ℕ → List ℕ
 head n address = n ∷ address / 256 ∷ address % 256 ∷ 0 ∷ []
 
-abbrev pub fields : Piece → List ℕ
+abbrev pub fields : HexRecord → List ℕ
 fields r = head (length (r .bytes)) (r .address) ++ r .bytes
 
 -- a colon; bytes, and the one that makes their sum 0; LF
 abbrev pub lineOf : List ℕ → List ℕ
 lineOf l = 58 ∷ (bytesText l ++ (byteText (sumByte (total l)) ++ (10 ∷ [])))
 
-unfoldable pub pieceLine : Piece → List ℕ
-pieceLine r = lineOf (fields r)
+unfoldable pub recordLine : HexRecord → List ℕ
+recordLine r = lineOf (fields r)
 
-unfoldable pub piecesText : List Piece → List ℕ
-piecesText [] = []
-piecesText (r ∷ rs) = pieceLine r ++ piecesText rs
+unfoldable pub recordsText : List HexRecord → List ℕ
+recordsText [] = []
+recordsText (r ∷ rs) = recordLine r ++ recordsText rs
 
 -- :00000001FF and LF
 unfoldable pub endLine : List ℕ
 endLine = 58 ∷ 48 ∷ 48 ∷ 48 ∷ 48 ∷ 48 ∷ 48 ∷ 48 ∷ 49 ∷ 70 ∷ 70 ∷ 10 ∷ []
 
 -- a text: records, then the closing one
-abbrev pub hexText : List Piece → List ℕ
-hexText rs = piecesText rs ++ endLine
+abbrev pub hexText : List HexRecord → List ℕ
+hexText rs = recordsText rs ++ endLine
 
 -- ---- an image: records of 16 bytes in rising order
 
-abbrev pub pieceOf : List ℕ → ℕ → Piece
-pieceOf m k = record { address = 16 * k; bytes = take 16 (drop (16 * k) m) }
+abbrev pub recordOf : List ℕ → ℕ → HexRecord
+recordOf m k = record { address = 16 * k; bytes = take 16 (drop (16 * k) m) }
 
-abbrev pub imagePieces : Part → List ℕ → List Piece
-imagePieces P m = table (P .size / 16) (pieceOf m)
+abbrev pub imageRecords : Part → List ℕ → List HexRecord
+imageRecords P m = table (P .size / 16) (recordOf m)
 
 unfoldable pub imageText : Part → List ℕ → List ℕ
-imageText P m = hexText (imagePieces P m)
+imageText P m = hexText (imageRecords P m)
 
 -- 44 bytes for each line and 12 for the closing one: 180,236
 abbrev pub imageRoom : Part → ℕ

@@ -6,7 +6,7 @@ ghost use lib.ListN.{length, take};
 ghost use Rattle.laws.specs.Pick.{pick};
 ghost use Rattle.codes.specs.Part.{m95512};
 ghost use Rattle.hex.specs.Writing.{endLine};
-ghost use Rattle.hex.specs.Reading.{said, same, isGood, badLine, laidPieces};
+ghost use Rattle.hex.specs.Reading.{parted, sameBytes, isGood, firstBad, laidRecords};
 ghost use Rattle.hex.specs.Answers.{hexNumber, takenReply, exportReply, exportNumber, exportOutput, importAnswer, importNumber, importMemory};
 use crate::HexReply;
 use crate::Imported;
@@ -57,7 +57,7 @@ fn take_text(running: bool, memory: &mut [u8], text: &[u8]) -> HexReply
     requires { ⌜ length (now memory) ≡ m95512 .size ⌝ }
     ensures { λ r. ⌜ r ≡ takenReply (not running && isGood m95512 (now (text .entry))) ⌝ }
     ensures { λ _. ⌜ now (memory .exit) ≡ pick (not running && isGood m95512 (now (text .entry)))
-        (laidPieces (said m95512 (now (text .entry)) .pieces) (now (memory .entry))) (now (memory .entry)) ⌝ }
+        (laidRecords (parted m95512 (now (text .entry)) .records) (now (memory .entry))) (now (memory .entry)) ⌝ }
 {
     if running {
         return HexReply::NotTaken;
@@ -100,7 +100,7 @@ pub fn import(core: Core, memory: &mut [u8], text: &[u8]) -> Imported
 
 // How many lines after the records the first bad line is: 2 where the first is the closing one and more follows it.
 fn lines_on(rest: &[u8]) -> usize
-    ensures { λ r. ⌜ (r ≡ pick (same (take 12 (now (rest .entry))) endLine) 2 1) × (r ≤ 2) ⌝ }
+    ensures { λ r. ⌜ (r ≡ pick (sameBytes (take 12 (now (rest .entry))) endLine) 2 1) × (r ≤ 2) ⌝ }
 {
     if rest.len() < 12 {
         return 1;
@@ -114,7 +114,7 @@ fn lines_on(rest: &[u8]) -> usize
 // The number of the first line of a text that is bad, 0 where the text is good. A text that ends too early is bad in the
 // line after its last.
 pub fn bad_line(text: &[u8]) -> usize
-    ensures { λ r. ⌜ r ≡ badLine m95512 (now (text .entry)) ⌝ }
+    ensures { λ r. ⌜ r ≡ firstBad m95512 (now (text .entry)) ⌝ }
 {
     let checked = check(text);
     let at = checked.at;

@@ -5,7 +5,7 @@ ghost use lib.ListN.{length, drop};
 ghost use Rattle.laws.specs.Pick.{pick};
 ghost use Rattle.codes.specs.Part.{m95512};
 ghost use Rattle.hex.specs.Writing.{endLine};
-ghost use Rattle.hex.specs.Reading.{digit, byteAt, dataLength, addressAt, isFramed, isPlaced, sumsUp, saysPiece, lineLength, said, same};
+ghost use Rattle.hex.specs.Reading.{digit, lineByte, dataLength, addressAt, isFramed, isPlaced, sumsUp, saysRecord, lineLength, parted, sameBytes};
 use codes::SIZE;
 
 // The value of a digit, 256 for none.
@@ -28,9 +28,9 @@ fn digit(byte: u8) -> u32
 }
 
 // Byte i of the line at the front of a text.
-pub(crate) fn byte_at(text: &[u8], i: usize) -> u32
+pub(crate) fn line_byte(text: &[u8], i: usize) -> u32
     requires { ⌜ 2 * i + 2 < length (now text) ⌝ }
-    ensures { λ r. ⌜ (r ≡ byteAt (now (text .entry)) i) × (r ≤ 4352) ⌝ }
+    ensures { λ r. ⌜ (r ≡ lineByte (now (text .entry)) i) × (r ≤ 4352) ⌝ }
 {
     digit(text[2 * i + 1]) * 16 + digit(text[2 * i + 2])
 }
@@ -40,7 +40,7 @@ pub(crate) fn address_at(text: &[u8]) -> u32
     requires { ⌜ 12 ≤ length (now text) ⌝ }
     ensures { λ r. ⌜ (r ≡ addressAt (now (text .entry))) × (r ≤ 1200000) ⌝ }
 {
-    byte_at(text, 1) * 256 + byte_at(text, 2)
+    line_byte(text, 1) * 256 + line_byte(text, 2)
 }
 
 fn is_framed(text: &[u8], n: usize) -> bool
@@ -54,7 +54,7 @@ fn is_placed(text: &[u8], n: usize) -> bool
     requires { ⌜ (n ≡ dataLength (now text)) × (n ≤ 255) × (12 ≤ length (now text)) ⌝ }
     ensures { λ r. ⌜ r ≡ isPlaced m95512 (now (text .entry)) ⌝ }
 {
-    (byte_at(text, 3) == 0) & (address_at(text) as usize + n <= SIZE)
+    (line_byte(text, 3) == 0) & (address_at(text) as usize + n <= SIZE)
 }
 
 // Whether the first bytes of the line, so many, are all in digits and sum to 0.
@@ -66,7 +66,7 @@ fn sums_up(text: &[u8], count: usize) -> bool
     let mut sum: u32 = 0;
     let mut i: usize = 0;
     while i < count {
-        let value = byte_at(text, i);
+        let value = line_byte(text, i);
         all = all & (value < 256);
         sum += value;
         i += 1;
@@ -75,14 +75,14 @@ fn sums_up(text: &[u8], count: usize) -> bool
 }
 
 // Whether the text begins with the line of a good record.
-fn says_piece(text: &[u8]) -> bool
-    ensures { λ r. ⌜ r ≡ saysPiece m95512 (now (text .entry)) ⌝ }
+fn says_record(text: &[u8]) -> bool
+    ensures { λ r. ⌜ r ≡ saysRecord m95512 (now (text .entry)) ⌝ }
 {
     let len = text.len();
     if len < 12 {
         return false;
     }
-    let n = byte_at(text, 0) as usize;
+    let n = line_byte(text, 0) as usize;
     if 255 < n {
         return false;
     }
@@ -93,12 +93,12 @@ fn says_piece(text: &[u8]) -> bool
 }
 
 // The length of that line, 0 where there is none.
-fn piece_length(text: &[u8]) -> usize
-    ensures { λ r. ⌜ (r ≡ pick (saysPiece m95512 (now (text .entry))) (lineLength (now (text .entry))) 0)
+fn record_length(text: &[u8]) -> usize
+    ensures { λ r. ⌜ (r ≡ pick (saysRecord m95512 (now (text .entry))) (lineLength (now (text .entry))) 0)
         × (r ≤ length (now (text .entry))) ⌝ }
 {
-    if says_piece(text) {
-        return 2 * byte_at(text, 0) as usize + 12;
+    if says_record(text) {
+        return 2 * line_byte(text, 0) as usize + 12;
     }
     0
 }
@@ -111,17 +111,17 @@ pub(crate) struct Checked {
 
 pub(crate) fn check(text: &[u8]) -> Checked
     ensures { λ r. ⌜ (r .at ≤ length (now (text .entry)))
-        × (drop (r .at) (now (text .entry)) ≡ said m95512 (now (text .entry)) .rest) ⌝ }
+        × (drop (r .at) (now (text .entry)) ≡ parted m95512 (now (text .entry)) .rest) ⌝ }
     ensures { λ r. ⌜ 12 * r .lines ≤ r .at ⌝ }
-    ensures { λ r. ⌜ r .lines ≡ length (said m95512 (now (text .entry)) .pieces) ⌝ }
+    ensures { λ r. ⌜ r .lines ≡ length (parted m95512 (now (text .entry)) .records) ⌝ }
 {
     let mut lines: usize = 0;
     let mut at: usize = 0;
-    let mut n = piece_length(text);
+    let mut n = record_length(text);
     while 0 < n {
         lines += 1;
         at += n;
-        n = piece_length(&text[at..]);
+        n = record_length(&text[at..]);
     }
     Checked {
         lines: lines,
@@ -129,8 +129,8 @@ pub(crate) fn check(text: &[u8]) -> Checked
     }
 }
 
-fn same(a: &[u8], b: &[u8]) -> bool
-    ensures { λ r. ⌜ r ≡ same (now (a .entry)) (now (b .entry)) ⌝ }
+fn same_bytes(a: &[u8], b: &[u8]) -> bool
+    ensures { λ r. ⌜ r ≡ sameBytes (now (a .entry)) (now (b .entry)) ⌝ }
 {
     if a.len() != b.len() {
         return false;
@@ -146,7 +146,7 @@ fn same(a: &[u8], b: &[u8]) -> bool
 
 // Whether a text is the closing line, and nothing else.
 pub(crate) fn is_end(text: &[u8]) -> bool
-    ensures { λ r. ⌜ r ≡ same (now (text .entry)) endLine ⌝ }
+    ensures { λ r. ⌜ r ≡ sameBytes (now (text .entry)) endLine ⌝ }
 {
-    same(text, b":00000001FF\n")
+    same_bytes(text, b":00000001FF\n")
 }

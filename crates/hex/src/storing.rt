@@ -6,16 +6,16 @@ ghost use lib.ListN.{length, drop};
 ghost use Rattle.laws.specs.Each.{each};
 ghost use Rattle.laws.specs.Table.{table};
 ghost use Rattle.codes.specs.Part.{m95512};
-ghost use Rattle.hex.specs.Reading.{byteAt, isByte, pieceAt, lineLength, saysPiece, said, laidPiece, laidPieces};
+ghost use Rattle.hex.specs.Reading.{lineByte, isByte, recordAt, lineLength, saysRecord, parted, laidRecord, laidRecords};
 use crate::reading::address_at;
-use crate::reading::byte_at;
+use crate::reading::line_byte;
 
 // Byte i of a line, where it is in digits.
 fn value_at(text: &[u8], i: usize) -> u8
-    requires { ⌜ (2 * i + 2 < length (now text)) × (byteAt (now text) i < 256) ⌝ }
-    ensures { λ r. ⌜ r ≡ byteAt (now (text .entry)) i ⌝ }
+    requires { ⌜ (2 * i + 2 < length (now text)) × (lineByte (now text) i < 256) ⌝ }
+    ensures { λ r. ⌜ r ≡ lineByte (now (text .entry)) i ⌝ }
 {
-    byte_at(text, i) as u8
+    line_byte(text, i) as u8
 }
 
 // The data bytes of the line at the front of a text, one for each cell.
@@ -23,7 +23,7 @@ fn fill(cells: &mut [u8], text: &[u8])
     requires { ⌜ (2 * length (now cells) + 12 ≤ length (now text))
         × (each (isByte (now text)) (length (now cells) + 5) ≡ true) ⌝ }
     ensures { λ _. ⌜ now (cells .exit)
-        ≡ table (length (now (cells .entry))) (λ i. byteAt (now (text .entry)) (i + 4)) ⌝ }
+        ≡ table (length (now (cells .entry))) (λ i. lineByte (now (text .entry)) (i + 4)) ⌝ }
 {
     let mut i: usize = 0;
     while i < cells.len() {
@@ -33,12 +33,12 @@ fn fill(cells: &mut [u8], text: &[u8])
 }
 
 // The record at the front of a text, which is good: its cells alone are lent on. Handed back is its line's length.
-fn store_piece(memory: &mut [u8], text: &[u8]) -> usize
-    requires { ⌜ (length (now memory) ≡ m95512 .size) × (saysPiece m95512 (now text) ≡ true) ⌝ }
+fn store_record(memory: &mut [u8], text: &[u8]) -> usize
+    requires { ⌜ (length (now memory) ≡ m95512 .size) × (saysRecord m95512 (now text) ≡ true) ⌝ }
     ensures { λ r. ⌜ r ≡ lineLength (now (text .entry)) ⌝ }
-    ensures { λ _. ⌜ now (memory .exit) ≡ laidPiece (pieceAt (now (text .entry))) (now (memory .entry)) ⌝ }
+    ensures { λ _. ⌜ now (memory .exit) ≡ laidRecord (recordAt (now (text .entry))) (now (memory .entry)) ⌝ }
 {
-    let n = byte_at(text, 0) as usize;
+    let n = line_byte(text, 0) as usize;
     let start = address_at(text) as usize;
     let end = start + n;
     fill(&mut memory[start..end], text);
@@ -48,12 +48,12 @@ fn store_piece(memory: &mut [u8], text: &[u8]) -> usize
 // The records of a text one after another, where they end at an index.
 pub(crate) fn store(memory: &mut [u8], text: &[u8], end: usize)
     requires { ⌜ (length (now memory) ≡ m95512 .size) × (end ≤ length (now text))
-        × (drop end (now text) ≡ said m95512 (now text) .rest) ⌝ }
+        × (drop end (now text) ≡ parted m95512 (now text) .rest) ⌝ }
     ensures { λ _. ⌜ now (memory .exit)
-        ≡ laidPieces (said m95512 (now (text .entry)) .pieces) (now (memory .entry)) ⌝ }
+        ≡ laidRecords (parted m95512 (now (text .entry)) .records) (now (memory .entry)) ⌝ }
 {
     let mut at: usize = 0;
     while at < end {
-        at += store_piece(memory, &text[at..]);
+        at += store_record(memory, &text[at..]);
     }
 }

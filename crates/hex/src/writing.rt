@@ -6,7 +6,7 @@ ghost use lib.ListN.{length};
 ghost use Rattle.laws.specs.Table.{table};
 ghost use Rattle.codes.specs.Part.{m95512};
 ghost use Rattle.printing.specs.Put.{put};
-ghost use Rattle.hex.specs.Writing.{digitText, byteText, bytesText, total, sumByte, lineOf, pieceLine, piecesText, pieceOf, imageRoom, imageText};
+ghost use Rattle.hex.specs.Writing.{digitText, byteText, bytesText, total, sumByte, lineOf, recordLine, recordsText, recordOf, imageRoom, imageText};
 use printing::put_bytes;
 
 fn digit_text(value: u8) -> u8
@@ -87,7 +87,7 @@ fn put_fields(out: &mut [u8], at: usize, head: &[u8], bytes: &[u8])
 fn put_line(out: &mut [u8], at: usize, address: u32, bytes: &[u8])
     requires { ⌜ (at + 2 * length (now bytes) + 12 ≤ length (now out)) × (length (now bytes) ≤ 255) × (address < 65536) ⌝ }
     ensures { λ _. ⌜ now (out .exit)
-        ≡ put (now (out .entry)) at (pieceLine (record { address = address; bytes = now (bytes .entry) })) ⌝ }
+        ≡ put (now (out .entry)) at (recordLine (record { address = address; bytes = now (bytes .entry) })) ⌝ }
 {
     let head = [
         bytes.len() as u8,
@@ -102,7 +102,7 @@ fn put_line(out: &mut [u8], at: usize, address: u32, bytes: &[u8])
 fn put_lines(out: &mut [u8], memory: &[u8])
     requires { ⌜ (length (now memory) ≡ m95512 .size) × (length (now out) ≡ imageRoom m95512) ⌝ }
     ensures { λ _. ⌜ now (out .exit)
-        ≡ put (now (out .entry)) 0 (piecesText (table 4096 (pieceOf (now (memory .entry))))) ⌝ }
+        ≡ put (now (out .entry)) 0 (recordsText (table 4096 (recordOf (now (memory .entry))))) ⌝ }
 {
     let mut k: usize = 0;
     while k < 4096 {

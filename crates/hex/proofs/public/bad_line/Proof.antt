@@ -3,8 +3,8 @@ use mathlib.Core.List.{List}
 use Prim.Native.Nat.{ℕ, _+_, _-_}
 use lib.ListN.{length, take, drop}
 use Rattle.hex.specs.Writing.{endLine}
-use Rattle.hex.specs.Reading.{said, same}
-use Rattle.hex.proofs.Said.{tail-part, good-told}
+use Rattle.hex.specs.Reading.{parted, sameBytes}
+use Rattle.hex.proofs.Parting.{tail-part, good-told}
 use mathlib.Core.Path.{_≡_, refl, ap, sym, _∙_}
 use native.Mathlib.Omega.{arith}
 use Rattle.laws.specs.Pick.{pick, yes-so, no-so}
@@ -55,10 +55,10 @@ returns-2 c =
     let k = c .before .before .before .before .before .before .check in
     let t = a .text .now in
     let bad = good-told m95512 t (k .result .at) _ (k .ensures .0 .1) (c .before .before .before .before .is-end .ensures) ∙ c .before .before .before .if1 .left in
-    let rest : take (length t - k .result .at) (drop (k .result .at) t) ≡ said m95512 t .rest = tail-part t (k .result .at) ∙ k .ensures .0 .1 in
-    let more : c .before .lines-on .result ≡ pick (same (take 12 (said m95512 t .rest)) endLine) 2 1 =
-    c .before .lines-on .ensures .0 ∙ ap (λ (l : List ℕ). pick {A = ℕ} (same (take 12 l) endLine) 2 1) rest in
-    no-so _ bad (ap (λ (n : ℕ). n + c .before .lines-on .result) (k .ensures .1 .1) ∙ ap (λ (n : ℕ). length (said m95512 t .pieces) + n) more)
+    let rest : take (length t - k .result .at) (drop (k .result .at) t) ≡ parted m95512 t .rest = tail-part t (k .result .at) ∙ k .ensures .0 .1 in
+    let more : c .before .lines-on .result ≡ pick (sameBytes (take 12 (parted m95512 t .rest)) endLine) 2 1 =
+    c .before .lines-on .ensures .0 ∙ ap (λ (l : List ℕ). pick {A = ℕ} (sameBytes (take 12 l) endLine) 2 1) rest in
+    no-so _ bad (ap (λ (n : ℕ). n + c .before .lines-on .result) (k .ensures .1 .1) ∙ ap (λ (n : ℕ). length (parted m95512 t .records) + n) more)
 
 pub bad-line-spec : {M : Type 1} → statement M
 bad-line-spec =

@@ -1,6 +1,6 @@
 -- The refusals in their order; then what taking the text answers and leaves.
 use mathlib.Core.Bool.{Bool, not, _&&_}
-use Rattle.hex.specs.Reading.{said, isGood, laidPieces}
+use Rattle.hex.specs.Reading.{parted, isGood, laidRecords}
 use Rattle.hex.specs.declared.HexReply.{HexReply}
 use Rattle.hex.specs.declared.HexReply.the-variants.{Done, NotTaken}
 use Rattle.hex.specs.Answers.{hexNumber, takes, takenReply, importedTo}
@@ -34,7 +34,7 @@ returns c =
     let told = x .ensures .0 ∙ ap (λ (r : Bool). takenReply (not r && isGood m95512 (a .text .now))) run in
     let t = takes m95512 (a .core) (a .text .now) in
     let m = a .memory .now in
-    let left = laidPieces (said m95512 (a .text .now) .pieces) m in (
+    let left = laidRecords (parted m95512 (a .text .now) .records) m in (
       eq-so _ long (yes-so _ fits (ap (λ (r : HexReply). importedTo r (a .core)) told ∙ pick-ap (λ r. importedTo r (a .core)) t Done NotTaken)),
       (
         eq-so _ long (yes-so _ fits (ap hexNumber told ∙ pick-ap hexNumber t Done NotTaken)),

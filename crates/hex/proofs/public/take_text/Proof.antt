@@ -1,7 +1,7 @@
 -- The test of the text, and the sides that it and the running cycle take.
 use mathlib.Core.Bool.{not}
 use Rattle.hex.specs.Reading.{isGood}
-use Rattle.hex.proofs.Said.{good-told}
+use Rattle.hex.proofs.Parting.{good-told}
 use mathlib.Core.Path.{_≡_, refl, ap, sym, _∙_}
 use native.Mathlib.Omega.{arith}
 use Rattle.laws.specs.Pick.{yes-so, no-so, and-both, and-no-left, and-no-right}

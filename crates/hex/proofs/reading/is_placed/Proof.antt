@@ -5,8 +5,8 @@ use borrow.Author.Needs.{needs}
 use Rattle.hex.proofs.reading.is_placed.Statement.{statement}
 use Rattle.hex.proofs.reading.is_placed.Tie as tie
 
-byte-at-requires : tie.Need-byte-at-requires
-byte-at-requires c κs = search needs
+line-byte-requires : tie.Need-line-byte-requires
+line-byte-requires c κs = search needs
 
 address-at-requires : tie.Need-address-at-requires
 address-at-requires c κs = search needs
@@ -19,8 +19,8 @@ add-result c = search needs
 
 returns : tie.Need-returns
 returns c =
-    rw (c .before .byte-at .ensures .0, c .address-at .ensures .0, c .before .before .before .pre .0) refl
+    rw (c .before .line-byte .ensures .0, c .address-at .ensures .0, c .before .before .before .pre .0) refl
 
 pub is-placed-spec : {M : Type 1} → statement M
 is-placed-spec =
-    tie.close (tie.spec byte-at-requires address-at-requires cast-result add-result returns)
+    tie.close (tie.spec line-byte-requires address-at-requires cast-result add-result returns)

@@ -5,14 +5,14 @@ use native.Mathlib.Omega.{arith}
 use Rattle.laws.specs.Each.{each, each-none, each-more}
 use Rattle.laws.specs.Table.{table}
 use Rattle.hex.specs.Writing.{total}
-use Rattle.hex.specs.Reading.{byteAt, isByte}
+use Rattle.hex.specs.Reading.{lineByte, isByte}
 use Rattle.hex.proofs.Sums.{total-none, total-table}
 use Rattle.hex.proofs.reading.sums_up.Statement.{statement}
 use Rattle.hex.proofs.reading.sums_up.Tie as tie
 
 abbrev Inv-loop : tie.InvT-loop
 Inv-loop text count all₀ sum₀ i₀ all sum i =
-    (i ≤ count) × (all ≡ each (isByte text) i) × (sum ≡ total (table i (byteAt text))) × (sum ≤ 4352 * i)
+    (i ≤ count) × (all ≡ each (isByte text) i) × (sum ≡ total (table i (lineByte text))) × (sum ≤ 4352 * i)
 
 abbrev μ-loop : tie.MeasureT-loop
 μ-loop text count all₀ sum₀ i₀ all sum i = count - i
@@ -20,8 +20,8 @@ abbrev μ-loop : tie.MeasureT-loop
 loop-holds : tie.Need-loop-holds Inv-loop μ-loop
 loop-holds c = (omega arith, sym (each-none _), sym (total-none _), omega arith)
 
-byte-at-requires : tie.Need-byte-at-requires Inv-loop μ-loop
-byte-at-requires c κs = omega arith
+line-byte-requires : tie.Need-line-byte-requires Inv-loop μ-loop
+line-byte-requires c κs = omega arith
 
 add-sum : tie.Need-add-sum Inv-loop μ-loop
 add-sum c = omega arith
@@ -35,7 +35,7 @@ loop-less c = omega arith
 loop-again : tie.Need-loop-again Inv-loop μ-loop
 loop-again c =
     let l = c .before .before .loop in
-    let b = c .byte-at in (
+    let b = c .line-byte in (
       omega arith,
       rw (each-more _ _, b .ensures .0, l .inv .1) refl,
       rw (total-table _ _, b .ensures .0, l .inv .2) refl,
@@ -56,7 +56,7 @@ sums-up-spec =
     Inv-loop
     μ-loop
     loop-holds
-    byte-at-requires
+    line-byte-requires
     add-sum
     add-i
     loop-less

@@ -8,13 +8,13 @@ use borrow.Author.Tests.{ltb-true}
 use Rattle.laws.specs.Each.{each-at}
 use Rattle.laws.specs.Table.{table, table-length, table-at}
 use Rattle.laws.specs.Filled.{filled, filled-none, filled-more, filled-all}
-use Rattle.hex.specs.Reading.{byteAt, isByte}
+use Rattle.hex.specs.Reading.{lineByte, isByte}
 use Rattle.hex.proofs.storing.fill.Statement.{statement}
 use Rattle.hex.proofs.storing.fill.Tie as tie
 
 abbrev Inv-loop : tie.InvT-loop
 Inv-loop cells₀ text i₀ cells i =
-    (i ≤ length cells₀) × (length cells ≡ length cells₀) × (cells ≡ filled cells₀ (table (length cells₀) (λ j. byteAt text (j + 4))) i)
+    (i ≤ length cells₀) × (length cells ≡ length cells₀) × (cells ≡ filled cells₀ (table (length cells₀) (λ j. lineByte text (j + 4))) i)
 
 abbrev μ-loop : tie.MeasureT-loop
 μ-loop cells₀ text i₀ cells i = length cells₀ - i
@@ -45,7 +45,7 @@ loop-again c =
     let l = c .before .before .loop in
     let a = c .before .before .before .before .before .args in
     let d = a .cells .now in
-    let f : ℕ → ℕ = λ j. byteAt (a .text .now) (j + 4) in
+    let f : ℕ → ℕ = λ j. lineByte (a .text .now) (j + 4) in
     let v : c .value-at .result ≡ getD (table (length d) f) (l .i) 0 = c .value-at .ensures ∙ sym (table-at f (length d) (l .i) 0 (omega arith)) in (
       omega arith,
       simp length-set (omega arith),

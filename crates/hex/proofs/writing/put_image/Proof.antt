@@ -3,7 +3,7 @@ use lib.ListN.{length, length-append}
 use Rattle.laws.specs.Table.{table}
 use Rattle.printing.specs.Put.{put}
 use Rattle.printing.proofs.Rooms.{put-room}
-use Rattle.hex.specs.Writing.{piecesText, pieceOf}
+use Rattle.hex.specs.Writing.{recordsText, recordOf}
 use Rattle.hex.proofs.Writes.{put-then, put-all, lines-length}
 -- The lines and the closing one take up all of the output.
 use mathlib.Core.Path.{_≡_, refl, ap, sym, _∙_}
@@ -32,7 +32,7 @@ returns c =
     let d = c .before .before .before .before .before .before .before .before .before .before .before .args .out .now in
     let lines = c .before .before .before .before .before .before .before .put-lines in
     let last = c .before .before .put-bytes in
-    let text = piecesText (table 4096 (pieceOf m)) in
+    let text = recordsText (table 4096 (recordOf m)) in
     let pre = c .before .before .before .before .before .before .before .before .before .before .before .pre in
     let n : length text ≡ 180224 = lines-length m 4096 (omega arith) in
     let written : last .last .0 ≡ put (lines .last .0) 180224 endLine = last .ensures .0 ∙ put-room 12 (lines .last .0) 180224 endLine (omega arith) in

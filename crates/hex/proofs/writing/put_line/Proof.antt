@@ -1,7 +1,7 @@
 -- The head of a record is its length, its address and its type.
 use mathlib.Core.Path.{_≡_, refl, ap, sym, _∙_}
 use native.Mathlib.Omega.{arith}
-use Rattle.hex.specs.Writing.{pieceLine}
+use Rattle.hex.specs.Writing.{recordLine}
 use borrow.Author.Needs.{needs}
 use Rattle.hex.proofs.writing.put_line.Statement.{statement}
 use Rattle.hex.proofs.writing.put_line.Tie as tie
@@ -25,7 +25,7 @@ same-length : tie.Need-same-length
 same-length c = search needs
 
 returns : tie.Need-returns
-unfolding pieceLine
+unfolding recordLine
 returns c = c .before .before .put-fields .ensures
 
 pub put-line-spec : {M : Type 1} → statement M

@@ -7,15 +7,15 @@ use native.Mathlib.Nat.{add-sub-cancel-left}
 use lib.ListN.{length, take, drop}
 use Rattle.laws.specs.Table.{table}
 use Rattle.printing.specs.Put.{put}
-use Rattle.hex.specs.Writing.{pieceLine, piecesText, pieceOf}
+use Rattle.hex.specs.Writing.{recordLine, recordsText, recordOf}
 use Rattle.printing.proofs.Puts.{put-nil}
-use Rattle.hex.proofs.Writes.{put-then, pieceLine-length, piecesText-none, piecesText-more, sixteen, lines-length}
+use Rattle.hex.proofs.Writes.{put-then, recordLine-length, recordsText-none, recordsText-more, sixteen, lines-length}
 use Rattle.hex.proofs.writing.put_lines.Statement.{statement}
 use Rattle.hex.proofs.writing.put_lines.Tie as tie
 
 abbrev Inv-loop : tie.InvT-loop
 Inv-loop out₀ memory k₀ out k =
-    (k ≤ 4096) × (length out ≡ length out₀) × (out ≡ put out₀ 0 (piecesText (table k (pieceOf memory))))
+    (k ≤ 4096) × (length out ≡ length out₀) × (out ≡ put out₀ 0 (recordsText (table k (recordOf memory))))
 
 abbrev μ-loop : tie.MeasureT-loop
 μ-loop out₀ memory k₀ out k = 4096 - k
@@ -23,7 +23,7 @@ abbrev μ-loop : tie.MeasureT-loop
 loop-holds : tie.Need-loop-holds Inv-loop μ-loop
 loop-holds c =
     let a = c .before .before .args in
-    (omega arith, refl, sym (ap (put (a .out .now) 0) (piecesText-none (pieceOf (a .memory .now))) ∙ put-nil (a .out .now) 0))
+    (omega arith, refl, sym (ap (put (a .out .now) 0) (recordsText-none (recordOf (a .memory .now))) ∙ put-nil (a .out .now) 0))
 
 mul-start : tie.Need-mul-start Inv-loop μ-loop
 mul-start c = omega arith
@@ -65,18 +65,18 @@ loop-again c =
     let a = c .before .before .before .before .before .before .before .before .before .args in
     let x = c .before .before .put-line in
     let d = a .out .now in
-    let f = pieceOf (a .memory .now) in
-    let so-far = piecesText (table (l .k) f) in
-    let line = pieceLine (f (l .k)) in
+    let f = recordOf (a .memory .now) in
+    let so-far = recordsText (table (l .k) f) in
+    let line = recordLine (f (l .k)) in
     let n = lines-length (a .memory .now) (l .k) (omega arith) in
-    let e = pieceLine-length (f (l .k)) in
+    let e = recordLine-length (f (l .k)) in
     let s = sixteen (a .memory .now) (l .k) (omega arith) in
     let here : x .last .0 ≡ put (l .out) (44 * l .k) line =
     rw (add-sub-cancel-left (16 * l .k) 16) at (x .ensures) in (
       omega arith,
       omega arith,
       here ∙ put-then d (l .out) 0 (44 * l .k) so-far line (l .inv .2) (omega (arith, n)) (omega (arith, n, e, s))
-          ∙ ap (put d 0) (sym (piecesText-more f (l .k))),
+          ∙ ap (put d 0) (sym (recordsText-more f (l .k))),
     )
 
 same-length : tie.Need-same-length Inv-loop μ-loop
@@ -87,7 +87,7 @@ returns c =
     let l = c .before .loop in
     let a = c .before .before .before .before .args in
     let all : l .k ≡ 4096 = omega arith in
-    l .inv .2 ∙ ap (λ (k : ℕ). put (a .out .now) 0 (piecesText (table k (pieceOf (a .memory .now))))) all
+    l .inv .2 ∙ ap (λ (k : ℕ). put (a .out .now) 0 (recordsText (table k (recordOf (a .memory .now))))) all
 
 pub put-lines-spec : {M : Type 1} → statement M
 put-lines-spec =

@@ -9,11 +9,11 @@ use Rattle.hex.proofs.Lays.{part-cells, lent-cells}
 use Rattle.codes.specs.Part.{m95512}
 use Rattle.hex.proofs.Fronts.{front-length, front-end, front-digits}
 use borrow.Author.Needs.{needs}
-use Rattle.hex.proofs.storing.store_piece.Statement.{statement}
-use Rattle.hex.proofs.storing.store_piece.Tie as tie
+use Rattle.hex.proofs.storing.store_record.Statement.{statement}
+use Rattle.hex.proofs.storing.store_record.Tie as tie
 
-byte-at-requires : tie.Need-byte-at-requires
-byte-at-requires c κs = omega (arith, front-length m95512 _ (c .before .before .pre .1))
+line-byte-requires : tie.Need-line-byte-requires
+line-byte-requires c κs = omega (arith, front-length m95512 _ (c .before .before .pre .1))
 
 cast-n : tie.Need-cast-n
 cast-n c = search needs
@@ -36,14 +36,14 @@ part-fill-start c = search needs
 part-fill-end : tie.Need-part-fill-end
 part-fill-end c =
     let pre = c .before .before .before .before .pre in
-    omega (arith, pre .0, front-end m95512 _ (pre .1), c .address-at .ensures .0, c .before .byte-at .ensures .0)
+    omega (arith, pre .0, front-end m95512 _ (pre .1), c .address-at .ensures .0, c .before .line-byte .ensures .0)
 
 fill-requires : tie.Need-fill-requires
 fill-requires c κs =
     let a = c .before .before .before .before .before .args in
     let pre = c .before .before .before .before .before .pre in
     let start = c .before .address-at in
-    let n = c .before .before .byte-at in
+    let n = c .before .before .line-byte in
     let fits : start .result + n .result ≤ length (a .memory .now) = omega (arith, pre .0, front-end m95512 _ (pre .1), start .ensures .0, n .ensures .0) in
     let k = part-cells (a .memory .now) (start .result) (n .result) fits ∙ n .ensures .0 in (
       omega (arith, k, front-length m95512 _ (pre .1)),
@@ -64,17 +64,17 @@ returns c =
     let a = c .before .before .before .before .before .before .before .before .args in
     let pre = c .before .before .before .before .before .before .before .before .pre in
     let start = c .before .before .before .before .address-at in
-    let n = c .before .before .before .before .before .byte-at in
+    let n = c .before .before .before .before .before .line-byte in
     let fits : start .result + n .result ≤ length (a .memory .now) = omega (arith, pre .0, front-end m95512 _ (pre .1), start .ensures .0, n .ensures .0) in (
       ap (λ (k : ℕ). 2 * k + 12) (n .ensures .0),
       lent-cells (a .text .now) (a .memory .now) _ (start .result) (n .result) (start .ensures .0) (n .ensures .0) fits (c .before .before .fill .ensures),
     )
 
-pub store-piece-spec : {M : Type 1} → statement M
-store-piece-spec =
+pub store-record-spec : {M : Type 1} → statement M
+store-record-spec =
     tie.close
     (tie.spec
-    byte-at-requires
+    line-byte-requires
     cast-n
     address-at-requires
     cast-start

@@ -1,10 +1,10 @@
 -- Both digits, each by its call.
 use mathlib.Core.Path.{refl}
 use native.Mathlib.Omega.{arith}
-use Rattle.hex.specs.Reading.{byteAt}
+use Rattle.hex.specs.Reading.{lineByte}
 use borrow.Author.Needs.{needs}
-use Rattle.hex.proofs.reading.byte_at.Statement.{statement}
-use Rattle.hex.proofs.reading.byte_at.Tie as tie
+use Rattle.hex.proofs.reading.line_byte.Statement.{statement}
+use Rattle.hex.proofs.reading.line_byte.Tie as tie
 
 mul-digit : tie.Need-mul-digit
 mul-digit c = search needs
@@ -37,11 +37,11 @@ add-result : tie.Need-add-result
 add-result c = search needs
 
 returns : tie.Need-returns
-unfolding byteAt
+unfolding lineByte
 returns c = (rw (c .digit2 .ensures .0, c .before .before .digit .ensures .0) refl, omega arith)
 
-pub byte-at-spec : {M : Type 1} → statement M
-byte-at-spec =
+pub line-byte-spec : {M : Type 1} → statement M
+line-byte-spec =
     tie.close
     (tie.spec
     mul-digit

@@ -2,17 +2,17 @@
 use mathlib.Core.Path.{refl, sym}
 use native.Mathlib.Omega.{arith}
 use Rattle.codes.specs.Part.{m95512}
-use Rattle.hex.specs.Reading.{saysPiece}
+use Rattle.hex.specs.Reading.{saysRecord}
 use Rattle.hex.proofs.Fronts.{too-short, no-length}
 use borrow.Author.Needs.{needs}
-use Rattle.hex.proofs.reading.says_piece.Statement.{statement}
-use Rattle.hex.proofs.reading.says_piece.Tie as tie
+use Rattle.hex.proofs.reading.says_record.Statement.{statement}
+use Rattle.hex.proofs.reading.says_record.Tie as tie
 
 returns : tie.Need-returns
 returns c = sym (too-short m95512 _ (omega arith))
 
-byte-at-requires : tie.Need-byte-at-requires
-byte-at-requires c κs = search needs
+line-byte-requires : tie.Need-line-byte-requires
+line-byte-requires c κs = search needs
 
 cast-n : tie.Need-cast-n
 cast-n c = search needs
@@ -42,16 +42,16 @@ sums-up-requires : tie.Need-sums-up-requires
 sums-up-requires c κs = search needs
 
 returns-4 : tie.Need-returns-4
-unfolding saysPiece
+unfolding saysRecord
 returns-4 c =
-    rw (c .before .before .is-framed .ensures, c .before .is-placed .ensures, c .sums-up .ensures, c .before .before .before .before .before .byte-at .ensures .0) refl
+    rw (c .before .before .is-framed .ensures, c .before .is-placed .ensures, c .sums-up .ensures, c .before .before .before .before .before .line-byte .ensures .0) refl
 
-pub says-piece-spec : {M : Type 1} → statement M
-says-piece-spec =
+pub says-record-spec : {M : Type 1} → statement M
+says-record-spec =
     tie.close
     (tie.spec
     returns
-    byte-at-requires
+    line-byte-requires
     cast-n
     returns-2
     mul-if3

@@ -9,8 +9,8 @@ use lib.ListN.{length, getD}
 use lib.Dec.{eqb}
 use borrow.Author.Needs.{needs}
 use Rattle.laws.specs.Each.{each, each-none, each-more}
-use Rattle.hex.proofs.reading.same.Statement.{statement}
-use Rattle.hex.proofs.reading.same.Tie as tie
+use Rattle.hex.proofs.reading.same_bytes.Statement.{statement}
+use Rattle.hex.proofs.reading.same_bytes.Tie as tie
 
 abbrev Inv-loop : tie.InvT-loop
 Inv-loop a b all₀ i₀ all i = (length a ≡ length b) × (i ≤ length b) × (all ≡ each (λ j. eqb (getD a j 0) (getD b j 0)) i)
@@ -49,8 +49,8 @@ returns-2 c =
     let t = l .inv .2 ∙ ap (each (λ j. eqb (getD (a .a .now) j 0) (getD (a .b .now) j 0))) all in
     t ∙ sym (ap (λ (u : Bool). u && each (λ j. eqb (getD (a .a .now) j 0) (getD (a .b .now) j 0)) (length (a .b .now))) (eq-eqb _ _ (l .inv .0)))
 
-pub same-spec : {M : Type 1} → statement M
-same-spec =
+pub same-bytes-spec : {M : Type 1} → statement M
+same-bytes-spec =
     tie.close
     (tie.spec
     Inv-loop
