@@ -1,5 +1,5 @@
 -- Intel HEX as it is read: the record at the front of a text, the records that a text says, and the cells that they give.
--- That a good text is the written text of its records, and no other is good, is a theorem (proofs/Read.antt).
+-- That a good text is the written text of its records, and no other is good, is a theorem of `hex_theorems` (its proofs/Texts.antt).
 use Prim.Native.Nat.{ℕ, zero, suc, _+_, _*_, _-_, _%_}
 use mathlib.Core.Bool.{Bool, _&&_}
 use mathlib.Core.List.{List, [], _∷_}

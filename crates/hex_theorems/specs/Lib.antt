@@ -1,0 +1,2 @@
+-- What the theorems on HEX texts speak of, beside the definitions of `hex`.
+pub mod Fitting
