@@ -12,7 +12,7 @@ use Rattle.chip.specs.declared.Core.{Core}
 use Rattle.chip.specs.Records.{running}
 use Rattle.chip.specs.Ranges.{inRanges}
 use Rattle.hex.specs.declared.HexReply.{HexReply}
-use Rattle.hex.specs.declared.HexReply.the-variants.{Done, NotTaken, Refused}
+use Rattle.hex.specs.declared.HexReply.the-variants.{Done, NotImported, Refused}
 use Rattle.hex.specs.declared.Imported.{Imported}
 use Rattle.hex.specs.Writing.{imageText, imageRoom}
 use Rattle.hex.specs.Reading.{parted, isGood, laidRecords}
@@ -20,7 +20,7 @@ use Rattle.hex.specs.Reading.{parted, isGood, laidRecords}
 -- document 02's number of an answer
 abbrev pub hexNumber : HexReply → ℕ
 hexNumber Done = 0
-hexNumber NotTaken = 12
+hexNumber NotImported = 12
 hexNumber (Refused r) = refusalNumber r
 
 -- ---- export, with a lent output of so many bytes: 1, 2, and 5 for an output of another length
@@ -46,7 +46,7 @@ abbrev pub takes : Part → Core → List ℕ → Bool
 takes P c t = not (running c) && isGood P t
 
 abbrev pub takenReply : Bool → HexReply
-takenReply t = pick t Done NotTaken
+takenReply t = pick t Done NotImported
 
 abbrev pub importChoice : {A : Type 0} → Part → Core → List ℕ → List ℕ → A → A → A → A → A
 importChoice P c m t one two twelve done =
@@ -59,7 +59,7 @@ importedTo a c = record { answer = a; core = c }
 abbrev pub importAnswer : Part → Core → List ℕ → List ℕ → Imported
 importAnswer P c m t =
     importChoice P c m t (importedTo (Refused MemoryLength) c) (importedTo (Refused RecordRange) c)
-    (importedTo NotTaken c) (importedTo Done c)
+    (importedTo NotImported c) (importedTo Done c)
 
 abbrev pub importNumber : Part → Core → List ℕ → List ℕ → ℕ
 importNumber P c m t = importChoice P c m t 1 2 12 0

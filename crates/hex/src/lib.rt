@@ -16,7 +16,7 @@ pub use public::import;
 // What export and import are answered with. A text that is not good is not taken, nor is any while a cycle runs.
 pub enum HexReply {
     Done,
-    NotTaken,
+    NotImported,
     Refused(Refusal),
 }
 

@@ -26,7 +26,7 @@ impl HexReply {
     {
         match self {
             HexReply::Done => 0,
-            HexReply::NotTaken => 12,
+            HexReply::NotImported => 12,
             HexReply::Refused(refusal) => refusal.number(),
         }
     }
@@ -60,7 +60,7 @@ fn take_text(running: bool, memory: &mut [u8], text: &[u8]) -> HexReply
         (laidRecords (parted m95512 (now (text .entry)) .records) (now (memory .entry))) (now (memory .entry)) ⌝ }
 {
     if running {
-        return HexReply::NotTaken;
+        return HexReply::NotImported;
     }
     let checked = check(text);
     let at = checked.at;
@@ -68,7 +68,7 @@ fn take_text(running: bool, memory: &mut [u8], text: &[u8]) -> HexReply
         store(memory, text, at);
         return HexReply::Done;
     }
-    HexReply::NotTaken
+    HexReply::NotImported
 }
 
 // The cells that a text names, a later record over an earlier one. Refusals 1 for a memory of another length, 2 for a

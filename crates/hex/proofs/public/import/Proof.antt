@@ -2,7 +2,7 @@
 use mathlib.Core.Bool.{Bool, not, _&&_}
 use Rattle.hex.specs.Reading.{parted, isGood, laidRecords}
 use Rattle.hex.specs.declared.HexReply.{HexReply}
-use Rattle.hex.specs.declared.HexReply.the-variants.{Done, NotTaken}
+use Rattle.hex.specs.declared.HexReply.the-variants.{Done, NotImported}
 use Rattle.hex.specs.Answers.{hexNumber, takes, takenReply, importedTo}
 use mathlib.Core.Path.{_≡_, refl, ap, sym, _∙_}
 use native.Mathlib.Omega.{arith}
@@ -35,9 +35,9 @@ returns c =
     let t = takes m95512 (a .core) (a .text .now) in
     let m = a .memory .now in
     let left = laidRecords (parted m95512 (a .text .now) .records) m in (
-      eq-so _ long (yes-so _ fits (ap (λ (r : HexReply). importedTo r (a .core)) told ∙ pick-ap (λ r. importedTo r (a .core)) t Done NotTaken)),
+      eq-so _ long (yes-so _ fits (ap (λ (r : HexReply). importedTo r (a .core)) told ∙ pick-ap (λ r. importedTo r (a .core)) t Done NotImported)),
       (
-        eq-so _ long (yes-so _ fits (ap hexNumber told ∙ pick-ap hexNumber t Done NotTaken)),
+        eq-so _ long (yes-so _ fits (ap hexNumber told ∙ pick-ap hexNumber t Done NotImported)),
         eq-so _ long (yes-so _ fits (x .ensures .1 ∙ ap (λ (r : Bool). pick (not r && isGood m95512 (a .text .now)) left m) run)),
       ),
     )
