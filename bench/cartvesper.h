@@ -1,4 +1,4 @@
-/* The bench library for C and C++: both models of the M95512, the driver and the split, proved.
+/* The bench library for C and C++: both models of the M95512, the driver, the split and images as Intel HEX, proved.
  * Build the archive with `rt staticlib bench` (x86-64). docs/LINKING.md says how to link it, and bench/example.c shows
  * each kind of call.
  *
@@ -7,7 +7,7 @@
  * that the same call is lent. No call keeps state, so calls from several threads need no lock unless they share lent
  * bytes.
  *
- * Each answer's `number` is CARTVESPER_DONE or a refusal, 1 to 8. Where several apply the lowest is given. Everything
+ * Each answer's `number` is CARTVESPER_DONE or a refusal, 1 to 8 or 12. Where several apply the lowest is given. Everything
  * lent and every record then comes back byte for byte as it was, and every count and every `value` is 0. (6 comes from
  * power-up alone, which takes no record: it gives the delivered one.) 9 and 13 are of the driver alone, and come after
  * frames were sent: they say how a run ended before its last page.
@@ -36,6 +36,7 @@ enum {
     CARTVESPER_ADDRESS_RANGE = 7, /* address + length above 65,536, address above FFFFh, or no part k */
     CARTVESPER_POLL_RANGE = 8,    /* poll interval or poll limit outside its range */
     CARTVESPER_TIMED_OUT = 9,     /* a wait used its limit and WIP is still 1 */
+    CARTVESPER_NOT_IMPORTED = 12, /* a HEX text is not good, or a cycle runs */
     CARTVESPER_PROTECTED = 13     /* the data touches the protected block */
 };
 
@@ -48,6 +49,9 @@ enum {
     CARTVESPER_LONGEST_CYCLE = 5000,
     CARTVESPER_MOST_POLLS = 5001
 };
+
+/* Bytes of an exported HEX text. */
+enum { CARTVESPER_HEX_TEXT = 180236 };
 
 /* The instruction codes. */
 enum {
@@ -247,6 +251,19 @@ uint64_t cartvesper_part_count(uint64_t address, uint64_t length, uint64_t part)
 /* the part's first cell, and its length */
 uint64_t cartvesper_part_address(uint64_t address, uint64_t length, uint64_t part);
 uint64_t cartvesper_part_length(uint64_t address, uint64_t length, uint64_t part);
+
+/* ---- images as Intel HEX */
+
+/* All cells as a text into `out`, as stored, in a cycle too: 4,096 records of 16 bytes in rising order, upper case, LF
+ * ends, then :00000001FF. Refusals 1, 2, and 5 for a room that is not CARTVESPER_HEX_TEXT, with `out` as it was. The
+ * answer is the number alone. */
+uint32_t cartvesper_hex_export(cartvesper_core core, const uint8_t *memory, size_t size, uint8_t *out, size_t room);
+/* The cells that a text names, a later record over an earlier one; cells that none names keep their bytes, whatever
+ * protects them. A good text is records of type 00 with 0 to 255 bytes, upper case, LF ends, in any order, then exactly
+ * :00000001FF and its LF, and nothing more. Refusals 1, 2, and 12 for any other text or while a cycle runs, with the
+ * memory as it was. The record comes back as it was given. */
+cartvesper_core_answer cartvesper_hex_import(cartvesper_core core, uint8_t *memory, size_t size, const uint8_t *text,
+                                             size_t length);
 
 #ifdef __cplusplus
 }

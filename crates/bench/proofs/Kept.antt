@@ -27,6 +27,9 @@ use Rattle.pins.specs.declared.QAnswer.the-variants as q
 use Rattle.pins.specs.declared.StatusAnswer.{StatusAnswer}
 use Rattle.pins.specs.declared.StatusAnswer.the-variants as status
 use Rattle.driver.specs.Answers as driver
+use Rattle.hex.specs.Answers.{hexNumber}
+use Rattle.hex.specs.declared.HexReply.{HexReply}
+use Rattle.hex.specs.declared.HexReply.the-variants as hex
 use Rattle.driver.specs.declared.RunReply as driver-answer
 use Rattle.driver.specs.declared.RunReply.the-variants as driven
 
@@ -74,6 +77,11 @@ not-late r =
 not-touched : (r : Refusal) → eqb (refusalNumber r) 13 ≡ false
 not-touched r =
     let other : refusalNumber r ≡ 13 → ⊥ = λ e. omega (arith, refusal-range r .1) in
+    ne-eqb _ _ other
+
+not-unimported : (r : Refusal) → eqb (refusalNumber r) 12 ≡ false
+not-unimported r =
+    let other : refusalNumber r ≡ 12 → ⊥ = λ e. omega (arith, refusal-range r .1) in
     ne-eqb _ _ other
 
 -- ---- each kind of answer, from its number and its values
@@ -138,3 +146,11 @@ run-kept (driven.Done s) = at-yes _ _ refl
 run-kept (driven.TimedOut s) = at-no _ _ refl ∙ at-yes _ _ refl
 run-kept (driven.Protected s) = at-no _ _ refl ∙ at-no _ _ refl ∙ at-yes _ _ refl
 run-kept (driven.Refused r) = at-no _ _ (not-done r) ∙ at-no _ _ (not-late r) ∙ at-no _ _ (not-touched r) ∙ ap driven.Refused (refusal-kept r)
+
+abbrev pub hexOf : ℕ → HexReply
+hexOf n = pick (eqb n 0) hex.Done (pick (eqb n 12) hex.NotImported (hex.Refused (refusalOf n)))
+
+pub hex-kept : (x : HexReply) → hexOf (hexNumber x) ≡ x
+hex-kept hex.Done = at-yes _ _ refl
+hex-kept hex.NotImported = at-no _ _ refl ∙ at-yes _ _ refl
+hex-kept (hex.Refused r) = at-no _ _ (not-done r) ∙ at-no _ _ (not-unimported r) ∙ ap hex.Refused (refusal-kept r)

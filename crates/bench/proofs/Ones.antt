@@ -37,6 +37,10 @@ use Rattle.bench.proofs.device_calls.cartvesper_device_read_clock.Kinds
 use Rattle.bench.proofs.device_calls.cartvesper_device_read_clock.Reads as device-read-clock-reads
 use Rattle.bench.proofs.device_calls.cartvesper_device_play.Kinds as device-play
 use Rattle.bench.proofs.device_calls.cartvesper_device_play.Reads as device-play-reads
+use Rattle.bench.proofs.hex_calls.cartvesper_hex_export.Kinds as hex-export
+use Rattle.bench.proofs.hex_calls.cartvesper_hex_export.Reads as hex-export-reads
+use Rattle.bench.proofs.hex_calls.cartvesper_hex_import.Kinds as hex-import
+use Rattle.bench.proofs.hex_calls.cartvesper_hex_import.Reads as hex-import-reads
 use Rattle.bench.proofs.driver_call.cartvesper_write.Kinds as write
 use Rattle.bench.proofs.driver_call.cartvesper_write.Reads as write-reads
 use Rattle.bench.proofs.part_calls.cartvesper_part_refusal.Kinds as part-refusal
@@ -134,3 +138,17 @@ part-address-one κs a z z′ e e′ p q = same p q
 
 pub part-length-one : OneResult part-length.ps part-length.r part-length-reads.Post
 part-length-one κs a z z′ e e′ p q = same p q
+
+-- ---- HEX texts
+
+pub hex-export-one : OneResult hex-export.ps hex-export.r hex-export-reads.Post
+hex-export-one κs a z z′ e e′ p q = same (p .0) (q .0)
+
+pub hex-export-output : OneExit hex-export.ps hex-export.r hex-export-reads.Post (λ κs e. now (e .1 .1 .0))
+hex-export-output κs a z z′ e e′ p q = same (p .1) (q .1)
+
+pub hex-import-one : OneResult hex-import.ps hex-import.r hex-import-reads.Post
+hex-import-one κs a z z′ e e′ p q = same (p .0) (q .0)
+
+pub hex-import-memory : OneExit hex-import.ps hex-import.r hex-import-reads.Post (λ κs e. now (e .1 .0))
+hex-import-memory κs a z z′ e e′ p q = same (p .1) (q .1)

@@ -25,6 +25,7 @@ use Rattle.bench.specs.declared.FrameAnswer.{FrameAnswer}
 use Rattle.bench.specs.declared.DeviceAnswer.{DeviceAnswer}
 use Rattle.bench.specs.declared.Value.{Value}
 use Rattle.driver.specs.Answers as driver
+use Rattle.hex.specs.Answers.{importNumber, importAnswer}
 use Rattle.bench.specs.declared.DriverAnswer.{DriverAnswer}
 
 -- ---- answers put together
@@ -118,3 +119,8 @@ abbrev pub writeCall : Part → Core → List ℕ → ℕ → List ℕ → ℕ �
 writeCall P c m a bytes interval limit =
     let r = driver.driven P c m a bytes interval limit in
     driverAnswer (driver.runReplyNumber (r .answer)) (driver.runReplyPages (r .answer)) (driver.runReplyFrames (r .answer)) (r .core)
+
+-- ---- HEX texts: export answers its number alone
+
+abbrev pub importCall : Part → Core → List ℕ → List ℕ → CoreAnswer
+importCall P c m t = coreAnswer (importNumber P c m t) (importAnswer P c m t .core)

@@ -1,4 +1,4 @@
-// Both models, the driver and the split for C programs: numbers, records of numbers and lent bytes in, the same out.
+// Both models, the driver, the split and HEX texts for C programs: numbers, records of numbers and lent bytes in, the same out.
 // bench/cartvesper.h documents each call.
 //
 // Each function takes the numbers that C hands over, calls the proved public call and puts its answer together: the
@@ -7,6 +7,7 @@ mod core_calls;
 mod device_calls;
 mod driver_call;
 mod frame_call;
+mod hex_calls;
 mod part_calls;
 
 use chip::Core;
