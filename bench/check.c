@@ -10,7 +10,7 @@
 #include <unistd.h>
 
 enum { MEMORY = CARTVESPER_MEMORY, LONGEST = CARTVESPER_LONGEST_FRAME };
-enum { ROLES = 3, ROOM = 1 << 17 }; /* memory, input, output; room for the longest slice */
+enum { ROLES = 3, ROOM = 1 << 18 }; /* memory, input, output; room for the longest slice */
 
 static int on_heap;
 static uint8_t *areas[ROLES];
@@ -147,6 +147,27 @@ static void check_write(uint8_t *memory, size_t size)
     give_back(bytes);
 }
 
+static void check_hex(uint8_t *memory, size_t size)
+{
+    size_t room = below(8) ? CARTVESPER_HEX_TEXT : about(below(2) * CARTVESPER_HEX_TEXT);
+    uint8_t *out = lend(2, room, 1);
+    int done = cartvesper_hex_export(core, memory, size, out, room) == 0;
+    if (done)
+        look(out, room);
+    /* what was exported, or its front, or one line and the end, or noise; sometimes with one byte changed */
+    size_t length = done ? (below(2) ? room : below((uint32_t)room)) : below(100);
+    uint8_t *text = lend(1, length, 1);
+    if (done)
+        memcpy(text, out, length);
+    else
+        fill(text, length);
+    if (length > 0 && below(2))
+        text[below((uint32_t)length)] ^= (uint8_t)(1 << below(8));
+    core = cartvesper_hex_import(core, memory, size, text, length).core;
+    give_back(text);
+    give_back(out);
+}
+
 static void check_call(void)
 {
     size_t size = below(16) ? MEMORY : about(below(2) * MEMORY);
@@ -160,6 +181,8 @@ static void check_call(void)
         check_write(memory, size);
         calls += 6;
     }
+    check_hex(memory, size);
+    calls += 2;
     look(memory, size < 256 ? size : 256);
     give_back(memory);
 }

@@ -1,6 +1,6 @@
 #!/bin/sh
 # check.sh [ROUNDS]: looks for a byte touched beside what is lent, and for what C leaves undefined. Runs check.c between pages that may not be touched
-# (needs no tool); then check.c, example.c and differ.c under cc's sanitizers, which watch the C side; then check.c and example.c under valgrind, which
+# (needs no tool); then check.c, example.c, differ.c and hex.c under cc's sanitizers, which watch the C side; then check.c and example.c under valgrind, which
 # watches the library too. A tool that is not there is named, and its part left out.
 set -eu
 here=$(cd "$(dirname "$0")" && pwd)
@@ -37,11 +37,13 @@ if cc $sanitizers -o "$out/empty" "$out/empty.c" 2>"$out/sanitizers.log" && "$ou
     cc "$@" -o "$out/check-sanitized" check.c "$archive"
     cc "$@" -o "$out/example-sanitized" example.c "$archive"
     cc "$@" -o "$out/differ-sanitized" differ.c plain.c "$archive"
+    cc "$@" -o "$out/hex-sanitized" hex.c plainhex.c plain.c "$archive"
     "$out/check-sanitized" heap 2 "$rounds"
     "$out/example-sanitized" >"$out/example.sanitized"
     diff example.stdout "$out/example.sanitized"
     "$out/differ-sanitized" 3 $((rounds / 100 + 1))
-    echo "bench/check.sh: cc $sanitizers: nothing found in check.c, example.c, differ.c and plain.c"
+    "$out/hex-sanitized" 5 "$rounds" >"$out/hex.sanitized"
+    echo "bench/check.sh: cc $sanitizers: nothing found in check.c, example.c, differ.c, hex.c, plain.c and plainhex.c"
 else
     missing="$missing sanitizers"
     echo "bench/check.sh: missing: cc $sanitizers does not build or run a program here: the C side was not watched" >&2

@@ -88,6 +88,18 @@ static void write_by_driver(cartvesper_core *core)
     printf("and then: cell 03E8 %02X\n", memory[1000]);
 }
 
+/* ---- images as Intel HEX */
+
+static void image(const cartvesper_core *core)
+{
+    static uint8_t text[CARTVESPER_HEX_TEXT];
+    static const char three[] = ":0300300002337A1E\n:00000001FF\n";
+    must_be_done("import", cartvesper_hex_import(*core, memory, MEMORY, (const uint8_t *)three, sizeof three - 1).number);
+    must_be_done("export", cartvesper_hex_export(*core, memory, MEMORY, text, sizeof text));
+    printf("the line of cells 0030 to 003F: %.43s\n", (const char *)text + 3 * 44);
+    printf("lower case: %u\n", cartvesper_hex_import(*core, memory, MEMORY, (const uint8_t *)":00000001ff\n", 12).number);
+}
+
 /* ---- what is not done says so, and changes nothing */
 
 static void refusals(const cartvesper_core *core)
@@ -119,6 +131,7 @@ int main(void)
     cartvesper_core core = powered.core;
     write_by_hand(&core);
     write_by_driver(&core);
+    image(&core);
     refusals(&core);
     return 0;
 }

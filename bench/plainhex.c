@@ -38,13 +38,13 @@ uint32_t plain_hex_export_call(cartvesper_core core, const uint8_t *memory, size
     return CARTVESPER_DONE;
 }
 
+/* one more than the value of a digit, 0 for every other byte */
+static const uint8_t values[256] = {['0'] = 1, ['1'] = 2, ['2'] = 3, ['3'] = 4, ['4'] = 5, ['5'] = 6, ['6'] = 7, ['7'] = 8, ['8'] = 9, ['9'] = 10,
+                                    ['A'] = 11, ['B'] = 12, ['C'] = 13, ['D'] = 14, ['E'] = 15, ['F'] = 16};
+
 static int digit(uint8_t c)
 {
-    if (c >= '0' && c <= '9')
-        return c - '0';
-    if (c >= 'A' && c <= 'F')
-        return c - 'A' + 10;
-    return -1;
+    return values[c] - 1;
 }
 
 /* The bytes of a line of so many digits, or -1. */

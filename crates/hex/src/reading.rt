@@ -8,23 +8,20 @@ ghost use Rattle.hex.specs.Writing.{endLine};
 ghost use Rattle.hex.specs.Reading.{digit, lineByte, dataLength, addressAt, isFramed, isPlaced, sumsUp, saysRecord, lineLength, parted, sameBytes};
 use codes::SIZE;
 
-// The value of a digit, 256 for none.
+fn choose(test: bool, yes: u32, no: u32) -> u32
+    ensures { λ r. ⌜ r ≡ pick test yes no ⌝ }
+{
+    if test { yes } else { no }
+}
+
+// The value of a digit, 256 for none. All values are made and one is chosen: on random digits a branch would be
+// mispredicted every third time.
 fn digit(byte: u8) -> u32
     ensures { λ r. ⌜ (r ≡ digit byte) × (r ≤ 256) ⌝ }
 {
-    if byte < 48 {
-        return 256;
-    }
-    if byte <= 57 {
-        return (byte - 48) as u32;
-    }
-    if byte < 65 {
-        return 256;
-    }
-    if byte <= 70 {
-        return (byte - 55) as u32;
-    }
-    256
+    let number = (byte as u32 + 208) % 256;
+    let letter = (byte as u32 + 191) % 256;
+    choose(number <= 9, number, choose(letter <= 5, letter + 10, 256))
 }
 
 // Byte i of the line at the front of a text.

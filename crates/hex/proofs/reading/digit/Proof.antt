@@ -1,41 +1,35 @@
--- By the side of the choice that each test takes.
+-- The choices one in another, by the law on them.
+use mathlib.Core.Path.{_≡_}
+use Prim.Native.Nat.{_<_}
 use native.Mathlib.Omega.{arith}
-use borrow.Author.Needs.{needs}
-use Rattle.laws.specs.Pick.{arms}
 use Rattle.hex.specs.Reading.{digit}
+use Rattle.hex.proofs.Digits.{digit-chosen, digit-most}
+use borrow.Author.Needs.{needs}
 use Rattle.hex.proofs.reading.digit.Statement.{statement}
 use Rattle.hex.proofs.reading.digit.Tie as tie
 
+add-number : tie.Need-add-number
+add-number c = search needs
+
+add-letter : tie.Need-add-letter
+add-letter c = search needs
+
+add-choose : tie.Need-add-choose
+add-choose c = search needs
+
+choose-requires : tie.Need-choose-requires
+choose-requires c κs = search needs
+
+choose-requires-2 : tie.Need-choose-requires-2
+choose-requires-2 c κs = search needs
+
 returns : tie.Need-returns
-unfolding digit
-returns c = (search arms, omega arith)
-
-cast-result : tie.Need-cast-result
-cast-result c = search needs
-
-returns-2 : tie.Need-returns-2
-unfolding digit
-returns-2 c = (search arms, omega arith)
-
-returns-3 : tie.Need-returns-3
-unfolding digit
-returns-3 c = (search arms, omega arith)
-
-sub-result : tie.Need-sub-result
-sub-result c = search needs
-
-cast-result-2 : tie.Need-cast-result-2
-cast-result-2 c = search needs
-
-returns-4 : tie.Need-returns-4
-unfolding digit
-returns-4 c = (search arms, omega arith)
-
-returns-5 : tie.Need-returns-5
-unfolding digit
-returns-5 c = (search arms, omega arith)
+returns c =
+    let b = c .before .before .args .byte in
+    let low : b < 256 = omega arith in
+    let e : c .choose2 .result ≡ digit b = rw (c .choose2 .ensures, c .before .choose .ensures) (digit-chosen b low) in
+    (e, omega (arith, e, digit-most b low))
 
 pub digit-spec : {M : Type 1} → statement M
 digit-spec =
-    tie.close
-    (tie.spec returns cast-result returns-2 returns-3 sub-result cast-result-2 returns-4 returns-5)
+    tie.close (tie.spec add-number add-letter add-choose choose-requires choose-requires-2 returns)
