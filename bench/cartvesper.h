@@ -7,10 +7,10 @@
  * that the same call is lent. No call keeps state, so calls from several threads need no lock unless they share lent
  * bytes.
  *
- * Each answer's `number` is CARTVESPER_DONE or a refusal, 1 to 8 or 12. Where several apply the lowest is given. Everything
- * lent and every record then comes back byte for byte as it was, and every count and every `value` is 0. (6 comes from
- * power-up alone, which takes no record: it gives the delivered one.) 9 and 13 are of the driver alone, and come after
- * frames were sent: they say how a run ended before its last page.
+ * Each answer's `number` is CARTVESPER_DONE or a refusal, 1 to 8 or 12. Where several apply the lowest is given.
+ * Everything lent and every record then comes back byte for byte as it was, and every count and every `value` is 0. (6
+ * comes from power-up alone, which takes no record: it gives the delivered one.) 9 and 13 are of the driver alone, and
+ * come after frames were sent: they say how a run ended before its last page.
  */
 #ifndef CARTVESPER_H
 #define CARTVESPER_H

@@ -1,5 +1,6 @@
--- Intel HEX as it is read: the record at the front of a text, the records that a text says, and the cells that they give.
--- That a good text is the written text of its records, and no other is good, is a theorem of `hex_theorems` (its proofs/Texts.antt).
+-- Intel HEX as it is read: the record at the front of a text, the records that a text says, the cells that they give.
+-- That a good text is the written text of its records, and no other text is good, is a theorem of `hex_theorems` (its
+-- proofs/Texts.antt).
 use Prim.Native.Nat.{ℕ, zero, suc, _+_, _*_, _-_, _%_}
 use mathlib.Core.Bool.{Bool, _&&_}
 use mathlib.Core.List.{List, [], _∷_}
@@ -74,7 +75,8 @@ partedNone t = record { records = []; rest = t }
 -- n records at most
 unfoldable pub partedBy : Part → ℕ → List ℕ → Parted
 partedBy P zero t = partedNone t
-partedBy P (suc n) t = pick (saysRecord P t) (partedFirst (recordAt t) (partedBy P n (drop (lineLength t) t))) (partedNone t)
+partedBy P (suc n) t =
+    pick (saysRecord P t) (partedFirst (recordAt t) (partedBy P n (drop (lineLength t) t))) (partedNone t)
 
 unfoldable pub parted : Part → List ℕ → Parted
 parted P t = partedBy P (length t) t
@@ -90,7 +92,8 @@ isGood P t = sameBytes (parted P t .rest) endLine
 -- the number of the first bad line, 0 for a good text: the one after the records; where that is the closing one, and
 -- more follows it, the next
 abbrev pub firstBad : Part → List ℕ → ℕ
-firstBad P t = pick (isGood P t) 0 (length (parted P t .records) + pick (sameBytes (take 12 (parted P t .rest)) endLine) 2 1)
+firstBad P t =
+    pick (isGood P t) 0 (length (parted P t .records) + pick (sameBytes (take 12 (parted P t .rest)) endLine) 2 1)
 
 -- ---- the cells
 

@@ -1,5 +1,5 @@
--- Intel HEX as it is written: a byte, the line of a record, the text of some records, the text of an image. The bytes of
--- a text are their ASCII numbers: 58 is the colon, 10 is LF, 48 to 57 are 0 to 9, 65 to 70 are A to F.
+-- Intel HEX as it is written: a byte, the line of a record, the text of some records, the text of an image. The bytes
+-- of a text are their ASCII numbers: 58 is the colon, 10 is LF, 48 to 57 are 0 to 9, 65 to 70 are A to F.
 use Prim.Native.Nat.{ℕ, _+_, _*_, _-_, _/_, _%_}
 use mathlib.Core.List.{List, [], _∷_, _++_}
 use lib.ListN.{length, take, drop}

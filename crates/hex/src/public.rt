@@ -111,8 +111,8 @@ fn lines_on(rest: &[u8]) -> usize
     1
 }
 
-// The number of the first line of a text that is bad, 0 where the text is good. A text that ends too early is bad in the
-// line after its last.
+// The number of the first line of a text that is bad, 0 where the text is good. A text that ends too early is bad in
+// the line after its last.
 pub fn bad_line(text: &[u8]) -> usize
     ensures { λ r. ⌜ r ≡ firstBad m95512 (now (text .entry)) ⌝ }
 {

@@ -71,7 +71,8 @@ fn sum_byte(sum: u32) -> u8
 
 // The line of some fields: four bytes of the head, and the data.
 fn put_fields(out: &mut [u8], at: usize, head: &[u8], bytes: &[u8])
-    requires { ⌜ (at + 2 * length (now bytes) + 12 ≤ length (now out)) × (length (now bytes) ≤ 255) × (length (now head) ≡ 4) ⌝ }
+    requires { ⌜ (at + 2 * length (now bytes) + 12 ≤ length (now out)) × (length (now bytes) ≤ 255)
+        × (length (now head) ≡ 4) ⌝ }
     ensures { λ _. ⌜ now (out .exit) ≡ put (now (out .entry)) at (lineOf (now (head .entry) ++ now (bytes .entry))) ⌝ }
 {
     let end = at + 2 * bytes.len() + 9;
@@ -85,7 +86,8 @@ fn put_fields(out: &mut [u8], at: usize, head: &[u8], bytes: &[u8])
 
 // The line of a record.
 fn put_line(out: &mut [u8], at: usize, address: u32, bytes: &[u8])
-    requires { ⌜ (at + 2 * length (now bytes) + 12 ≤ length (now out)) × (length (now bytes) ≤ 255) × (address < 65536) ⌝ }
+    requires { ⌜ (at + 2 * length (now bytes) + 12 ≤ length (now out)) × (length (now bytes) ≤ 255)
+        × (address < 65536) ⌝ }
     ensures { λ _. ⌜ now (out .exit)
         ≡ put (now (out .entry)) at (recordLine (record { address = address; bytes = now (bytes .entry) })) ⌝ }
 {

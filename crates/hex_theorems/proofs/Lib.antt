@@ -6,3 +6,4 @@ pub mod Texts
 pub mod Cells
 pub mod Round
 pub mod Twelve
+pub mod Cases

@@ -68,7 +68,7 @@ fn help() {
     );
     io::write_all(
         STDOUT_FILENO,
-        b"It is at most 262,144 bytes long. What is wrong is said on standard error, with the number of the bad line.\n",
+        b"It has at most 262,144 bytes. What is wrong is said on standard error, with the number of the bad line.\n",
     );
 }
 

@@ -58,16 +58,21 @@ same-length c = search needs
 
 returns : tie.Need-returns
 returns c =
-    let a = c .before .before .before .before .before .before .before .before .before .before .before .before .before .before .before .before .before .before .before .before .before .before .before .before .before .before .args in
-    let pre = c .before .before .before .before .before .before .before .before .before .before .before .before .before .before .before .before .before .before .before .before .before .before .before .before .before .before .pre in
-    let s = c .before .before .before .before .before .before .before .before .before .before .before .before .before .before .before .before .before .before .before .before .sum-byte in
-    let f = c .before .before .before .before .before .before .before .before .before .before .before .before .before .before .before .before .before .before .before .before .before .before .sum-of in
-    let g = c .before .before .before .before .before .before .before .before .before .before .before .before .before .before .before .before .before .before .before .before .before .sum-of2 in
-    let total : s .result ≡ sumByte (total (a .head .now) + total (a .bytes .now)) = s .ensures ∙ rw (f .ensures .0, g .ensures .0) refl in
-    line-written (a .out .now) (c .before .before .before .before .before .before .before .before .before .before .before .before .before .before .before .before .before .before .put-one .last .0) (c .before .before .before .before .before .before .before .before .before .before .before .before .before .before .put-values .last .0) (c .before .before .before .before .before .before .before .before .before .before .put-values2 .last .0)
-    (c .before .before .before .before .before .before .put-byte .last .0) (c .before .before .put-one2 .last .0) (a .at) (length (a .bytes .now)) (s .result) (a .head .now) (a .bytes .now)
-    (pre .2) refl (pre .0) (c .before .before .before .before .before .before .before .before .before .before .before .before .before .before .before .before .before .before .put-one .ensures) (c .before .before .before .before .before .before .before .before .before .before .before .before .before .before .put-values .ensures) (c .before .before .before .before .before .before .before .before .before .before .put-values2 .ensures)
-    (c .before .before .before .before .before .before .put-byte .ensures) (c .before .before .put-one2 .ensures) total
+    let last = c .before .before in
+    let summed = last .before .before .before .before in
+    let given = summed .before .before .before .before in
+    let headed = given .before .before .before .before in
+    let begun = headed .before .before .before .before in
+    let sum = begun .before .before in
+    let first = sum .before .before .before .before .before .before in
+    let a = first .args in
+    let s = sum .sum-byte in
+    let f = sum .before .before .sum-of in
+    let g = sum .before .sum-of2 in
+    let all : s .result ≡ sumByte (total (a .head .now) + total (a .bytes .now)) = s .ensures ∙ rw (f .ensures .0, g .ensures .0) refl in
+    line-written (a .out .now) (begun .put-one .last .0) (headed .put-values .last .0) (given .put-values2 .last .0) (summed .put-byte .last .0)
+    (last .put-one2 .last .0) (a .at) (length (a .bytes .now)) (s .result) (a .head .now) (a .bytes .now) (first .pre .2) refl (first .pre .0)
+    (begun .put-one .ensures) (headed .put-values .ensures) (given .put-values2 .ensures) (summed .put-byte .ensures) (last .put-one2 .ensures) all
 
 pub put-fields-spec : {M : Type 1} → statement M
 put-fields-spec =
