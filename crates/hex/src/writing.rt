@@ -3,11 +3,21 @@ ghost use mathlib.Core.Path.{_≡_};
 ghost use Prim.Native.Nat.{_+_, _*_, _<_, _≤_};
 ghost use mathlib.Core.List.{[], _∷_, _++_};
 ghost use lib.ListN.{length};
-ghost use Rattle.laws.specs.Table.{table};
 ghost use Rattle.codes.specs.Part.{m95512};
 ghost use Rattle.printing.specs.Put.{put};
-ghost use Rattle.hex.specs.Writing.{digitText, byteText, bytesText, total, sumByte, lineOf, recordLine, recordsText, recordOf, imageRoom, imageText};
+ghost use Rattle.hex.specs.Writing.{digitText, byteText, bytesText, total, sumByte, lineOf, recordLine, recordsText, imageRecords, imageRoom, imageText};
+use codes::SIZE;
 use printing::put_bytes;
+
+// Cells of a record of an image, bytes of its line, and how many there are.
+const CELLS: usize = 16;
+
+const LINE: usize = 44;
+
+const LINES: usize = SIZE / CELLS;
+
+// Where the closing line stands.
+const LAST: usize = LINE * LINES;
 
 fn digit_text(value: u8) -> u8
     requires { ⌜ value < 16 ⌝ }
@@ -104,13 +114,13 @@ fn put_line(out: &mut [u8], at: usize, address: u32, bytes: &[u8])
 fn put_lines(out: &mut [u8], memory: &[u8])
     requires { ⌜ (length (now memory) ≡ m95512 .size) × (length (now out) ≡ imageRoom m95512) ⌝ }
     ensures { λ _. ⌜ now (out .exit)
-        ≡ put (now (out .entry)) 0 (recordsText (table 4096 (recordOf (now (memory .entry))))) ⌝ }
+        ≡ put (now (out .entry)) 0 (recordsText (imageRecords m95512 (now (memory .entry)))) ⌝ }
 {
     let mut k: usize = 0;
-    while k < 4096 {
-        let start = 16 * k;
-        let end = start + 16;
-        put_line(out, 44 * k, start as u32, &memory[start..end]);
+    while k < LINES {
+        let start = CELLS * k;
+        let end = start + CELLS;
+        put_line(out, LINE * k, start as u32, &memory[start..end]);
         k += 1;
     }
 }
@@ -121,5 +131,5 @@ pub(crate) fn put_image(out: &mut [u8], memory: &[u8])
     ensures { λ _. ⌜ now (out .exit) ≡ imageText m95512 (now (memory .entry)) ⌝ }
 {
     put_lines(out, memory);
-    put_bytes(out, 180224, b":00000001FF\n");
+    put_bytes(out, LAST, b":00000001FF\n");
 }
