@@ -199,9 +199,9 @@ cartvesper_value cartvesper_core_protected(cartvesper_core core, uint32_t addres
 /* Power-up, as in the frame model, with the pins at rest: S, W and HOLD high, C and D low. */
 cartvesper_device_answer cartvesper_device_power_up(uint32_t cycle, uint8_t srwd, uint8_t bp1, uint8_t bp0,
                                                     uint32_t reading);
-/* One pin to a level: S falling selects and S rising ends the frame; C rising takes the bit on D, C falling moves Q, so
- * it is lent the memory that a READ shows; HOLD pauses while C is low. S rising in a pause drops the frame, unless it is
- * a WRITE: that is executed where its count and its conditions allow, as it is outside a pause. */
+/* One pin to a level: S falling selects and S rising ends the frame; C rising takes the bit on D, C falling moves Q,
+ * so it is lent the memory that a READ shows; HOLD pauses while C is low. S rising in a pause drops the frame,
+ * unless it is a WRITE: that is executed where its count and its conditions allow, as it is outside a pause. */
 cartvesper_device_answer cartvesper_device_set_s(cartvesper_device device, uint8_t level);
 cartvesper_device_answer cartvesper_device_set_c(cartvesper_device device, uint8_t level, const uint8_t *memory,
                                                  size_t size);
@@ -233,18 +233,19 @@ cartvesper_device_answer cartvesper_device_play(cartvesper_device device, uint8_
  *   0 all pages done: the bytes are in the memory (no data: done at once, 0 frames, the clock not moved)
  *   9 a wait used its limit and WIP is still 1: the record and the memory are those after the last poll. The cycle goes
  *     on with the next clock reading; what it is to store (the page in hand, or, in the first wait, what waited before)
- *     still waits in the record and is not counted. pages is 0: all pages take the same polls, so only the first wait or
- *     the first page's can run out
+ *     still waits in the record and is not counted. pages is 0: all pages take the same polls, so only the first wait
+ *     or the first page's can run out
  *  13 the data touches the protected block of that status byte, as address + length is above the lowest protected
- *     address: nothing but the first wait's polls was sent. frames counts them, pages is 0. The record is that after the
- *     last of them, WEL as it is there, and no cell has changed but by a cycle that was already running */
+ *     address: nothing but the first wait's polls was sent. frames counts them, pages is 0. The record is that after
+ *     the last of them, WEL as it is there, and no cell has changed but by a cycle that was already running */
 cartvesper_driver_answer cartvesper_write(cartvesper_core core, uint8_t *memory, size_t size, uint64_t address,
                                           const uint8_t *bytes, size_t length, uint32_t interval, uint32_t limit);
 
 /* ---- the split of a run of bytes into page parts, the numbers that the driver goes by: address, length and part are
  * any 64-bit numbers */
 
-/* 0 where the run lies in the memory and has the part, from 0; else 7, and the three others give 0. No data has no part 0. */
+/* 0 where the run lies in the memory and has the part, from 0; else 7, and the three others give 0. No data has no
+ * part 0. */
 uint64_t cartvesper_part_refusal(uint64_t address, uint64_t length, uint64_t part);
 /* how many parts the run has */
 uint64_t cartvesper_part_count(uint64_t address, uint64_t length, uint64_t part);

@@ -1,6 +1,7 @@
-/* check pages|heap [SEED] [ROUNDS]: every call that is lent bytes, on slices that are exactly as long as the call is told. With `pages` a slice
- * starts or ends at a page of the machine that may not be touched, so that one byte read or written beside it stops the program; with `heap` each
- * is an allocation of its own, for a memory checker to watch. Results are compared by differ.c; here only what is touched counts. */
+/* check pages|heap [SEED] [ROUNDS]: every call that is lent bytes, on slices that are exactly as long as the call is
+ * told. With `pages` a slice starts or ends at a page of the machine that may not be touched, so that one byte read
+ * or written beside it stops the program; with `heap` each is an allocation of its own, for a memory checker to
+ * watch. Results are compared by differ.c; here only what is touched counts. */
 #define _DEFAULT_SOURCE
 #include "cartvesper.h"
 #include <stdio.h>

@@ -1,7 +1,8 @@
 #!/bin/sh
-# check.sh [ROUNDS]: looks for a byte touched beside what is lent, and for what C leaves undefined. Runs check.c between pages that may not be touched
-# (needs no tool); then check.c, example.c, differ.c and hex.c under cc's sanitizers, which watch the C side; then check.c and example.c under valgrind, which
-# watches the library too. A tool that is not there is named, and its part left out.
+# check.sh [ROUNDS]: looks for a byte touched beside what is lent, and for what C leaves undefined. Runs check.c between
+# pages that may not be touched (needs no tool); then check.c, example.c, differ.c and hex.c under cc's sanitizers,
+# which watch the C side; then check.c and example.c under valgrind, which watches the library too. A tool that is not
+# there is named, and its part left out.
 set -eu
 here=$(cd "$(dirname "$0")" && pwd)
 root=$(dirname "$here")

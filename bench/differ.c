@@ -1,5 +1,6 @@
-/* differ [SEED] [ROUNDS]: the library of cartvesper.h and the plain model on the same inputs, compared in every byte of records (field by field,
- * without padding), memory, outputs and answers. The first difference is printed in full (exit 1); else a summary of counts (exit 0). */
+/* differ [SEED] [ROUNDS]: the library of cartvesper.h and the plain model on the same inputs, compared in every byte
+ * of records (field by field, without padding), memory, outputs and answers. The first difference is printed in full
+ * (exit 1); else a summary of counts (exit 0). */
 #include "plain.h"
 #include <inttypes.h>
 #include <stdarg.h>
@@ -574,7 +575,8 @@ static uint32_t random_clock(void)
     }
 }
 
-/* the next reading: ends the cycle, just misses it, goes beyond it, stays, steps back by one (nearly a full turn), or anything */
+/* the next reading: ends the cycle, just misses it, goes beyond it, stays, steps back by one (nearly a full turn),
+ * or anything */
 static uint32_t random_reading(const cartvesper_core *core)
 {
     switch (below(9)) {
@@ -728,7 +730,8 @@ static size_t random_run(void)
     }
 }
 
-/* just inside the memory, one past it; ends at an edge of the protected areas, one past it, across it; sums that 32 or 64 bits would lose */
+/* just inside the memory, one past it; ends at an edge of the protected areas, one past it, across it; sums that 32
+ * or 64 bits would lose */
 static uint64_t random_run_address(size_t length)
 {
     const uint64_t far[] = {MEMORY + 1, 0x100000000, 0xFFFFFFFF, 0x100000000 - length, 0 - (uint64_t)length, UINT64_MAX, 1ULL << 63, next64()};
@@ -1055,7 +1058,8 @@ static void run_script(cartvesper_device *device)
         try_event(device, (int)(script[i] >> 32), (uint32_t)script[i], MEMORY);
         q[i] = (uint8_t)try_device_queries(device).value;
         if (percent(1))
-            try_event(device, (int)below(6), percent(50) ? 2 : random32() | 2, 0); /* refused, or S, D, W, HOLD at a level above 1 */
+            /* refused, or S, D, W, HOLD at a level above 1 */
+            try_event(device, (int)below(6), percent(50) ? 2 : random32() | 2, 0);
     }
     singles_memory = lib_memory;
     lib_memory = plain_memory = start_memory;
@@ -1666,7 +1670,8 @@ static void case_write(const char *what, uint64_t address, size_t length, uint32
     case_run(&core, what, address, length, interval, limit, number, pages, frames);
 }
 
-/* one byte at C000h after a WRSR, whose cycle of 5,000 the first wait meets; gives the status byte that the run leaves */
+/* one byte at C000h after a WRSR, whose cycle of 5,000 the first wait meets; gives the status byte that the run
+ * leaves */
 static void case_moved(const char *what, int bits, const char *wrsr, uint32_t limit, uint32_t number, uint32_t pages, uint32_t frames, uint32_t status)
 {
     cartvesper_core core;

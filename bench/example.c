@@ -1,7 +1,9 @@
-/* The library by example: one M95512 on a bench, from power-up to a run of the driver. Read it from the top; example.sh builds and runs it.
+/* The library by example: one M95512 on a bench, from power-up to a run of the driver. Read it from the top;
+ * example.sh builds and runs it.
  *
- * The library keeps no state. The device is a record that goes in by value and comes back in the answer, and the memory is 65,536 bytes of yours that
- * you lend to each call. So a device is copied by copying both, and a call that is refused has changed neither. */
+ * The library keeps no state. The device is a record that goes in by value and comes back in the answer, and the
+ * memory is 65,536 bytes of yours that you lend to each call. So a device is copied by copying both, and a call that
+ * is refused has changed neither. */
 #include "cartvesper.h"
 #include <stdio.h>
 #include <stdlib.h>
@@ -11,7 +13,8 @@ enum { MEMORY = CARTVESPER_MEMORY };
 
 static uint8_t memory[MEMORY];
 
-/* Every answer starts with a number: 0 is done, the others are in cartvesper.h. A bench that sends what it means to send can stop at any other. */
+/* Every answer starts with a number: 0 is done, the others are in cartvesper.h. A bench that sends what it means to
+ * send can stop at any other. */
 static void must_be_done(const char *what, uint32_t number)
 {
     if (number == 0)
@@ -20,8 +23,9 @@ static void must_be_done(const char *what, uint32_t number)
     exit(1);
 }
 
-/* A whole frame from select to deselect, W high. All bits of the bytes are sent here: for a frame cut short, give a bit count down to 8 * length - 7.
- * The output has the frame's length: byte i of it is what Q showed while byte i went in, FFh where the chip did not drive Q. */
+/* A whole frame from select to deselect, W high. All bits of the bytes are sent here: for a frame cut short, give a
+ * bit count down to 8 * length - 7. The output has the frame's length: byte i of it is what Q showed while byte i
+ * went in, FFh where the chip did not drive Q. */
 static void send(const char *what, cartvesper_core *core, const uint8_t *bytes, size_t length, uint8_t *out)
 {
     cartvesper_frame_answer answer = cartvesper_frame(*core, memory, MEMORY, 1, bytes, length, 8 * length, out, length);
@@ -29,7 +33,8 @@ static void send(const char *what, cartvesper_core *core, const uint8_t *bytes, 
     *core = answer.core; /* the device that follows */
 }
 
-/* Time is yours too: readings of a free-running 32-bit microsecond counter. It may wrap; the device takes the difference to the last one. */
+/* Time is yours too: readings of a free-running 32-bit microsecond counter. It may wrap; the device takes the
+ * difference to the last one. */
 static void pass_time(cartvesper_core *core, uint32_t microseconds)
 {
     cartvesper_core_answer answer = cartvesper_clock_reading(*core, core->last + microseconds, memory, MEMORY);
@@ -54,7 +59,8 @@ static void write_by_hand(cartvesper_core *core)
     uint8_t out[7];
     send("WREN", core, wren, 1, out);
     send("WRITE", core, write, 7, out);
-    printf("after WRITE: status %02X, cell 007E %02X\n", poll(core), memory[0x7E]); /* WIP and WEL are 1, the cell is as it was */
+    /* WIP and WEL are 1, the cell is as it was */
+    printf("after WRITE: status %02X, cell 007E %02X\n", poll(core), memory[0x7E]);
     for (int polls = 1; polls <= 5; polls++) {
         pass_time(core, 1000);
         printf("after %d ms: status %02X\n", polls, poll(core));
@@ -80,7 +86,8 @@ static void write_by_driver(cartvesper_core *core)
     must_be_done("driver", done.number);
     *core = done.core;
     printf("driver: %u pages, %u frames, all there: %s\n", done.pages, done.frames, memcmp(memory + 100, bytes, 300) == 0 ? "yes" : "no");
-    /* Four polls of 1,000 microseconds do not see the end of a cycle of 5,000: 9. The page in hand waits on in the record */
+    /* Four polls of 1,000 microseconds do not see the end of a cycle of 5,000: 9. The page in hand waits on in the
+     * record */
     cartvesper_driver_answer early = cartvesper_write(*core, memory, MEMORY, 1000, bytes, 1, 1000, 4);
     printf("limit 4: number %u, %u pages, %u frames, %u microseconds left\n", early.number, early.pages, early.frames, early.core.left);
     *core = early.core;
@@ -111,7 +118,8 @@ static void refusals(const cartvesper_core *core)
     printf("a memory one byte short: %u\n", cartvesper_clock_reading(*core, 0, memory, MEMORY - 1).number);
     printf("one byte past the memory: %u\n", cartvesper_write(*core, memory, MEMORY, 65533, bytes, 4, 1000, 5001).number);
     printf("interval 0: %u\n", cartvesper_write(*core, memory, MEMORY, 0, bytes, 4, 0, 5001).number);
-    /* BP0 protects C000h to FFFFh: a write that ends below is done, one that touches the block is refused whole, after the one poll that saw BP */
+    /* BP0 protects C000h to FFFFh: a write that ends below is done, one that touches the block is refused whole,
+     * after the one poll that saw BP */
     cartvesper_core_answer guarded = cartvesper_power_up(CARTVESPER_LONGEST_CYCLE, 0, 0, 1, 0);
     must_be_done("power-up", guarded.number);
     printf("protected from %04X\n", cartvesper_core_lowest_protected(guarded.core).value);

@@ -1,5 +1,5 @@
-/* hex [seed] [rounds]: HEX texts through the library and through plain C, good, damaged and random ones; then each alone against what it should be
- * answered; then the time of export and import in both. */
+/* hex [seed] [rounds]: HEX texts through the library and through plain C, good, damaged and random ones; then each
+ * alone against what it should be answered; then the time of export and import in both. */
 #define _POSIX_C_SOURCE 199309L
 #include "plain.h"
 #include "plainhex.h"
@@ -101,7 +101,8 @@ static size_t put_end(uint8_t *at)
     return 12;
 }
 
-/* records of every length in any order, some over others; now and then one that ends with the last cell or one past it */
+/* records of every length in any order, some over others; now and then one that ends with the last cell or one past
+ * it */
 static size_t draw_text(unsigned records, int past)
 {
     uint8_t bytes[255];

@@ -1,6 +1,7 @@
 #!/bin/sh
-# hexfile.sh: the program hexfile on images and texts: out against a text made by od and awk, in against the image, over an image, bad texts; and
-# byte for byte against srec_cat and Python's intelhex where they are installed. Says what is missing.
+# hexfile.sh: the program hexfile on images and texts: out against a text made by od and awk, in against the image, over
+# an image, bad texts; and byte for byte against srec_cat and Python's intelhex where they are installed. Says what is
+# missing.
 set -eu
 here=$(cd "$(dirname "$0")" && pwd)
 root=$(dirname "$here")

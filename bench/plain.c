@@ -406,7 +406,8 @@ static void move_q(cartvesper_device *device, const uint8_t *memory)
     }
 }
 
-/* the frame's bits are `taken` whole bytes (4: four or more) and no part of one; `ran` 0 means that no cycle runs now either */
+/* the frame's bits are `taken` whole bytes (4: four or more) and no part of one; `ran` 0 means that no cycle runs
+ * now either */
 static void execute(cartvesper_device *device)
 {
     const cartvesper_frame_part *frame = &device->frame;
@@ -558,7 +559,8 @@ static uint8_t poll(driver_run *run)
     return out[1];
 }
 
-/* polls until WIP is 0 or the limit is used, and gives the last one's status; the first wait's first poll does not move the clock */
+/* polls until WIP is 0 or the limit is used, and gives the last one's status; the first wait's first poll does not
+ * move the clock */
 static uint8_t wait_for_wip(driver_run *run, int first_wait)
 {
     uint8_t status = 0;

@@ -1,6 +1,7 @@
-/* A plain C model of the M95512 in the C record types of cartvesper.h, updated in place: the frame level and the pin level, written from document 01
- * and its reading alone, and the driver and the split, written from the same text with the proved ones known. The functions without `_call` trust
- * their caller (a record inside its ranges, 65,536 bytes of memory, levels 0 or 1); the `_call` functions answer every input as cartvesper.h says. */
+/* A plain C model of the M95512 in the C record types of cartvesper.h, updated in place: the frame level and the pin
+ * level, written from document 01 and its reading alone, and the driver and the split, written from the same text
+ * with the proved ones known. The functions without `_call` trust their caller (a record inside its ranges, 65,536
+ * bytes of memory, levels 0 or 1); the `_call` functions answer every input as cartvesper.h says. */
 #ifndef PLAIN_H
 #define PLAIN_H
 #include "cartvesper.h"

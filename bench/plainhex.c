@@ -1,5 +1,5 @@
-/* The reader goes by lines: it looks for LF, then reads what stands before it. It stores into a copy of the memory, which becomes the memory where
- * the text was good. */
+/* The reader goes by lines: it looks for LF, then reads what stands before it. It stores into a copy of the memory,
+ * which becomes the memory where the text was good. */
 #include "plainhex.h"
 #include "plain.h"
 #include <string.h>

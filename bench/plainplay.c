@@ -1,5 +1,6 @@
-/* plainplay: a plain C player of a trace, written from document 01's "Trace text" over the plain model of plain.c. It reads and writes in one
- * buffer each way: the line is parsed where it stands, played in place, and printed. Standard input to standard output. */
+/* plainplay: a plain C player of a trace, written from document 01's "Trace text" over the plain model of plain.c.
+ * It reads and writes in one buffer each way: the line is parsed where it stands, played in place, and printed.
+ * Standard input to standard output. */
 #include "plain.h"
 #include <string.h>
 #include <unistd.h>

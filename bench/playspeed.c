@@ -1,6 +1,8 @@
-/* playspeed PLAY PLAIN FOLDER [PREFIX..]: makes two traces of a million lines in FOLDER, READ frames and WRITE frames of 32 bytes, sees that both players
- * put out the same, then runs them alternately with their output thrown away and prints the least processor time of each and the ratio plain/play
- * (1.00 is as fast as plain C); and, once, the time of a script that only numbers the lines (numbered.awk, in the folder it is run in). PREFIX is what stands before a program's name (an emulator and its words). */
+/* playspeed PLAY PLAIN FOLDER [PREFIX..]: makes two traces of a million lines in FOLDER, READ frames and WRITE
+ * frames of 32 bytes, sees that both players put out the same, then runs them alternately with their output thrown
+ * away and prints the least processor time of each and the ratio plain/play (1.00 is as fast as plain C); and, once,
+ * the time of a script that only numbers the lines (numbered.awk, in the folder it is run in). PREFIX is what stands
+ * before a program's name (an emulator and its words). */
 #define _DEFAULT_SOURCE
 #include <fcntl.h>
 #include <stdint.h>

@@ -1,5 +1,6 @@
 #!/bin/sh
-# Makes a shared object of the archive, calls it from Python (example.py) and compares what that prints with python.stdout. x86-64.
+# Makes a shared object of the archive, calls it from Python (example.py) and compares what that prints with
+# python.stdout. x86-64.
 set -eu
 here=$(cd "$(dirname "$0")" && pwd)
 root=$(dirname "$here")

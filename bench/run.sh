@@ -1,6 +1,7 @@
 #!/bin/sh
-# run.sh CRATE PROGRAM SOURCE.. [-- ARG..]: proves the crate, builds its archive, links the C sources of this folder with it and runs the program.
-# The archive is x86-64 on every machine: on Arm the toolchain's own clang, linker and emulator serve.
+# run.sh CRATE PROGRAM SOURCE.. [-- ARG..]: proves the crate, builds its archive, links the C sources of this folder
+# with it and runs the program. The archive is x86-64 on every machine: on Arm the toolchain's own clang, linker and
+# emulator serve.
 set -eu
 here=$(cd "$(dirname "$0")" && pwd)
 root=$(dirname "$here")

@@ -229,7 +229,8 @@ static void set_up_write_stream(void)
         bytes[2] = (uint8_t)(i * 29);
         draw_frame(wren_byte, 1);
         draw_frame(bytes, sizeof bytes);
-        emit(CLOCK, (uint32_t)(i + 1) * CYCLE); /* from the last to the first again counts as nearly a full turn: ends the cycle too */
+        /* from the last to the first again counts as nearly a full turn: ends the cycle too */
+        emit(CLOCK, (uint32_t)(i + 1) * CYCLE);
     }
 }
 

@@ -1,5 +1,6 @@
-/* The bench's questions to the proved split: case g and the edges, a line each: what was asked, then the refusal, the number of parts, and the
-   address and length of the part. It needs no header, so that the toolchain's own clang, which has none, compiles it too. */
+/* The bench's questions to the proved split: case g and the edges, a line each: what was asked, then the refusal,
+   the number of parts, and the address and length of the part. It needs no header, so that the toolchain's own
+   clang, which has none, compiles it too. */
 typedef __UINT64_TYPE__ uint64_t;
 int printf(const char *, ...);
 
