@@ -1,4 +1,5 @@
-# The library from Python: the records as ctypes structures, a WRITE by frames and a run of the driver. Argument: the shared object
+# The library from Python: the records as ctypes structures, a WRITE by frames and a run of the driver. Argument: the
+# shared object
 # (docs/LINKING.md says how to make it from the archive).
 import ctypes
 import sys
