@@ -17,12 +17,12 @@ use Rattle.chip.specs.Ranges.{inRanges}
 use Rattle.chip.specs.declared.Core.{Core}
 use Rattle.codes.specs.declared.Outcome.the-variants.{Done}
 use Rattle.chip.proofs.Within.{Within, within, in-ranges}
-use Rattle.frames.specs.Bytes.{instruction, address}
+use Rattle.fields.specs.Bytes.{instruction, address}
+use Rattle.shown.specs.Shown.{byteOut, output}
+use Rattle.shown.proofs.Padding.{few-unused}
 use Rattle.frames.specs.After.{after}
-use Rattle.frames.specs.Shown.{byteOut, output}
 use Rattle.frames.specs.Answers.{frameOutcome, framed, framedOutput}
 use Rattle.frames.specs.Play.{frame, FrameBench, frameBench, acted}
-use Rattle.frames.proofs.Padding.{few-unused}
 use Rattle.frames.proofs.Kept.{after-within}
 use Rattle.pins.specs.declared.Pins.{Pins}
 use Rattle.pins.specs.declared.Device.{Device}

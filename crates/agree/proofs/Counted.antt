@@ -13,7 +13,8 @@ use Rattle.codes.specs.Status.{bit, on, bitOf}
 use Rattle.codes.specs.declared.Outcome.{Outcome}
 use Rattle.codes.specs.declared.Outcome.the-variants.{Done, Refused}
 use Rattle.chip.specs.declared.Core.{Core}
-use Rattle.frames.specs.Answers.{bitsFit, frameOutcome, framed, framedOutput}
+use Rattle.fields.specs.Counts.{bitsFit}
+use Rattle.frames.specs.Answers.{frameOutcome, framed, framedOutput}
 use Rattle.frames.proofs.Outcomes.{taken}
 use Rattle.frames.proofs.Unused.{fit-bits, unused-framed, unused-output}
 use Rattle.agree.specs.Drawings.{lowBits, flat, bitsOf}

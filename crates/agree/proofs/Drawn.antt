@@ -10,7 +10,7 @@ use borrow.Author.Tests.{ltb-true, leb-true}
 use native.Mathlib.Omega.{arith}
 use Rattle.laws.specs.Pick.{pick, and-left, and-right}
 use Rattle.codes.specs.Part.{Part, m95512}
-use Rattle.frames.specs.Answers.{bitsFit, longestFrame}
+use Rattle.fields.specs.Counts.{bitsFit, longestFrame}
 use Rattle.frames.specs.Play.{Act, frame, reading}
 use Rattle.pins.specs.declared.Event.{Event}
 use Rattle.pins.specs.declared.Event.the-variants.{S, C, D, W, Hold, Time}

@@ -26,7 +26,7 @@ use Rattle.codes.specs.declared.Instruction.the-variants.{Wren, Wrdi, Rdsr, Wrs
 use Rattle.codes.proofs.Judged.{passed}
 use Rattle.edges.specs.declared.Frame.{Frame}
 use Rattle.edges.specs.Frames.{noFrame}
-use Rattle.frames.specs.Bytes.{instruction, addressTo, address, payload, latchedFrom, written}
+use Rattle.fields.specs.Bytes.{instruction, addressTo, address, payload, latchedFrom, written}
 use Rattle.frames.specs.After.{after}
 use Rattle.codes.proofs.Sound.{Sound}
 use Rattle.agree.proofs.Facts.{on-bit, min-leb, min-eqb, leb-cong, ltb-cong, eqb-cong}

@@ -21,8 +21,8 @@ use Rattle.latch.specs.declared.Latch.{Latch}
 use Rattle.chip.specs.Records.{running}
 use Rattle.chip.specs.declared.Core.{Core}
 use Rattle.codes.proofs.Sound.{Sound}
-use Rattle.frames.specs.Bytes.{instruction}
-use Rattle.frames.specs.Shown.{undriven}
+use Rattle.fields.specs.Bytes.{instruction}
+use Rattle.shown.specs.Shown.{undriven}
 use Rattle.pins.specs.declared.Event.{Event}
 use Rattle.pins.specs.Devices.{q}
 use Rattle.pins.specs.Answers.{PinBench, next}

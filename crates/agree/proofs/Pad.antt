@@ -10,7 +10,7 @@ use native.Mathlib.Omega.{arith}
 use native.Mathlib.Nat.{mul-add-div-right, div-eq-of-lt, div-div-eq-div-mul}
 use Rattle.laws.specs.Pick.{pick, at-yes, at-no}
 use Rattle.laws.specs.Table.{from}
-use Rattle.frames.specs.Shown.{padded}
+use Rattle.shown.specs.Shown.{padded}
 use Rattle.agree.specs.Drawings.{lowBits, flat}
 
 high : (p d v : ℕ) → 0 < p → (v / p * p + (p - 1)) / (p * d) ≡ v / (p * d)

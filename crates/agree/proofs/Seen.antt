@@ -21,8 +21,8 @@ use Rattle.codes.specs.declared.Instruction.the-variants.{Wren, Wrdi, Rdsr, Wrs
 use Rattle.edges.specs.declared.Frame.{Frame}
 use Rattle.edges.specs.Frames.{noFrame}
 use Rattle.codes.specs.Output.{outputs}
-use Rattle.frames.specs.Bytes.{instruction, addressTo, address}
-use Rattle.frames.specs.Shown.{byteOut}
+use Rattle.fields.specs.Bytes.{instruction, addressTo, address}
+use Rattle.shown.specs.Shown.{byteOut}
 use Rattle.codes.proofs.Sound.{Sound}
 use Rattle.agree.proofs.Facts.{on-bit, leb-min, min-leb}
 use Rattle.agree.proofs.Steps.{afterBytes, drives, afterFall}

@@ -15,8 +15,8 @@ use Rattle.codes.specs.Verdicts.{verdictBy}
 use Rattle.chip.specs.Ranges.{inRanges}
 use Rattle.chip.specs.Time.{timed, timedMemory}
 use Rattle.chip.specs.Power.{delivered, deliveredMemory}
-use Rattle.frames.specs.Bytes.{latchedFrom}
-use Rattle.frames.specs.Shown.{output}
+use Rattle.fields.specs.Bytes.{latchedFrom}
+use Rattle.shown.specs.Shown.{output}
 use Rattle.frames.specs.Answers.{framedOutput}
 use Rattle.frames.specs.Play.{Act, frame, reading, frameBench}
 use Rattle.pins.specs.declared.Event.{Event}

@@ -17,10 +17,10 @@ use Rattle.chip.specs.Time.{timed, timedMemory}
 use Rattle.chip.specs.Power.{delivered}
 use Rattle.codes.specs.declared.Outcome.{Outcome}
 use Rattle.codes.specs.declared.Outcome.the-variants.{Done}
-use Rattle.frames.specs.Bytes.{latchedFrom}
+use Rattle.fields.specs.Bytes.{latchedFrom}
+use Rattle.shown.proofs.Cases.{case-f}
 use Rattle.frames.specs.declared.FrameReply.the-variants.{Shown}
 use Rattle.frames.specs.Answers.{frameOutcome, frameReply, framed, framedOutput}
-use Rattle.frames.proofs.Cases.{case-f}
 use Rattle.split.proofs.Cases.{case-g-parts, case-g-addresses, case-g-lengths}
 use Rattle.driver_theorems.proofs.Cases.{case-h}
 use Rattle.chip.proofs.Cases.{case-i}

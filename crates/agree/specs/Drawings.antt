@@ -7,7 +7,7 @@ use lib.Dec.{T}
 use lib.ListN.{length, take, getD}
 use Rattle.codes.specs.Part.{Part}
 use Rattle.codes.specs.Status.{on, bitOf}
-use Rattle.frames.specs.Answers.{bitsFit, longestFrame}
+use Rattle.fields.specs.Counts.{bitsFit, longestFrame}
 use Rattle.frames.specs.Play.{Act, frame, reading}
 use Rattle.pins.specs.declared.Event.{Event}
 use Rattle.pins.specs.declared.Event.the-variants.{S, C, D, W, Hold, Time}

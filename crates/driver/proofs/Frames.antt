@@ -10,6 +10,7 @@ use lib.Seq.{length-take-le, take-at}
 use borrow.Author.Tests.{le-leb, eq-eqb}
 use Rattle.laws.specs.Pick.{at-yes, eq-so, ne-so, and-both}
 use Rattle.laws.specs.Spliced.{spliced, spliced-length}
+use Rattle.laws.specs.Filled.{copied}
 use Rattle.codes.specs.Part.{Part}
 use Rattle.chip.specs.Records.{running}
 use Rattle.chip.specs.Ranges.{inRanges}
@@ -17,10 +18,10 @@ use Rattle.codes.specs.Refusals.{isDone}
 use Rattle.chip.specs.Time.{timed, timedMemory, clockReading, clockMemory}
 use Rattle.chip.proofs.Readings.{reading-taken}
 use Rattle.chip.specs.declared.Core.{Core}
-use Rattle.frames.proofs.Showing.{copied}
+use Rattle.fields.specs.Counts.{bitsFit, longestFrame}
 use Rattle.frames.proofs.Outcomes.{accepted}
 use Rattle.frames.specs.After.{after}
-use Rattle.frames.specs.Answers.{bitsFit, longestFrame, framed}
+use Rattle.frames.specs.Answers.{framed}
 
 -- the first n of a list that has them
 pub part-length : (l : List ℕ) (k n : ℕ) → k ≡ n → n ≤ length l → length (take k l) ≡ n

@@ -9,7 +9,7 @@ use lib.ListN.{length, getD, length-append, List·getD-append}
 use lib.Seq.{drop-at}
 use Rattle.codes.specs.Part.{Part}
 use Rattle.codes.proofs.Sound.{Sound}
-use Rattle.frames.specs.Bytes.{addressTo, address, payload}
+use Rattle.fields.specs.Bytes.{addressTo, address, payload}
 use Rattle.driver.specs.Sequence.{addressBytes, writeBytes}
 
 -- ---- an address as bytes

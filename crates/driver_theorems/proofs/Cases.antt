@@ -17,7 +17,7 @@ use Rattle.codes.specs.declared.Outcome.the-variants as outcome
 use Rattle.chip.specs.Ranges.{inRanges}
 use Rattle.chip.specs.Time.{timed}
 use Rattle.chip.specs.Power.{delivered}
-use Rattle.frames.specs.Bytes.{latchedFrom}
+use Rattle.fields.specs.Bytes.{latchedFrom}
 use Rattle.frames.specs.Play.{frameBench}
 use Rattle.split.specs.Split.{pageParts, count, edge, start, end, splitAddress, splitLength}
 use Rattle.split.specs.Pieces.{piece}

@@ -20,7 +20,7 @@ use Rattle.latch.specs.Latches.{laidAt, zeros, noLatch, latched, inPage, stored
 use Rattle.latch.specs.declared.Latch.{Latch}
 use Rattle.codes.proofs.Sound.{Sound}
 use Rattle.codes.proofs.Starts.{start-of, page-in-memory}
-use Rattle.frames.specs.Bytes.{payload, latchedFrom, written}
+use Rattle.fields.specs.Bytes.{payload, latchedFrom, written}
 use Rattle.driver.specs.Sequence.{writeBytes}
 use Rattle.driver_theorems.specs.Counts.{overwritten}
 use Rattle.driver_theorems.proofs.Addresses.{write-address, write-payload}

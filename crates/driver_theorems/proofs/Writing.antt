@@ -21,7 +21,7 @@ use Rattle.latch.specs.declared.Latch.{Latch}
 use Rattle.chip.specs.declared.Core.{Core}
 use Rattle.codes.specs.declared.Instruction.the-variants.{Write}
 use Rattle.codes.proofs.Sound.{Sound}
-use Rattle.frames.specs.Bytes.{written}
+use Rattle.fields.specs.Bytes.{written}
 use Rattle.frames.specs.After.{judged, after}
 use Rattle.frames.specs.Play.{Act, FrameBench, actedAll}
 use Rattle.driver.specs.Sequence.{sent, writeBytes, pollsOn, pageWait, wrenAndWrite, pageActs}

@@ -21,7 +21,7 @@ use Rattle.codes.specs.declared.Instruction.{Instruction}
 use Rattle.codes.specs.declared.Instruction.the-variants.{Wren, Wrdi, Rdsr, Wrsr, Read, Write, Silence}
 use Rattle.chip.proofs.Within.{Within}
 use Rattle.chip.proofs.Passing.{timed-within, timed-length, cell-rule}
-use Rattle.frames.specs.Bytes.{instruction, address, written}
+use Rattle.fields.specs.Bytes.{instruction, address, written}
 use Rattle.frames.specs.After.{judged, after}
 use Rattle.frames.specs.Play.{Act, frame, reading, FrameBench, acted, actedAll, addresses, addressed}
 use Rattle.codes.proofs.Sound.{Sound}

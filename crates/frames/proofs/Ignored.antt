@@ -15,7 +15,7 @@ use Rattle.codes.specs.Verdicts.{isExecuted}
 use Rattle.codes.specs.Instructions.{row, countFits, guarded}
 use Rattle.chip.specs.declared.Core.{Core}
 use Rattle.codes.specs.declared.Instruction.the-variants.{Write}
-use Rattle.frames.specs.Bytes.{instruction, address}
+use Rattle.fields.specs.Bytes.{instruction, address}
 use Rattle.frames.specs.After.{judged, after}
 use Rattle.frames.specs.Answers.{frameOutcome, framed, framedOutput}
 use Rattle.codes.proofs.Judged.{Passed, passed}

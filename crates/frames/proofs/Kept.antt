@@ -20,7 +20,7 @@ use Rattle.codes.proofs.Sound.{Sound}
 use Rattle.codes.proofs.Starts.{page-of-memory}
 use Rattle.latch.proofs.Fitting.{none-latched, one-latched}
 use Rattle.chip.proofs.Executed.{executed-within}
-use Rattle.frames.specs.Bytes.{instruction, address, addressTo, payload, latchedFrom, written}
+use Rattle.fields.specs.Bytes.{instruction, address, addressTo, payload, latchedFrom, written}
 use Rattle.frames.specs.After.{judged, after}
 use Rattle.frames.specs.Answers.{frameOutcome, framed}
 

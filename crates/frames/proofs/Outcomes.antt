@@ -7,7 +7,7 @@ use mathlib.Core.List.{List}
 use lib.ListN.{length}
 use lib.Dec.{eqb, leb}
 use borrow.Author.Tests.{eqb-true, leb-true}
-use Rattle.laws.specs.Pick.{pick, pick-ap, pick-cong, yes-so, eq-so, le-so}
+use Rattle.laws.specs.Pick.{pick, at-yes, pick-ap, pick-cong, yes-so, eq-so, le-so}
 use Rattle.codes.specs.Part.{Part}
 use Rattle.chip.specs.Ranges.{inRanges}
 use Rattle.chip.specs.Records.{running, status}
@@ -17,10 +17,13 @@ use Rattle.codes.specs.declared.Refusal.{Refusal}
 use Rattle.codes.specs.declared.Refusal.the-variants.{MemoryLength, RecordRange, FrameLength, BitCount, OutputLength}
 use Rattle.codes.specs.declared.Outcome.{Outcome}
 use Rattle.codes.specs.declared.Outcome.the-variants.{Done, Refused}
-use Rattle.frames.specs.Answers.{bitsFit, longestFrame, frameOutcome, framed, framedOutput, frameNumber, frameUndriven}
-use Rattle.frames.specs.Bytes.{instruction}
+use Rattle.fields.specs.Bytes.{instruction}
+use Rattle.fields.specs.Counts.{bitsFit, longestFrame}
+use Rattle.shown.specs.Shown.{output, undriven}
+use Rattle.shown.specs.Lengths.{shownIn}
+use Rattle.shown.proofs.Lengths.{lengths-in}
+use Rattle.frames.specs.Answers.{frameOutcome, framed, framedOutput, frameNumber, frameUndriven}
 use Rattle.frames.specs.After.{after}
-use Rattle.frames.specs.Shown.{output, undriven}
 use Rattle.frames.specs.declared.FrameReply.the-variants as reply
 use Rattle.frames.specs.declared.Framed.{Framed}
 
@@ -72,6 +75,10 @@ module _ (P : Part) (c : Core) (size len n room : ℕ) where
 
 -- ---- what a frame hands back and leaves in the output: one that is taken, and one that is refused
 module _ (P : Part) (c : Core) (m : List ℕ) (w : Bool) (s : List ℕ) (n : ℕ) (out : List ℕ) where
+  -- the lengths of one that is taken go together, so it is shown
+  taken-shown : Taken P c (length m) (length s) n (length out) → shownIn P (running c) (status c) m s n out ≡ output P (running c) (λ j. status c) m s n
+  taken-shown t = at-yes _ _ (lengths-in P (length m) (length s) n (length out) (t .whole) (t .short) (t .counted) (t .roomy))
+
   abbrev pub HandsBack : Framed → ℕ → ℕ → List ℕ → Type 0
   HandsBack r k u o =
       (r ≡ framed P c m w s n (length out))
@@ -79,11 +86,13 @@ module _ (P : Part) (c : Core) (m : List ℕ) (w : Bool) (s : List ℕ) (n : ℕ
       × ((u ≡ frameUndriven P c (length m) s n (length out)) × (o ≡ framedOutput P c m s n out)))
 
   pub shown-frame : {o : Outcome} → o ≡ frameOutcome P c (length m) (length s) n (length out) → o ≡ Done
-      → HandsBack (record { answer = reply.Shown (undriven P (instruction P s) (running c) n); core = after P (running c) w c s n }) 0 (undriven P (instruction P s) (running c) n) (output P (running c) (λ j. status c) m s n)
+      → HandsBack (record { answer = reply.Shown (undriven P (instruction P s) (running c) n); core = after P (running c) w c s n }) 0
+      (undriven P (instruction P s) (running c) n) (shownIn P (running c) (status c) m s n out)
   unfolding framed framedOutput pick
   shown-frame found done =
       let e = sym found ∙ done in
-      (rw e, (frame-number P c (length m) (length s) n (length out) e, (rw e, rw e)))
+      let shows = taken-shown (taken P c (length m) (length s) n (length out) found done) in
+      (rw e, (frame-number P c (length m) (length s) n (length out) e, (rw e, shows ∙ rw e)))
 
   pub refused-frame : (r : Refusal) {o : Outcome} → o ≡ frameOutcome P c (length m) (length s) n (length out) → o ≡ Refused r
       → HandsBack (record { answer = reply.Refused r; core = c }) (refusalNumber r) 0 out

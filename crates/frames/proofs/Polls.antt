@@ -16,9 +16,10 @@ use Rattle.codes.specs.declared.Outcome.the-variants.{Done, Refused}
 use Rattle.chip.specs.Records.{running, status}
 use Rattle.chip.specs.Ranges.{inRanges}
 use Rattle.chip.specs.declared.Core.{Core}
+use Rattle.fields.specs.Counts.{bitsFit, longestFrame}
+use Rattle.shown.specs.Shown.{padded, output}
 use Rattle.frames.specs.After.{judged, after}
-use Rattle.frames.specs.Shown.{padded, output}
-use Rattle.frames.specs.Answers.{bitsFit, longestFrame, frameOutcome, framed, framedOutput}
+use Rattle.frames.specs.Answers.{frameOutcome, framed, framedOutput}
 use Rattle.frames.specs.Polls.{pollBytes, polled}
 use Rattle.frames.specs.declared.Seen.{Seen}
 use Rattle.frames.proofs.Outcomes.{accepted}

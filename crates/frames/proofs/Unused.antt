@@ -20,11 +20,12 @@ use Rattle.codes.specs.declared.Instruction.{Instruction}
 use Rattle.codes.specs.declared.Instruction.the-variants.{Wren, Wrdi, Rdsr, Wrsr, Read, Write, Silence}
 use Rattle.chip.specs.declared.Core.{Core}
 use Rattle.chip.specs.Records.{running, status}
+use Rattle.fields.specs.Bytes.{instruction, addressTo, address}
+use Rattle.fields.specs.Counts.{bitsFit}
+use Rattle.shown.specs.Shown.{byteOut, paddedAt, output, undriven}
 use Rattle.frames.specs.declared.Framed.{Framed}
-use Rattle.frames.specs.Bytes.{instruction, addressTo, address}
 use Rattle.frames.specs.After.{after}
-use Rattle.frames.specs.Shown.{byteOut, paddedAt, output, undriven}
-use Rattle.frames.specs.Answers.{bitsFit, frameOutcome, frameReply, framed, framedOutput}
+use Rattle.frames.specs.Answers.{frameOutcome, frameReply, framed, framedOutput}
 use Rattle.frames.proofs.Outcomes.{taken}
 use Rattle.frames.proofs.Ignored.{miscounted}
 

@@ -11,7 +11,7 @@ use Rattle.codes.specs.Verdicts.{verdict, isExecuted}
 use Rattle.chip.specs.Effects.{effect}
 use Rattle.chip.specs.declared.Core.{Core}
 use Rattle.codes.specs.declared.Verdict.{Verdict}
-use Rattle.frames.specs.Bytes.{instruction, address, written}
+use Rattle.fields.specs.Bytes.{instruction, address, written}
 
 -- HOLD is high throughout, so the frame is never held
 abbrev pub judged : Part → Bool → Bool → Core → List ℕ → ℕ → Verdict

@@ -1,6 +1,6 @@
 -- The public frame call, for every input: the refusals in their order, the answer, the record and the output.
-use Prim.Native.Nat.{ℕ, _+_, _*_, _-_}
-use mathlib.Core.Bool.{Bool, _&&_}
+use Prim.Native.Nat.{ℕ}
+use mathlib.Core.Bool.{Bool}
 use mathlib.Core.List.{List}
 use lib.ListN.{length}
 use lib.Dec.{eqb, leb}
@@ -13,20 +13,13 @@ use Rattle.chip.specs.declared.Core.{Core}
 use Rattle.codes.specs.declared.Refusal.the-variants.{MemoryLength, RecordRange, FrameLength, BitCount, OutputLength}
 use Rattle.codes.specs.declared.Outcome.{Outcome}
 use Rattle.codes.specs.declared.Outcome.the-variants.{Done, Refused}
+use Rattle.fields.specs.Bytes.{instruction}
+use Rattle.fields.specs.Counts.{bitsFit, longestFrame}
+use Rattle.shown.specs.Shown.{output, undriven}
 use Rattle.frames.specs.declared.FrameReply.{FrameReply}
 use Rattle.frames.specs.declared.FrameReply.the-variants as reply
 use Rattle.frames.specs.declared.Framed.{Framed}
-use Rattle.frames.specs.Bytes.{instruction}
 use Rattle.frames.specs.After.{after}
-use Rattle.frames.specs.Shown.{output, undriven}
-
--- a bit count that fits: 0 for an empty slice, else from 8·length − 7 to 8·length
-abbrev pub bitsFit : ℕ → ℕ → Bool
-bitsFit len n = pick (eqb len 0) (eqb n 0) (leb (8 * len - 7) n && leb n (8 * len))
-
--- the longest frame: the memory's size and four bytes more
-abbrev pub longestFrame : Part → ℕ
-longestFrame P = P .size + 4
 
 -- what stands for refusals 1, 2, 3, 4, 5, in that order, and for none; size is the memory's length, len the slice's,
 -- room the output's

@@ -1,8 +1,6 @@
 -- What a whole frame does, from the table of instructions and the section "Frames" of document 01, and what a list of
 -- frames and readings does. Nothing here follows pins.
-pub mod Bytes
 pub mod After
-pub mod Shown
 pub mod Answers
 pub mod Polls
 pub mod Play

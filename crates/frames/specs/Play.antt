@@ -9,7 +9,7 @@ use Rattle.codes.specs.Verdicts.{isExecuted}
 use Rattle.codes.specs.Instructions.{isWrite}
 use Rattle.chip.specs.Time.{timed, timedMemory}
 use Rattle.chip.specs.declared.Core.{Core}
-use Rattle.frames.specs.Bytes.{instruction, address, written}
+use Rattle.fields.specs.Bytes.{instruction, address, written}
 use Rattle.frames.specs.After.{judged, after}
 
 pub data Act : Type 0 where

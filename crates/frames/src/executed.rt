@@ -4,15 +4,15 @@ ghost use mathlib.Core.Bool.{false};
 ghost use Rattle.codes.specs.Part.{m95512};
 ghost use Rattle.chip.specs.Records.{running};
 ghost use Rattle.frames.specs.After.{judged, executed, after};
-use crate::fields::address_of;
-use crate::fields::byte_at;
-use crate::fields::instruction_of;
-use crate::fields::latch_of;
 use chip::Core;
 use codes::Instruction;
 use codes::PAGE;
 use codes::Verdict;
 use codes::judge;
+use fields::address_of;
+use fields::byte_at;
+use fields::instruction_of;
+use fields::latch_of;
 
 // No time passes inside a frame: a cycle ran at the eighth edge where one runs now.
 fn verdict_of(core: Core, w: bool, bytes: &[u8], bits: usize) -> Verdict

@@ -5,9 +5,6 @@
 ghost use mathlib.Core.Path.{_≡_};
 ghost use lib.ListN.{length};
 ghost use Rattle.codes.specs.Part.{m95512};
-ghost use Rattle.chip.specs.Records.{running, status};
-ghost use Rattle.frames.specs.After.{after};
-ghost use Rattle.frames.specs.Shown.{output, undriven};
 ghost use Rattle.frames.specs.Answers.{framed, framedOutput, frameReplyNumber, frameReplyUndriven, frameNumber, frameUndriven};
 use chip::Core;
 use codes::Outcome;
@@ -15,10 +12,8 @@ use codes::Refusal;
 
 mod answers;
 mod executed;
-mod fields;
 mod polling;
 mod refused;
-mod shown;
 
 pub use polling::poll;
 
@@ -66,7 +61,7 @@ pub fn frame(
         Outcome::Done => {
             let ran = core.running();
             let i = fields::instruction_of(bytes);
-            shown::show(i, ran, core.status(), memory, bytes, bits, out);
+            shown::show(ran, core.status(), memory, bytes, bits, out);
             Framed {
                 answer: FrameReply::Shown(shown::undriven(i, ran, bits)),
                 core: executed::after(core, w, bytes, bits),

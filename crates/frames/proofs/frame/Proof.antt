@@ -1,7 +1,6 @@
--- By the outcome that the code found: what is asked of `show` is what the refusals tested.
-use lib.ListN.{length}
+-- By the outcome that the code found: the refusals tested the lengths, so a frame that is taken is shown.
 use Rattle.codes.specs.Part.{m95512}
-use Rattle.frames.proofs.Outcomes.{taken, shown-frame, refused-frame}
+use Rattle.frames.proofs.Outcomes.{shown-frame, refused-frame}
 use borrow.Author.Needs.{needs}
 use Rattle.frames.proofs.frame.Statement.{statement}
 use Rattle.frames.proofs.frame.Tie as tie
@@ -22,10 +21,7 @@ status-requires : tie.Need-status-requires
 status-requires c κs = search needs
 
 show-requires : tie.Need-show-requires
-show-requires c κs =
-    let a = c .before .before .before .before .before .before .before .before .before .before .args in
-    let t = taken m95512 (a .core) (length (a .memory .now)) (length (a .bytes .now)) (a .bits) (length (a .out .now)) (c .before .before .before .before .before .before .outcome .ensures) (c .before .before .before .before .enum-told .given .1) in
-    (t .whole, (t .short, (t .counted, (t .roomy, c .before .before .instruction-of .ensures))))
+show-requires c κs = search needs
 
 undriven-requires : tie.Need-undriven-requires
 undriven-requires c κs = search needs

@@ -1,0 +1,165 @@
+-- A frame's data latched in two runs: only the last page of it stays, one run of it up to the page's end and the other
+-- from the page's first cell.
+use mathlib.Core.Path.{_≡_, refl, ap, sym, _∙_}
+use mathlib.Core.List.{List, [], _∷_, _++_, append-assoc, append-nil}
+use Prim.Native.Nat.{ℕ, suc, _+_, _%_, _<_, _≤_}
+use native.Mathlib.Nat.{add-zero, mod-eq-of-lt, mod-add-mod, mod-mod, mod-self, zero-mod}
+use native.Mathlib.Decide.{decLt}
+use native.Mathlib.Numerals.{add-one}
+use native.Mathlib.Omega.{arith}
+use lib.ListN.{length, take, drop, set, replicate, length-set, length-drop, length-replicate, drop-of-length-le, take-append-drop, replicate-append-replicate}
+use lib.Seq.{sets, sets-eq, drop-drop, drop-at, take-all, length-take-le}
+use Rattle.laws.specs.Spliced.{spliced}
+use Rattle.codes.specs.Part.{Part}
+use Rattle.latch.specs.declared.Latch.{Latch}
+use Rattle.fields.specs.Bytes.{latchedFrom}
+
+-- ---- the bytes and the marks, each by itself
+
+-- values put into the p cells of a page one after another, from the cell of address a on and round within the page
+unfoldable dealt : ℕ → ℕ → List ℕ → List ℕ → List ℕ
+dealt p a [] c = c
+dealt p a (v ∷ vs) c = dealt p (suc a) vs (set c (a % p) v)
+
+latched-dealt : (P : Part) (a : ℕ) (vs : List ℕ) (l : Latch)
+    → latchedFrom P a vs l ≡ record { bytes = dealt (P .page) a vs (l .bytes); marks = dealt (P .page) a (replicate (length vs) 1) (l .marks) }
+unfolding latchedFrom dealt
+latched-dealt P a [] l = refl
+latched-dealt P a (v ∷ vs) l = latched-dealt P (suc a) vs (record { bytes = set (l .bytes) (a % P .page) v; marks = set (l .marks) (a % P .page) 1 })
+
+dealt-length : (p a : ℕ) (vs c : List ℕ) → length (dealt p a vs c) ≡ length c
+unfolding dealt
+dealt-length p a [] c = refl
+dealt-length p a (v ∷ vs) c = dealt-length p (suc a) vs (set c (a % p) v) ∙ length-set c (a % p) v
+
+dealt-append : (p a : ℕ) (us vs c : List ℕ) → dealt p a (us ++ vs) c ≡ dealt p (a + length us) vs (dealt p a us c)
+unfolding dealt
+dealt-append p a [] vs c = ap (λ (n : ℕ). dealt p n vs c) (sym (add-zero a))
+dealt-append p a (u ∷ us) vs c =
+    let next : suc a + length us ≡ a + suc (length us) = omega arith in
+    dealt-append p (suc a) us vs (set c (a % p) u) ∙ ap (λ (n : ℕ). dealt p n vs (dealt p (suc a) us (set c (a % p) u))) next
+
+-- the address matters only up to its cell
+dealt-cell : (p a b : ℕ) (vs c : List ℕ) → a % p ≡ b % p → dealt p a vs c ≡ dealt p b vs c
+unfolding dealt
+dealt-cell p a b [] c e = refl
+dealt-cell p a b (v ∷ vs) c e =
+    let next : suc a % p ≡ suc b % p =
+    rw (sym (add-one a), sym (add-one b)) (sym (mod-add-mod a p 1) ∙ ap (λ (n : ℕ). (n + 1) % p) e ∙ mod-add-mod b p 1) in
+    dealt-cell p (suc a) (suc b) vs (set c (a % p) v) next ∙ ap (λ (n : ℕ). dealt p (suc b) vs (set c n v)) e
+
+-- ---- one run, where the page does not end before the values do
+
+dealt-sets : (p s : ℕ) (vs c : List ℕ) → s + length vs ≤ p → dealt p s vs c ≡ sets c s vs
+unfolding dealt
+dealt-sets p s [] c h = refl
+dealt-sets p s (v ∷ vs) c h =
+    let low : s % p ≡ s = mod-eq-of-lt (omega arith) in
+    ap (λ (n : ℕ). dealt p (suc s) vs (set c n v)) low ∙ dealt-sets p (suc s) vs (set c s v) (omega arith)
+
+dealt-run : (p s : ℕ) (vs c : List ℕ) → length c ≡ p → s + length vs ≤ p → dealt p s vs c ≡ spliced c vs s (length vs)
+dealt-run p s vs c e h =
+    dealt-sets p s vs c h
+    ∙ sets-eq vs c s (omega arith)
+    ∙ append-assoc (take s c) vs (drop (s + length vs) c)
+    ∙ ap (λ (l : List ℕ). take s c ++ (vs ++ l)) (sym (drop-drop (length vs) s c))
+
+-- ---- two runs
+
+-- the first ends at the page's end where there is a second
+module _ (p a : ℕ) (low high : List ℕ) (fits : a % p + length low ≤ p) (turn : 0 < length high → a % p + length low ≡ p)
+    (short : length low + length high ≤ p) where
+  abbrev runs : List ℕ → List ℕ
+  runs c = spliced (spliced c low (a % p) (length low)) high 0 (length high)
+
+  first-run : (c : List ℕ) → length c ≡ p → dealt p a low c ≡ spliced c low (a % p) (length low)
+  first-run c e = dealt-cell p a (a % p) low c (sym (mod-mod a p)) ∙ dealt-run p (a % p) low c e fits
+
+  second-run : (hs c : List ℕ) → length c ≡ p → length hs ≤ p → (0 < length hs → a % p + length low ≡ p)
+      → dealt p (a + length low) hs c ≡ spliced c hs 0 (length hs)
+  unfolding dealt
+  second-run [] c e h t = refl
+  second-run (v ∷ hs) c e h t =
+      let end : (a + length low) % p ≡ 0 % p =
+      sym (mod-add-mod a p (length low)) ∙ ap (λ (n : ℕ). n % p) (t (omega arith)) ∙ mod-self p ∙ sym (zero-mod p) in
+      dealt-cell p (a + length low) 0 (v ∷ hs) c end ∙ dealt-run p 0 (v ∷ hs) c e (omega arith)
+
+  both-runs : (c : List ℕ) → length c ≡ p → dealt p a (low ++ high) c ≡ runs c
+  both-runs c e =
+      dealt-append p a low high c
+      ∙ second-run high (dealt p a low c) (dealt-length p a low c ∙ e) (omega arith) turn
+      ∙ ap (λ (l : List ℕ). spliced l high 0 (length high)) (first-run c e)
+
+  -- a whole page of values leaves nothing of what was there
+  whole-page : (c : List ℕ) → length c ≡ p → length low + length high ≡ p → runs c ≡ high ++ low
+  whole-page c e all =
+      let end : a % p + length low ≡ p = elim (decLt 0 (length high)) [ yes h ↦ turn h | no h ↦ omega arith ] in
+      let none : length (drop (a % p) c) ≤ length low = simp length-drop (omega arith) in
+      let front : length (take (a % p) c) ≡ length high = length-take-le (a % p) c (omega arith) ∙ omega arith in
+      ap (λ (l : List ℕ). high ++ drop (length high) (take (a % p) c ++ (low ++ l))) (drop-of-length-le (drop (a % p) c) none)
+      ∙ ap (λ (l : List ℕ). high ++ l) (drop-at (take (a % p) c) (low ++ []) (length high) front)
+      ∙ ap (λ (l : List ℕ). high ++ l) (append-nil low)
+
+-- values before a whole page of them do not matter
+module _ (p a : ℕ) (low high : List ℕ) where
+  dealt-runs : (pre c : List ℕ) → length c ≡ p → (a + length pre) % p + length low ≤ p
+      → (0 < length high → (a + length pre) % p + length low ≡ p)
+      → length low + length high ≤ p
+      → (0 < length pre → length low + length high ≡ p)
+      → dealt p a (pre ++ (low ++ high)) c ≡ spliced (spliced c low ((a + length pre) % p) (length low)) high 0 (length high)
+  unfolding dealt
+  dealt-runs [] c e fits turn short full =
+      ap (λ (n : ℕ). dealt p n (low ++ high) c) (sym (add-zero a)) ∙ both-runs p (a + 0) low high fits turn short c e
+  dealt-runs (v ∷ pre) c e fits turn short full =
+      let b = a + suc (length pre) in
+      let begun = dealt p a (v ∷ pre) c in
+      let long : length begun ≡ p = dealt-length p a (v ∷ pre) c ∙ e in
+      let all : length low + length high ≡ p = full (omega arith) in
+      dealt-append p a (v ∷ pre) (low ++ high) c
+      ∙ both-runs p b low high fits turn short begun long
+      ∙ whole-page p b low high fits turn short begun long all
+      ∙ sym (whole-page p b low high fits turn short c e all)
+
+-- ---- a frame's data
+
+-- the same, by the three lengths
+dealt-parts : (p a : ℕ) (pre low high c : List ℕ) (i f h : ℕ) → length pre ≡ i → length low ≡ f → length high ≡ h → length c ≡ p
+    → (a + i) % p + f ≤ p → (0 < h → (a + i) % p + f ≡ p) → f + h ≤ p → (0 < i → f + h ≡ p)
+    → dealt p a (pre ++ (low ++ high)) c ≡ spliced (spliced c low ((a + i) % p) f) high 0 h
+dealt-parts p a pre low high c i f h e₁ e₂ e₃ e fits turn short full =
+    dealt-runs p a low high pre c e (rw (e₁, e₂) fits) (rw (e₁, e₂, e₃) turn) (rw (e₂, e₃) short) (rw (e₁, e₂, e₃) full)
+    ∙ rw (e₁, e₂, e₃) refl
+
+three-parts : (l : List ℕ) (i f h : ℕ) → i + (f + h) ≡ length l → take i l ++ (take f (drop i l) ++ take h (drop (i + f) l)) ≡ l
+three-parts l i f h e =
+    let last : length (drop (i + f) l) ≤ h = simp length-drop (omega arith) in
+    ap (λ (k : List ℕ). take i l ++ (take f (drop i l) ++ k)) (take-all h (drop (i + f) l) last ∙ sym (drop-drop f i l))
+    ∙ ap (λ (k : List ℕ). take i l ++ k) (take-append-drop f (drop i l))
+    ∙ take-append-drop i l
+
+-- i values that do not stay, f up to the page's end and h from its first cell
+module _ (P : Part) (a : ℕ) (vs : List ℕ) (l : Latch) (i f h : ℕ) (bytes : length (l .bytes) ≡ P .page)
+    (marks : length (l .marks) ≡ P .page) (all : i + (f + h) ≡ length vs) (fits : (a + i) % P .page + f ≤ P .page)
+    (turn : 0 < h → (a + i) % P .page + f ≡ P .page) (short : f + h ≤ P .page) (full : 0 < i → f + h ≡ P .page) where
+  abbrev laidRuns : List ℕ → List ℕ → List ℕ → List ℕ
+  laidRuns c low high = spliced (spliced c low ((a + i) % P .page) f) high 0 h
+
+  run-bytes : dealt (P .page) a vs (l .bytes) ≡ laidRuns (l .bytes) (take f (drop i vs)) (take h (drop (i + f) vs))
+  run-bytes =
+      let first : length (take f (drop i vs)) ≡ f = length-take-le f (drop i vs) (simp length-drop (omega arith)) in
+      let second : length (take h (drop (i + f) vs)) ≡ h = length-take-le h (drop (i + f) vs) (simp length-drop (omega arith)) in
+      ap (λ (xs : List ℕ). dealt (P .page) a xs (l .bytes)) (sym (three-parts vs i f h all))
+      ∙ dealt-parts (P .page) a (take i vs) (take f (drop i vs)) (take h (drop (i + f) vs)) (l .bytes) i f h
+      (length-take-le i vs (omega arith)) first second bytes fits turn short full
+
+  run-marks : dealt (P .page) a (replicate (length vs) 1) (l .marks) ≡ laidRuns (l .marks) (replicate f 1) (replicate h 1)
+  run-marks =
+      ap (λ (n : ℕ). dealt (P .page) a (replicate n 1) (l .marks)) (sym all)
+      ∙ ap (λ (xs : List ℕ). dealt (P .page) a xs (l .marks)) (sym (replicate-append-replicate i (f + h) 1))
+      ∙ ap (λ (xs : List ℕ). dealt (P .page) a (replicate i 1 ++ xs) (l .marks)) (sym (replicate-append-replicate f h 1))
+      ∙ dealt-parts (P .page) a (replicate i 1) (replicate f 1) (replicate h 1) (l .marks) i f h
+      (length-replicate i 1) (length-replicate f 1) (length-replicate h 1) marks fits turn short full
+
+  pub latched-runs : latchedFrom P a vs l
+      ≡ record { bytes = laidRuns (l .bytes) (take f (drop i vs)) (take h (drop (i + f) vs)); marks = laidRuns (l .marks) (replicate f 1) (replicate h 1) }
+  latched-runs = latched-dealt P a vs l ∙ rw (run-bytes, run-marks) refl

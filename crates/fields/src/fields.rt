@@ -1,0 +1,89 @@
+// The bytes of a frame: the code, the address, the data. A byte that the frame lacks reads 0.
+ghost use mathlib.Core.Path.{_≡_};
+ghost use Prim.Native.Nat.{_+_, _*_, _%_, _≤_};
+ghost use lib.ListN.{length, getD, replicate};
+ghost use Rattle.laws.specs.Spliced.{spliced};
+ghost use Rattle.codes.specs.Part.{m95512};
+ghost use Rattle.latch.specs.Latches.{noLatch};
+ghost use Rattle.fields.specs.Bytes.{instruction, address, latchedFrom, written};
+use crate::runs::at_most;
+use crate::runs::fill;
+use codes::HEAD;
+use codes::Instruction;
+use codes::PAGE;
+use latch::Latch;
+use latch::ROOM;
+use latch::cell_of;
+
+pub fn byte_at(bytes: &[u8], i: usize) -> u8
+    ensures { λ r. ⌜ r ≡ getD (now (bytes .entry)) i 0 ⌝ }
+{
+    if i < bytes.len() {
+        return bytes[i];
+    }
+    0
+}
+
+pub fn instruction_of(bytes: &[u8]) -> Instruction
+    ensures { λ r. ⌜ r ≡ instruction m95512 (now (bytes .entry)) ⌝ }
+{
+    codes::decode(byte_at(bytes, 0))
+}
+
+fn joined(high: u8, low: u8) -> usize
+    ensures { λ r. ⌜ r ≡ high * 256 + low ⌝ }
+{
+    high as usize * 256 + low as usize
+}
+
+// The address, high byte first.
+pub fn address_of(bytes: &[u8]) -> usize
+    ensures { λ r. ⌜ r ≡ address m95512 (now (bytes .entry)) ⌝ }
+{
+    joined(byte_at(bytes, 1), byte_at(bytes, 2))
+}
+
+// A run of bytes latched: into the cells from `start` on, with a mark on each.
+fn latch_run(cells: &mut [u8], marks: &mut [u8], start: usize, run: &[u8])
+    requires { ⌜ start + length (now run) ≤ length (now cells) ⌝ }
+    requires { ⌜ start + length (now run) ≤ length (now marks) ⌝ }
+    ensures { λ _. ⌜ now (cells .exit)
+        ≡ spliced (now (cells .entry)) (now (run .entry)) start (length (now (run .entry))) ⌝ }
+    ensures { λ _. ⌜ now (marks .exit)
+        ≡ spliced (now (marks .entry)) (replicate (length (now (run .entry))) 1) start (length (now (run .entry))) ⌝ }
+{
+    let end = start + run.len();
+    bytes::copy(run, &mut cells[start..end]);
+    fill(&mut marks[start..end], 1);
+}
+
+// Bytes latched from an address up and round within its page. Only the last page of them stays, in at most two runs: up
+// to the page's end, and from its first cell.
+fn latch_all(address: usize, values: &[u8]) -> Latch
+    ensures { λ r. ⌜ r ≡ latchedFrom m95512 (address % m95512 .page) (now (values .entry)) (noLatch m95512) ⌝ }
+{
+    let mut cells = [0u8; ROOM];
+    let mut marks = [0u8; ROOM];
+    let n = values.len();
+    let kept = at_most(PAGE, n);
+    let skip = n - kept;
+    let start = cell_of(cell_of(address) + skip);
+    let turn = skip + at_most(PAGE - start, kept);
+    latch_run(&mut cells, &mut marks, start, &values[skip..turn]);
+    latch_run(&mut cells, &mut marks, 0, &values[turn..n]);
+    Latch {
+        bytes: cells,
+        marks: marks,
+    }
+}
+
+// The page write of a WRITE frame: each data byte into its cell, from the start address up and round within the page.
+pub fn latch_of(bytes: &[u8]) -> Latch
+    ensures { λ r. ⌜ r ≡ written m95512 (now (bytes .entry)) ⌝ }
+{
+    let n = bytes.len();
+    if n < HEAD {
+        return Latch::none();
+    }
+    latch_all(address_of(bytes), &bytes[HEAD..n])
+}

@@ -1,0 +1,14 @@
+// The bytes of a frame: the code, the address, the data, and the page write that a WRITE's data is latched in.
+//
+// Every public function is an inner call of the models: total, and exactly its definition.
+mod counts;
+mod fields;
+mod runs;
+
+pub use counts::bits_fit;
+pub use fields::address_of;
+pub use fields::byte_at;
+pub use fields::instruction_of;
+pub use fields::latch_of;
+pub use runs::at_most;
+pub use runs::fill;

@@ -1,0 +1,65 @@
+-- The bytes, and then the last one padded: fewer than eight bits are unused, since the count fits.
+use lib.ListN.{length}
+use Rattle.codes.specs.Part.{m95512}
+use Rattle.fields.specs.Bytes.{instruction, address}
+use Rattle.shown.specs.Shown.{byteOut, output}
+use Rattle.shown.proofs.Padding.{few-unused, padded-last}
+use native.Mathlib.Omega.{arith}
+use borrow.Author.Needs.{needs}
+use Rattle.shown.proofs.output.show_taken.Statement.{statement}
+use Rattle.shown.proofs.output.show_taken.Tie as tie
+
+instruction-of-requires : tie.Need-instruction-of-requires
+instruction-of-requires c κs = search needs
+
+address-of-requires : tie.Need-address-of-requires
+address-of-requires c κs = search needs
+
+show-bytes-requires : tie.Need-show-bytes-requires
+show-bytes-requires c κs = search needs
+
+mul-pad : tie.Need-mul-pad
+mul-pad c = search needs
+
+sub-pad : tie.Need-sub-pad
+sub-pad c =
+    let start = c .before .before .before .before .before .before .before .before .before .before in
+    let unused = few-unused (length (start .args .bytes .now)) (start .args .bits) (start .pre .1 .1 .0) in
+    unused .0
+
+cast-pad : tie.Need-cast-pad
+cast-pad c =
+    let start = c .before .before .before .before .before .before .before .before .before .before in
+    let unused = few-unused (length (start .args .bytes .now)) (start .args .bits) (start .pre .1 .1 .0) in
+    omega arith
+
+pad-requires : tie.Need-pad-requires
+pad-requires c κs =
+    let start = c .before .before .before .before .before .before .before .before .before .before in
+    let unused = few-unused (length (start .args .bytes .now)) (start .args .bits) (start .pre .1 .1 .0) in
+    unused .1
+
+same-length : tie.Need-same-length
+same-length c = search needs
+
+returns : tie.Need-returns
+unfolding output
+returns c =
+    let start = c .before .before .before .before .before .before .before .before .before .before .before .before .before in
+    let a = start .args in
+    rw (c .before .before .pad .ensures, c .before .before .before .before .before .before .show-bytes .ensures, start .pre .1 .1 .1, c .before .before .before .before .before .before .before .before .before .instruction-of .ensures, c .before .before .before .before .before .before .before .before .address-of .ensures)
+    (padded-last (byteOut m95512 (instruction m95512 (a .bytes .now)) (a .ran) (λ j. a .status) (a .memory .now) (address m95512 (a .bytes .now))) (length (a .bytes .now)) (a .bits))
+
+pub show-taken-spec : {M : Type 1} → statement M
+show-taken-spec =
+    tie.close
+    (tie.spec
+    instruction-of-requires
+    address-of-requires
+    show-bytes-requires
+    mul-pad
+    sub-pad
+    cast-pad
+    pad-requires
+    same-length
+    returns)

@@ -1,0 +1,33 @@
+// How many leading bits of a frame are undriven.
+ghost use mathlib.Core.Path.{_≡_};
+ghost use Prim.Native.Nat.{_+_, _*_, min};
+ghost use Rattle.laws.specs.Pick.{pick};
+ghost use Rattle.codes.specs.Part.{m95512};
+ghost use Rattle.shown.specs.Shown.{undriven};
+use codes::HEAD_BITS;
+use codes::Instruction;
+use fields::at_most;
+
+// How many leading bits of the count are undriven.
+pub fn undriven(i: Instruction, ran: bool, bits: usize) -> usize
+    ensures { λ r. ⌜ r ≡ undriven m95512 i ran bits ⌝ }
+{
+    match i {
+        Instruction::Wren => bits,
+        Instruction::Wrdi => bits,
+        Instruction::Rdsr => at_most(8, bits),
+        Instruction::Wrsr => bits,
+        Instruction::Read => read_undriven(ran, bits),
+        Instruction::Write => bits,
+        Instruction::Silence => bits,
+    }
+}
+
+fn read_undriven(ran: bool, bits: usize) -> usize
+    ensures { λ r. ⌜ r ≡ pick ran bits (min (8 * (m95512 .addressBytes + 1)) bits) ⌝ }
+{
+    if ran {
+        return bits;
+    }
+    at_most(HEAD_BITS, bits)
+}

@@ -1,0 +1,153 @@
+// The output bytes of a frame.
+ghost use mathlib.Core.Path.{_≡_};
+ghost use Prim.Native.Nat.{_+_, _*_, _-_, _%_, _<_, _≤_};
+ghost use lib.Dec.{eqb, leb};
+ghost use mathlib.Core.Bool.{true};
+ghost use lib.ListN.{length, getD};
+ghost use Rattle.laws.specs.Pick.{pick};
+ghost use Rattle.laws.specs.Table.{table};
+ghost use Rattle.codes.specs.Part.{m95512};
+ghost use Rattle.codes.specs.Output.{outputs};
+ghost use Rattle.codes.specs.declared.Instruction.the-variants.{Read};
+ghost use Rattle.fields.specs.Counts.{bitsFit, longestFrame};
+ghost use Rattle.shown.specs.Shown.{byteOut, padded, output};
+ghost use Rattle.shown.specs.Lengths.{lengthsFit, shownIn};
+use codes::HEAD;
+use codes::Instruction;
+use codes::LONGEST_FRAME;
+use codes::SIZE;
+use fields::address_of;
+use fields::bits_fit;
+use fields::fill;
+use fields::instruction_of;
+
+// The cells from an address up, rolling from the last one to the first: at most two runs of them.
+fn show_cells(memory: &[u8], from: usize, out: &mut [u8])
+    requires { ⌜ length (now memory) ≡ m95512 .size ⌝ }
+    requires { ⌜ from < m95512 .size ⌝ }
+    requires { ⌜ length (now out) ≤ m95512 .size + 1 ⌝ }
+    ensures { λ _. ⌜ now (out .exit)
+        ≡ table (length (now (out .entry))) (λ d. getD (now (memory .entry)) ((from + d) % m95512 .size) 0) ⌝ }
+{
+    let n = out.len();
+    let run = SIZE - from;
+    if n <= run {
+        let end = from + n;
+        bytes::copy(&memory[from..end], out);
+    } else {
+        let rest = n - run;
+        bytes::copy(&memory[from..SIZE], &mut out[0..run]);
+        bytes::copy(&memory[0..rest], &mut out[run..n]);
+    }
+}
+
+// RDSR: the status over every byte but the first.
+fn show_status(status: u8, out: &mut [u8])
+    ensures { λ _. ⌜ now (out .exit) ≡ table (length (now (out .entry))) (λ j. pick (leb 1 j) status 255) ⌝ }
+{
+    fill(out, status);
+    if 0 < out.len() {
+        out[0] = 255;
+    }
+}
+
+// READ: the cells after the address, or nothing where a cycle ran.
+fn show_read(ran: bool, memory: &[u8], from: usize, out: &mut [u8])
+    requires { ⌜ length (now memory) ≡ m95512 .size ⌝ }
+    requires { ⌜ from < m95512 .size ⌝ }
+    requires { ⌜ length (now out) ≤ longestFrame m95512 ⌝ }
+    ensures { λ _. ⌜ now (out .exit)
+        ≡ table (length (now (out .entry))) (λ j. pick (outputs m95512 Read j ran)
+        (getD (now (memory .entry)) ((from + (j - (m95512 .addressBytes + 1))) % m95512 .size) 0) 255) ⌝ }
+{
+    let n = out.len();
+    if ran {
+        fill(out, 255);
+        return;
+    }
+    if n < HEAD {
+        fill(out, 255);
+        return;
+    }
+    fill(&mut out[0..HEAD], 255);
+    show_cells(memory, from, &mut out[HEAD..n]);
+}
+
+// What stands on Q over each byte, undriven bits as 1.
+fn show_bytes(i: Instruction, ran: bool, status: u8, memory: &[u8], from: usize, out: &mut [u8])
+    requires { ⌜ length (now memory) ≡ m95512 .size ⌝ }
+    requires { ⌜ from < m95512 .size ⌝ }
+    requires { ⌜ length (now out) ≤ longestFrame m95512 ⌝ }
+    ensures { λ _. ⌜ now (out .exit)
+        ≡ table (length (now (out .entry))) (byteOut m95512 i ran (λ j. status) (now (memory .entry)) from) ⌝ }
+{
+    match i {
+        Instruction::Wren => fill(out, 255),
+        Instruction::Wrdi => fill(out, 255),
+        Instruction::Rdsr => show_status(status, out),
+        Instruction::Wrsr => fill(out, 255),
+        Instruction::Read => show_read(ran, memory, from, out),
+        Instruction::Write => fill(out, 255),
+        Instruction::Silence => fill(out, 255),
+    }
+}
+
+// A byte with its low bits at 1, as many as are unused.
+fn pad_byte(byte: u8, unused: u8) -> u8
+    requires { ⌜ unused < 8 ⌝ }
+    ensures { λ r. ⌜ r ≡ padded unused byte ⌝ }
+{
+    byte | ((1u8 << unused) - 1)
+}
+
+// Bits past the bit count are in the last byte.
+fn pad(out: &mut [u8], unused: u8)
+    requires { ⌜ unused < 8 ⌝ }
+    ensures { λ _. ⌜ now (out .exit)
+        ≡ table (length (now (out .entry))) (λ j. pick (eqb (j + 1) (length (now (out .entry))))
+        (padded unused (getD (now (out .entry)) j 0)) (getD (now (out .entry)) j 0)) ⌝ }
+{
+    let n = out.len();
+    if n == 0 {
+        return;
+    }
+    let last = n - 1;
+    out[last] = pad_byte(out[last], unused);
+}
+
+// The whole output of a frame whose lengths go together.
+fn show_taken(ran: bool, status: u8, memory: &[u8], bytes: &[u8], bits: usize, out: &mut [u8])
+    requires { ⌜ length (now memory) ≡ m95512 .size ⌝ }
+    requires { ⌜ length (now bytes) ≤ longestFrame m95512 ⌝ }
+    requires { ⌜ bitsFit (length (now bytes)) bits ≡ true ⌝ }
+    requires { ⌜ length (now out) ≡ length (now bytes) ⌝ }
+    ensures { λ _. ⌜ now (out .exit)
+        ≡ output m95512 ran (λ j. status) (now (memory .entry)) (now (bytes .entry)) bits ⌝ }
+{
+    show_bytes(
+        instruction_of(bytes),
+        ran,
+        status,
+        memory,
+        address_of(bytes),
+        out,
+    );
+    pad(out, (8 * bytes.len() - bits) as u8);
+}
+
+// Whether the lengths go together: of the memory, of a frame's bytes and bits, of the output.
+fn lengths_fit(size: usize, len: usize, bits: usize, room: usize) -> bool
+    ensures { λ r. ⌜ r ≡ lengthsFit m95512 size len bits room ⌝ }
+{
+    (size == SIZE) & (len <= LONGEST_FRAME) & bits_fit(len, bits) & (room == len)
+}
+
+// The output of a frame where the lengths go together, else the output as it was.
+pub fn show(ran: bool, status: u8, memory: &[u8], bytes: &[u8], bits: usize, out: &mut [u8])
+    ensures { λ _. ⌜ now (out .exit)
+        ≡ shownIn m95512 ran status (now (memory .entry)) (now (bytes .entry)) bits (now (out .entry)) ⌝ }
+{
+    if lengths_fit(memory.len(), bytes.len(), bits, out.len()) {
+        show_taken(ran, status, memory, bytes, bits, out);
+    }
+}
