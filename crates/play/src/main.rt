@@ -7,7 +7,7 @@ ghost use Prim.Native.Nat.{_≤_};
 ghost use lib.ListN.{length};
 use libc::STDIN_FILENO;
 use libc::STDOUT_FILENO;
-use trace::Player;
+use player::Player;
 
 struct Turned {
     player: Player,
@@ -74,7 +74,7 @@ fn chunk() -> [u8; 6551]
 
 // The text chunk by chunk. The turns count down from a number that no run uses up.
 fn turns(fd: i32, name: &[u8], memory: &mut [u8], text: &mut [u8], out: &mut [u8]) {
-    let mut player = trace::start();
+    let mut player = player::start();
     let mut left = u64::MAX;
     while left > 0 {
         let turned = turn(fd, name, player, memory, text, out);
@@ -87,7 +87,7 @@ fn turns(fd: i32, name: &[u8], memory: &mut [u8], text: &mut [u8], out: &mut [u8
 }
 
 fn play(fd: i32, name: &[u8]) {
-    let mut memory = trace::memory();
+    let mut memory = player::memory();
     let mut text = chunk();
     let mut out = io::large_buffer();
     turns(fd, name, &mut memory, &mut text, &mut out);

@@ -16,9 +16,10 @@ use Rattle.printing.specs.Printing.{header, badLine}
 use Rattle.lines.specs.Reading.{lineFits}
 use Rattle.printing.specs.Put.{put}
 use Rattle.printing.proofs.Puts.{put-put}
-use Rattle.trace.specs.declared.Player.{Player}
+use Rattle.player.specs.declared.Player.{Player}
+use Rattle.player.specs.Players.{headFits, playerFits}
 use Rattle.trace.specs.declared.FeedReply.the-variants.{Played, BadLine}
-use Rattle.trace.specs.Chunks.{headedBy, badLineBetween, feedReplyNumber, answerOf, playerNumber, headFits, playerFits, endChoice, feedChoice}
+use Rattle.trace.specs.Chunks.{headedBy, badLineBetween, feedReplyNumber, answerOf, playerNumber, endChoice, feedChoice}
 
 pub head-first : (flag : ℕ) → flag ≡ 0 → header ≡ headedBy flag
 head-first flag e = eq-so _ e refl

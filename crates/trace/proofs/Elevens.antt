@@ -19,9 +19,10 @@ use Rattle.lines.specs.declared.Line.{Line}
 use Rattle.lines.specs.Reading.{lineAt, fresh, stopped, isStopped, next, read, found, ended, lineFits}
 use Rattle.lines.proofs.Hand.{read-fits, fresh-fits, past-fits}
 use Rattle.lines.proofs.Runs.{read-append, read-still}
-use Rattle.trace.specs.declared.Player.{Player}
-use Rattle.trace.specs.Texts.{startBench, textIsBad}
-use Rattle.trace.specs.Chunks.{startPlayer, benchOf, playedLines, chunkBench, chunkPlayer, endPlayer, playerNumber, playerFits, room, feedNumber, endNumber, SoFar, afterChunk, afterChunks, beforeText, joined, numbersGiven, has11}
+use Rattle.player.specs.declared.Player.{Player}
+use Rattle.player.specs.Players.{startBench, startPlayer, playerFits}
+use Rattle.trace.specs.Texts.{textIsBad}
+use Rattle.trace.specs.Chunks.{benchOf, playedLines, chunkBench, chunkPlayer, endPlayer, playerNumber, room, feedNumber, endNumber, SoFar, afterChunk, afterChunks, beforeText, joined, numbersGiven, has11}
 use Rattle.trace.proofs.Choosing.{feed-done, end-done}
 use Rattle.trace.proofs.Whole.{split, text-ended}
 use Rattle.trace.proofs.Cut.{start-fits, chunk-fits, chunk-sized}

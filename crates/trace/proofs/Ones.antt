@@ -1,24 +1,12 @@
 -- Each public call allows one result; and one memory and one output where it is lent them.
 use denote.Ref.{now}
 use Rattle.laws.specs.One.{OneResult, OneExit, same}
-use Rattle.trace.proofs.public.start.Kinds as start
-use Rattle.trace.proofs.public.start.Reads as start-reads
-use Rattle.trace.proofs.public.memory.Kinds as memory
-use Rattle.trace.proofs.public.memory.Reads as memory-reads
 use Rattle.trace.proofs.public.feed.Kinds as feed
 use Rattle.trace.proofs.public.feed.Reads as feed-reads
 use Rattle.trace.proofs.public.finish.Kinds as finish
 use Rattle.trace.proofs.public.finish.Reads as finish-reads
-use Rattle.trace.proofs.Player.in_ranges.Kinds as in-ranges
-use Rattle.trace.proofs.Player.in_ranges.Reads as in-ranges-reads
 use Rattle.trace.proofs.FeedReply.number.Kinds as feedreply-number
 use Rattle.trace.proofs.FeedReply.number.Reads as feedreply-number-reads
-
-pub start-one : OneResult start.ps start.r start-reads.Post
-start-one κs a z z′ e e′ p q = same p q
-
-pub memory-one : OneResult memory.ps memory.r memory-reads.Post
-memory-one κs a z z′ e e′ p q = same p q
 
 pub feed-one : OneResult feed.ps feed.r feed-reads.Post
 feed-one κs a z z′ e e′ p q = same (p .0) (q .0)
@@ -34,9 +22,6 @@ finish-one κs a z z′ e e′ p q = same (p .0) (q .0)
 
 pub finish-output : OneExit finish.ps finish.r finish-reads.Post (λ κs e. now (e .1 .0))
 finish-output κs a z z′ e e′ p q = same (p .1 .1 .0) (q .1 .1 .0)
-
-pub in-ranges-one : OneResult in-ranges.ps in-ranges.r in-ranges-reads.Post
-in-ranges-one κs a z z′ e e′ p q = same p q
 
 -- ---- inner calls
 

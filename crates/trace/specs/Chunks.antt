@@ -1,7 +1,7 @@
 -- A text a chunk at a time: the player after a chunk, the memory, what is put out; the refusals; and what the end of
 -- the text adds.
 use Prim.Native.Nat.{ℕ, _+_, _*_}
-use mathlib.Core.Bool.{Bool, false, _&&_, _||_}
+use mathlib.Core.Bool.{Bool, false, _||_}
 use mathlib.Core.List.{List, [], _∷_, _++_}
 use lib.ListN.{length}
 use lib.Dec.{eqb, leb}
@@ -10,26 +10,17 @@ use Rattle.codes.specs.Part.{m95512}
 use Rattle.codes.specs.Refusals.{refusalNumber}
 use Rattle.codes.specs.declared.Refusal.{Refusal}
 use Rattle.codes.specs.declared.Refusal.the-variants.{MemoryLength, RecordRange, OutputLength}
-use Rattle.pins.specs.declared.Device.{Device}
-use Rattle.pins.specs.Ranges.{deviceFits}
 use Rattle.pins.specs.Answers.{PinBench, played, pinBench}
 use Rattle.lists.specs.Answers.{playedQ}
 use Rattle.lines.specs.declared.Line.{Line}
-use Rattle.lines.specs.Reading.{fresh, isStopped, read, found, ended, lineFits}
+use Rattle.lines.specs.Reading.{isStopped, read, found, ended}
 use Rattle.printing.specs.Printing.{header, badLine, printed}
 use Rattle.printing.specs.Put.{put}
-use Rattle.trace.specs.declared.Player.{Player}
+use Rattle.player.specs.declared.Player.{Player}
+use Rattle.player.specs.Players.{startBench, playerOf, startPlayer, playerFits}
 use Rattle.trace.specs.declared.FeedReply.{FeedReply}
 use Rattle.trace.specs.declared.FeedReply.the-variants.{Played, BadLine, Refused}
 use Rattle.trace.specs.declared.Fed.{Fed}
-use Rattle.trace.specs.Texts.{startBench}
-
-abbrev pub playerOf : ℕ → Line → PinBench → Player
-playerOf headed l b = record { headed = headed; line = l; device = b .device }
-
--- before the first byte
-abbrev pub startPlayer : Player
-startPlayer = playerOf 0 (fresh 0) startBench
 
 -- ---- what a chunk puts out
 
@@ -90,19 +81,11 @@ answerOf p = pick (isStopped (p .line)) BadLine Played
 abbrev pub playerNumber : Player → ℕ
 playerNumber p = pick (isStopped (p .line)) 11 0
 
--- no byte is taken before the header is out
-abbrev pub headFits : Player → Bool
-headFits p = leb (p .headed) 1 && (eqb (p .headed) 1 || eqb (p .line .whole) 0 && eqb (p .line .place) 0)
-
--- a player outside these ranges gets 2
-unfoldable pub playerFits : Player → Bool
-playerFits p = headFits p && lineFits (p .line) && deviceFits m95512 (p .device)
-
 -- the output that n bytes of text ask for: the header, the bad line, and a good line for each byte
 abbrev pub room : ℕ → ℕ
 room n = 19 + 10 * n
 
--- 2, and 5 for an output with fewer bytes than asked for
+-- 2 for a player outside its ranges, and 5 for an output with fewer bytes than asked for
 abbrev pub endChoice : {A : Type 0} → Player → ℕ → ℕ → A → A → A → A
 endChoice p asked bytes two five done = pick (playerFits p) (pick (leb asked bytes) done five) two
 

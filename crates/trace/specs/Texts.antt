@@ -6,13 +6,12 @@ use lib.ListN.{length}
 use lib.Dec.{eqb}
 use Rattle.laws.specs.Pick.{pick}
 use Rattle.codes.specs.Part.{m95512}
-use Rattle.chip.specs.Power.{delivered, deliveredMemory}
-use Rattle.pins.specs.Devices.{resting}
-use Rattle.pins.specs.Answers.{PinBench, played, pinBench}
+use Rattle.pins.specs.Answers.{PinBench, played}
 use Rattle.pins.specs.declared.Event.{Event}
 use Rattle.lists.specs.Events.{numberOf}
 use Rattle.lists.specs.Answers.{playedQ}
 use Rattle.printing.specs.Printing.{header, badLine, printed}
+use Rattle.player.specs.Players.{startBench}
 use Rattle.trace.specs.Lines.{Said, event, bad, isEmpty, lineSays}
 
 -- ---- lines: the first line of a text ends with its LF, or with the text
@@ -54,11 +53,6 @@ textNumbers text = map numberOf (textEvents text)
 
 abbrev pub textIsBad : List ℕ → Bool
 textIsBad text = hasBad 1000000 text
-
--- ---- the bench that they are played on: the device as delivered, cycle length 5,000 and reading 0, and every byte FFh
-
-abbrev pub startBench : PinBench
-startBench = pinBench (resting m95512 (delivered m95512)) (deliveredMemory m95512)
 
 -- the device and the memory after the last good line
 abbrev pub textBench : List ℕ → PinBench

@@ -11,15 +11,16 @@ ghost use Rattle.lists.specs.Answers.{playedQ};
 ghost use Rattle.pins.specs.Ranges.{deviceFits};
 ghost use Rattle.lines.specs.Reading.{read, lineFits};
 ghost use Rattle.printing.specs.Put.{put};
-ghost use Rattle.trace.specs.Chunks.{headedBy, badLineBetween, playedLines, shownEvents, shownLines, chunkBench, chunkOutput, endOutput, answerOf, headFits, playerFits, room, takenBy, endedBy, refusedTo};
+ghost use Rattle.player.specs.Players.{playerFits};
+ghost use Rattle.trace.specs.Chunks.{headedBy, badLineBetween, playedLines, shownEvents, shownLines, chunkBench, chunkOutput, endOutput, answerOf, room, takenBy, endedBy, refusedTo};
 use crate::Fed;
 use crate::FeedReply;
-use crate::Player;
 use crate::parsing::parse;
 use codes::Refusal;
 use lines::Line;
 use lists::play;
 use pins::Device;
+use player::Player;
 use printing::print;
 use printing::put_bad;
 use printing::put_header;
@@ -257,32 +258,13 @@ pub(crate) fn has_room(n: usize, bytes: usize) -> bool
     n <= (bytes - 19) / 10
 }
 
-impl Player {
-    // Whether the header is out wherever a byte was taken.
-    fn head_fits(self) -> bool
-        ensures { λ r. ⌜ r ≡ headFits self ⌝ }
-    {
-        let line = self.line;
-        (self.headed <= 1) & ((self.headed == 1) | ((line.whole == 0) & (line.place == 0)))
-    }
-
-    // All the ranges of a player.
-    pub fn in_ranges(self) -> bool
-        ensures { λ r. ⌜ r ≡ playerFits self ⌝ }
-    {
-        let line = self.line;
-        let device = self.device;
-        self.head_fits() & line.fits() & device.in_ranges()
-    }
-
-    pub(crate) fn refused(self, refusal: Refusal) -> Fed
-        ensures { λ r. ⌜ r ≡ refusedTo refusal self ⌝ }
-    {
-        Fed {
-            answer: FeedReply::Refused(refusal),
-            player: self,
-            written: 0,
-        }
+pub(crate) fn refused(player: Player, refusal: Refusal) -> Fed
+    ensures { λ r. ⌜ r ≡ refusedTo refusal player ⌝ }
+{
+    Fed {
+        answer: FeedReply::Refused(refusal),
+        player: player,
+        written: 0,
     }
 }
 

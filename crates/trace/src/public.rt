@@ -1,44 +1,17 @@
-// The public calls: what a text starts from, a chunk of it, and its end.
+// The public calls: a chunk of a text, and its end.
 ghost use mathlib.Core.Path.{_≡_};
 ghost use Prim.Native.Nat.{_≤_};
 ghost use lib.ListN.{length};
-ghost use Rattle.codes.specs.Part.{m95512};
-ghost use Rattle.chip.specs.Power.{deliveredMemory};
-ghost use Rattle.trace.specs.Chunks.{startPlayer, feedReplyNumber, feedAnswer, feedNumber, feedMemory, feedOutput, endAnswer, endNumber, endWritten};
+ghost use Rattle.trace.specs.Chunks.{feedReplyNumber, feedAnswer, feedNumber, feedMemory, feedOutput, endAnswer, endNumber, endWritten};
 use crate::Fed;
 use crate::FeedReply;
-use crate::Player;
 use crate::chunks::has_room;
+use crate::chunks::refused;
 use crate::chunks::take_chunk;
 use crate::chunks::take_end;
-use chip::Core;
 use codes::Refusal;
 use codes::SIZE;
-use lines::Line;
-use pins::Device;
-
-// Before the first byte of a text.
-pub fn start() -> Player
-    ensures { λ r. ⌜ r ≡ startPlayer ⌝ }
-{
-    Player {
-        headed: 0,
-        line: Line {
-            whole: 0,
-            place: 0,
-            kind: 0,
-            value: 0,
-        },
-        device: Device::resting(Core::delivered()),
-    }
-}
-
-// The memory as delivered: every byte FFh.
-pub fn memory() -> [u8; SIZE]
-    ensures { λ r. ⌜ r ≡ deliveredMemory m95512 ⌝ }
-{
-    [255; SIZE]
-}
+use player::Player;
 
 impl FeedReply {
     // Document 01's number: 0, 11 from the bad line on, 1, 2 and 5.
@@ -71,11 +44,11 @@ pub fn feed(player: Player, memory: &mut [u8], text: &[u8], out: &mut [u8]) -> F
             if has_room(text.len(), out.len()) {
                 return take_chunk(player, memory, text, out);
             }
-            return player.refused(Refusal::OutputLength);
+            return refused(player, Refusal::OutputLength);
         }
-        return player.refused(Refusal::RecordRange);
+        return refused(player, Refusal::RecordRange);
     }
-    player.refused(Refusal::MemoryLength)
+    refused(player, Refusal::MemoryLength)
 }
 
 // The end of a text: a line in hand has no LF, so it is bad. Refusals 2, and 5 for an output of fewer than 19 bytes,
@@ -90,7 +63,7 @@ pub fn finish(player: Player, out: &mut [u8]) -> Fed
         if has_room(0, out.len()) {
             return take_end(player, out);
         }
-        return player.refused(Refusal::OutputLength);
+        return refused(player, Refusal::OutputLength);
     }
-    player.refused(Refusal::RecordRange)
+    refused(player, Refusal::RecordRange)
 }

@@ -5,7 +5,7 @@ ghost use mathlib.Core.Path.{_≡_};
 ghost use Prim.Native.Nat.{_<_, _≤_};
 ghost use lib.ListN.{length};
 use libc::STDOUT_FILENO;
-use trace::Player;
+use player::Player;
 
 fn write(bytes: &[u8]) {
     io::write_all(STDOUT_FILENO, bytes);
@@ -56,7 +56,7 @@ fn chunk_end(i: usize, end: usize, size: usize) -> usize
 }
 
 fn in_chunks(text: &[u8], size: usize, memory: &mut [u8], out: &mut [u8]) -> Player {
-    let mut player = trace::start();
+    let mut player = player::start();
     let mut i: usize = 0;
     while i < text.len() {
         let e = chunk_end(i, text.len(), size);
@@ -69,7 +69,7 @@ fn in_chunks(text: &[u8], size: usize, memory: &mut [u8], out: &mut [u8]) -> Pla
 // A text in chunks of so many bytes, and its end.
 fn tell(what: &[u8], text: &[u8], size: usize) {
     title(what);
-    let mut memory = trace::memory();
+    let mut memory = player::memory();
     let mut out = io::large_buffer();
     let player = in_chunks(text, size, &mut memory, &mut out);
     ended(player, &mut out);
@@ -148,7 +148,7 @@ fn cut(size: usize) {
 fn long_line(memory: &mut [u8], out: &mut [u8]) {
     title(b"a line of a megabyte");
     let digits = [49u8; 4096];
-    let mut player = fed(trace::start(), memory, b"S\t0\nT\t", out);
+    let mut player = fed(player::start(), memory, b"S\t0\nT\t", out);
     let mut i: u32 = 0;
     while i < 256 {
         player = fed(player, memory, &digits, out);
@@ -194,7 +194,7 @@ fn sum_chunk(before: Summed, memory: &mut [u8], text: &[u8], out: &mut [u8]) -> 
 
 fn frames(text: &[u8], memory: &mut [u8], out: &mut [u8]) -> Summed {
     let mut so_far = Summed {
-        player: trace::start(),
+        player: player::start(),
         bytes: 0,
         sum: 0,
     };
@@ -247,14 +247,14 @@ fn refused(what: &[u8], player: Player, memory: &mut [u8], out: &mut [u8]) {
 }
 
 fn with_flag_2() -> Player {
-    let mut player = trace::start();
+    let mut player = player::start();
     player.headed = 2;
     player
 }
 
 fn refused_memory(out: &mut [u8]) {
     let mut memory = [0u8; 64];
-    refused(b"a memory of 64 bytes", trace::start(), &mut memory, out);
+    refused(b"a memory of 64 bytes", player::start(), &mut memory, out);
     refused(b"and a flag of 2", with_flag_2(), &mut memory, out);
 }
 
@@ -270,7 +270,7 @@ fn refused_player(memory: &mut [u8], out: &mut [u8]) {
 }
 
 fn refused_output(what: &[u8], memory: &mut [u8], out: &mut [u8]) {
-    refused(what, trace::start(), memory, out);
+    refused(what, player::start(), memory, out);
 }
 
 fn refused_outputs(memory: &mut [u8]) {
@@ -281,7 +281,7 @@ fn refused_outputs(memory: &mut [u8]) {
 }
 
 fn refused_end(what: &[u8], out: &mut [u8]) {
-    let f = trace::finish(trace::start(), out);
+    let f = trace::finish(player::start(), out);
     let answer = f.answer;
     say(what, answer.number() as u64);
 }
@@ -310,10 +310,10 @@ fn main() {
     cut(7);
     cut(64);
     cut(1000);
-    let mut memory = trace::memory();
+    let mut memory = player::memory();
     let mut out = io::large_buffer();
     long_line(&mut memory, &mut out);
-    let mut again = trace::memory();
+    let mut again = player::memory();
     million(&mut again, &mut out);
     refusals(&mut again, &mut out);
 }

@@ -1,7 +1,7 @@
 use mathlib.Core.Path.{refl}
 use borrow.Author.Needs.{needs}
-use Rattle.trace.proofs.public.start.Statement.{statement}
-use Rattle.trace.proofs.public.start.Tie as tie
+use Rattle.player.proofs.start.Statement.{statement}
+use Rattle.player.proofs.start.Tie as tie
 use Rattle.chip.proofs.Core.delivered.Reads as delivered-reads
 use Rattle.pins.proofs.Device.resting.Reads as resting-reads
 

@@ -1,6 +1,6 @@
 use mathlib.Core.Path.{refl}
-use Rattle.trace.proofs.public.memory.Statement.{statement}
-use Rattle.trace.proofs.public.memory.Tie as tie
+use Rattle.player.proofs.memory.Statement.{statement}
+use Rattle.player.proofs.memory.Tie as tie
 
 returns : tie.Need-returns
 returns c = refl

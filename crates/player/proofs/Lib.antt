@@ -1,0 +1,2 @@
+-- Each call allows one result.
+pub mod Ones
