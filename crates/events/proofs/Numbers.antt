@@ -15,7 +15,7 @@ use Rattle.codes.specs.Status.{bit, on}
 use Rattle.pins.specs.declared.Event.{Event}
 use Rattle.pins.specs.declared.Event.the-variants.{S, C, D, W, Hold, Time}
 use Rattle.pins.specs.Events.{eventOf}
-use Rattle.lists.specs.Events.{isEvent, areEvents, numberOf, hasNumber}
+use Rattle.events.specs.Events.{isEvent, areEvents, numberOf, hasNumber}
 
 pub none-are : true ≡ areEvents []
 unfolding areEvents

@@ -1,8 +1,12 @@
-// Which numbers stand for events.
+// Events as numbers: which numbers of a list stand for one, and for which.
+//
+// Every public function is an inner call of the models: total, and exactly its definition.
 ghost use mathlib.Core.Path.{_≡_};
 ghost use lib.Dec.{eqb};
 ghost use Rattle.laws.specs.Pick.{pick};
-ghost use Rattle.lists.specs.Events.{isEvent, areEvents};
+ghost use Rattle.pins.specs.Events.{eventOf};
+ghost use Rattle.events.specs.Events.{isEvent, areEvents};
+use pins::Event;
 
 // The most that may stand under a kind: a level, or a reading of 32 bits.
 fn most(kind: u32) -> u32
@@ -21,7 +25,7 @@ fn is_event(number: u64) -> bool
 }
 
 // Each number of a list: one pass, with no choice inside it, since lists are long.
-pub(crate) fn are_events(events: &[u64]) -> bool
+pub fn are_events(events: &[u64]) -> bool
     ensures { λ r. ⌜ r ≡ areEvents (now (events .entry)) ⌝ }
 {
     let mut good = true;
@@ -31,4 +35,21 @@ pub(crate) fn are_events(events: &[u64]) -> bool
         i += 1;
     }
     good
+}
+
+// The event that a number stands for: the low 32 bits are the reading, or the level in the lowest; the three above them
+// are the kind. A number that stands for none is not played.
+pub fn event_of(number: u64) -> Event
+    ensures { λ r. ⌜ r ≡ eventOf number ⌝ }
+{
+    let kind = number / 4294967296 % 8;
+    let level = number % 2 == 1;
+    match kind {
+        0 => Event::S(level),
+        1 => Event::C(level),
+        2 => Event::D(level),
+        3 => Event::W(level),
+        4 => Event::Hold(level),
+        _ => Event::Time((number % 4294967296) as u32),
+    }
 }

@@ -16,7 +16,7 @@ use Rattle.codes.specs.declared.Outcome.the-variants.{Done, Refused}
 use Rattle.pins.specs.declared.Device.{Device}
 use Rattle.pins.specs.Ranges.{deviceFits}
 use Rattle.pins.specs.Answers.{steppedTo, answer, answerMemory}
-use Rattle.lists.specs.Events.{areEvents}
+use Rattle.events.specs.Events.{areEvents}
 use Rattle.lists.specs.Answers.{playOutcome, playNumber}
 use Rattle.pins.proofs.Answering.{done-so, refused-so, kept-so, left-so}
 

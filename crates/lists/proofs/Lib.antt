@@ -1,5 +1,4 @@
--- A list of events: which numbers are, what an edge moves, the list from its front, and that two results are equal.
-pub mod Numbers
+-- A list of events: what an edge moves, the list from its front, and that two results are equal.
 pub mod Answering
 pub mod Playing
 pub mod InPlace

@@ -13,7 +13,7 @@ use Rattle.pins.specs.declared.Device.{Device}
 use Rattle.pins.specs.Devices.{q}
 use Rattle.pins.specs.declared.Stepped.{Stepped}
 use Rattle.pins.specs.Answers.{PinBench, pinBench, afterEvent, played, memoryChoice, answer, answerMemory}
-use Rattle.lists.specs.Events.{areEvents}
+use Rattle.events.specs.Events.{areEvents}
 
 -- Q after each event of a list
 unfoldable pub playedQ : Part → List ℕ → PinBench → List ℕ

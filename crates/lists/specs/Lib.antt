@@ -1,5 +1,3 @@
--- A list of events at once: which numbers are events, what it promises, and the ways in which most events move a few
--- numbers of the device.
-pub mod Events
+-- A list of events at once: what it promises, and the ways in which most events move a few numbers of the device.
 pub mod Ways
 pub mod Answers

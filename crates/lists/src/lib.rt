@@ -1,7 +1,6 @@
 // A list of events at once, with Q after each: the pin model for long traces.
 //
 // Public call, for every input: play.
-mod events;
 mod fronts;
 mod listed;
 mod ways;

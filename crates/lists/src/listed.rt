@@ -3,39 +3,21 @@ ghost use mathlib.Core.Path.{_≡_};
 ghost use lib.ListN.{length};
 ghost use Rattle.codes.specs.Part.{m95512};
 ghost use Rattle.codes.specs.Refusals.{number};
-ghost use Rattle.pins.specs.Events.{eventOf};
 ghost use Rattle.pins.specs.Answers.{played, pinBench};
 ghost use Rattle.lists.specs.Answers.{playAnswer, playMemory, playNumber, playOutput, playedQ};
 use crate::Way;
-use crate::events::are_events;
 use crate::fronts::front_of;
 use codes::Outcome;
 use codes::Refusal;
 use codes::SIZE;
 use edges::bit;
+use events::are_events;
+use events::event_of;
 use latch::Latch;
 use latch::ROOM;
 use latch::latch_byte;
 use pins::Device;
-use pins::Event;
 use pins::Stepped;
-
-// The event that a number stands for: the low 32 bits are the reading, or the level in the lowest; the three above them
-// are the kind. A number that stands for none is not played.
-fn event_of(number: u64) -> Event
-    ensures { λ r. ⌜ r ≡ eventOf number ⌝ }
-{
-    let kind = number / 4294967296 % 8;
-    let level = number % 2 == 1;
-    match kind {
-        0 => Event::S(level),
-        1 => Event::C(level),
-        2 => Event::D(level),
-        3 => Event::W(level),
-        4 => Event::Hold(level),
-        _ => Event::Time((number % 4294967296) as u32),
-    }
-}
 
 // The events one after another, and Q after each. The front is held apart, so that most events move numbers and copy
 // no record.

@@ -16,13 +16,13 @@ use Rattle.pins.specs.Ranges.{deviceFits}
 use Rattle.codes.proofs.Sound.{m95512-sound}
 use Rattle.pins_theorems.proofs.Fits.{Sized, played-fits, played-sized, powered-fits}
 use Rattle.lines.specs.declared.Line.{Line}
+use Rattle.player.specs.declared.Player.{Player}
 use Rattle.player.specs.Players.{startBench, playerOf, startPlayer, headFits, playerFits}
 use Rattle.trace.specs.Lines.{lineSays}
 use Rattle.printing.specs.Printing.{header, badLine, printed}
 use Rattle.lines.specs.Reading.{fresh, stopped, read, found, ended, lineFits}
 use Rattle.lines.proofs.Hand.{read-fits, fresh-fits, ended-fits}
 use Rattle.lines.proofs.Runs.{read-append, read-still, found-still}
-use Rattle.player.specs.declared.Player.{Player}
 use Rattle.trace.specs.Texts.{firstLine, goodLines, textEvents, textNumbers, textIsBad, textBench, textOutput}
 use Rattle.trace.specs.Chunks.{headed, badLineBetween, benchOf, playedLines, shownLines, chunkBench, chunkPlayer, chunkOutput, endPlayer, endOutput, SoFar, afterChunk, afterChunks, beforeText, joined}
 use Rattle.trace.proofs.Cases.{nothing}

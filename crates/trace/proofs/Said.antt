@@ -8,8 +8,8 @@ use Rattle.laws.specs.Pick.{pick-case, and-right, and-both}
 use Rattle.pins.specs.declared.Event.{Event}
 use Rattle.pins.specs.declared.Event.the-variants.{S, C, D, W, Hold, Time}
 use Rattle.pins.specs.Events.{eventOf}
-use Rattle.lists.specs.Events.{areEvents, numberOf, hasNumber}
-use Rattle.lists.proofs.Numbers.{none-are, one-is, both-are, event-is, number-means}
+use Rattle.events.specs.Events.{areEvents, numberOf, hasNumber}
+use Rattle.events.proofs.Numbers.{none-are, one-is, both-are, event-is, number-means}
 use Rattle.lines.specs.declared.Line.{Line}
 use Rattle.lines.specs.Reading.{eventNumber, isDigit, next, closes, said, found, lineFits}
 use Rattle.lines.proofs.Hand.{next-fits, next-small, value-out}

@@ -12,7 +12,7 @@ use Rattle.laws.specs.Pick.{pick, yes-so, no-so, and-right, and-no-left, and-no
 use Rattle.lines.specs.declared.Line.{Line}
 use Rattle.pins.specs.declared.Event.{Event}
 use Rattle.pins.specs.declared.Event.the-variants.{S, C, D, W, Hold, Time}
-use Rattle.lists.specs.Events.{numberOf}
+use Rattle.events.specs.Events.{numberOf}
 use Rattle.lines.specs.Reading.{kindOf, eventNumber, isDigit, lineAt, fresh, stopped, next, closes, read, found, ended}
 use Rattle.lines.proofs.Hand.{digit-low, one-more}
 use Rattle.lines.proofs.Runs.{read-still, found-still, said-none}

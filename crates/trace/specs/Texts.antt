@@ -8,7 +8,7 @@ use Rattle.laws.specs.Pick.{pick}
 use Rattle.codes.specs.Part.{m95512}
 use Rattle.pins.specs.Answers.{PinBench, played}
 use Rattle.pins.specs.declared.Event.{Event}
-use Rattle.lists.specs.Events.{numberOf}
+use Rattle.events.specs.Events.{numberOf}
 use Rattle.lists.specs.Answers.{playedQ}
 use Rattle.printing.specs.Printing.{header, badLine, printed}
 use Rattle.player.specs.Players.{startBench}

@@ -6,7 +6,7 @@ ghost use lib.ListN.{length};
 ghost use lib.Dec.{leb};
 ghost use Rattle.codes.specs.Part.{m95512};
 ghost use Rattle.pins.specs.Answers.{played, pinBench};
-ghost use Rattle.lists.specs.Events.{areEvents};
+ghost use Rattle.events.specs.Events.{areEvents};
 ghost use Rattle.lists.specs.Answers.{playedQ};
 ghost use Rattle.pins.specs.Ranges.{deviceFits};
 ghost use Rattle.lines.specs.Reading.{read, lineFits};

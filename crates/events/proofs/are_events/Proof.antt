@@ -6,11 +6,11 @@ use native.Mathlib.Numerals.{add-one}
 use native.Mathlib.Omega.{arith}
 use lib.ListN.{length, take}
 use lib.Seq.{take-all}
-use Rattle.lists.specs.Events.{areEvents}
-use Rattle.lists.proofs.Numbers.{none-are, more-are}
+use Rattle.events.specs.Events.{areEvents}
+use Rattle.events.proofs.Numbers.{none-are, more-are}
 use borrow.Author.Needs.{needs}
-use Rattle.lists.proofs.events.are_events.Statement.{statement}
-use Rattle.lists.proofs.events.are_events.Tie as tie
+use Rattle.events.proofs.are_events.Statement.{statement}
+use Rattle.events.proofs.are_events.Tie as tie
 
 abbrev Inv-loop : tie.InvT-loop
 Inv-loop events good₀ i₀ good i = (i ≤ length events) × (good ≡ areEvents (take i events))

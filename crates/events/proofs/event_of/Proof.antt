@@ -1,7 +1,7 @@
 use Rattle.laws.specs.Pick.{arms}
 use borrow.Author.Needs.{needs}
-use Rattle.lists.proofs.listed.event_of.Statement.{statement}
-use Rattle.lists.proofs.listed.event_of.Tie as tie
+use Rattle.events.proofs.event_of.Statement.{statement}
+use Rattle.events.proofs.event_of.Tie as tie
 
 cast-t7 : tie.Need-cast-t7
 cast-t7 c = search needs

@@ -3,10 +3,10 @@ use mathlib.Core.Bool.{_&&_}
 use Prim.Native.Nat.{ℕ, _/_, _%_, _^_}
 use native.Mathlib.Omega.{arith}
 use lib.Dec.{leb}
-use Rattle.lists.proofs.Numbers.{within-most}
+use Rattle.events.proofs.Numbers.{within-most}
 use borrow.Author.Needs.{needs}
-use Rattle.lists.proofs.events.is_event.Statement.{statement}
-use Rattle.lists.proofs.events.is_event.Tie as tie
+use Rattle.events.proofs.is_event.Statement.{statement}
+use Rattle.events.proofs.is_event.Tie as tie
 
 cast-kind : tie.Need-cast-kind
 cast-kind c = search needs

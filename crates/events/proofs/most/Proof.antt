@@ -1,7 +1,7 @@
 use mathlib.Core.Path.{refl}
 use Rattle.laws.specs.Pick.{eq-so, ne-so}
-use Rattle.lists.proofs.events.most.Statement.{statement}
-use Rattle.lists.proofs.events.most.Tie as tie
+use Rattle.events.proofs.most.Statement.{statement}
+use Rattle.events.proofs.most.Tie as tie
 
 returns : tie.Need-returns
 returns c = eq-so _ (c .if1 .taken) refl

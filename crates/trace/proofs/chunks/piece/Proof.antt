@@ -7,7 +7,7 @@ use lib.ListN.{length, take}
 use lib.Seq.{length-take-le}
 use Rattle.codes.specs.Part.{m95512}
 use Rattle.pins.specs.Answers.{PinBench, played, pinBench}
-use Rattle.lists.specs.Events.{areEvents}
+use Rattle.events.specs.Events.{areEvents}
 use Rattle.lists.specs.Answers.{playedQ}
 use Rattle.printing.specs.Printing.{printed}
 use Rattle.printing.specs.Put.{put}
