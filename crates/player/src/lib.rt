@@ -1,7 +1,7 @@
 // The player of a trace text: whether its header is out, the line in hand, and the device.
 //
-// Public calls, each for every input: start and memory, what a text starts from; in_ranges, of a player. The text itself
-// is taken by trace.
+// Public calls, each for every input: start and memory, what a text starts from; in_ranges, of a player. The text is
+// taken by trace.
 ghost use mathlib.Core.Path.{_≡_};
 ghost use Rattle.codes.specs.Part.{m95512};
 ghost use Rattle.chip.specs.Power.{deliveredMemory};
