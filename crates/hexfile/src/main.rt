@@ -11,10 +11,10 @@ use libc::STDERR_FILENO;
 use libc::STDOUT_FILENO;
 
 // The longest text that is read.
-const MOST: usize = 262144;
+const MOST: usize = 1048576;
 
 fn text_room() -> [u8; MOST]
-    ensures { λ r. ⌜ 262144 ≡ length r ⌝ }
+    ensures { λ r. ⌜ 1048576 ≡ length r ⌝ }
 {
     [0; MOST]
 }
@@ -68,7 +68,7 @@ fn help() {
     );
     io::write_all(
         STDOUT_FILENO,
-        b"It has at most 262,144 bytes. What is wrong is said on standard error, with the number of the bad line.\n",
+        b"It has at most 1,048,576 bytes. What is wrong is said on standard error, with the number of the bad line.\n",
     );
 }
 
@@ -81,8 +81,8 @@ fn is_dash(name: &[u8]) -> bool {
     name[0] == b'-'
 }
 
-// Nothing is left to read; else says why not.
-fn at_end(fd: i32, name: &[u8]) -> bool {
+// Nothing is left to read; else says why not: the file is too long, or cannot be read.
+fn at_end(fd: i32, name: &[u8], too_long: &[u8]) -> bool {
     let mut one = [0u8; 1];
     let got = libc::read(fd, &mut one);
     if got < 0 {
@@ -90,7 +90,7 @@ fn at_end(fd: i32, name: &[u8]) -> bool {
         return false;
     }
     if 0 < got {
-        complain(name, b": longer than it may be\n");
+        complain(name, too_long);
         return false;
     }
     true
@@ -98,14 +98,14 @@ fn at_end(fd: i32, name: &[u8]) -> bool {
 
 // Reads a whole file, and answers how many bytes it has; where it cannot, says why and answers more than there is room
 // for.
-fn read_file(name: &[u8], bytes: &mut [u8]) -> usize {
+fn read_file(name: &[u8], bytes: &mut [u8], too_long: &[u8]) -> usize {
     let fd = os::open_read(name);
     if fd < 0 {
         os::fail(name);
         return MOST + 1;
     }
     let n = io::read_full(fd, bytes);
-    let whole = at_end(fd, name);
+    let whole = at_end(fd, name, too_long);
     libc::close(fd);
     if whole {
         return n;
@@ -114,7 +114,7 @@ fn read_file(name: &[u8], bytes: &mut [u8]) -> usize {
 }
 
 fn read_image(name: &[u8], image: &mut [u8]) -> bool {
-    let n = read_file(name, image);
+    let n = read_file(name, image, b": too long: an image has 65,536 bytes\n");
     if MOST < n {
         return false;
     }
@@ -209,7 +209,11 @@ fn over(name: &[u8], memory: &mut [u8], text: &[u8], image: &[u8]) {
 
 fn read_in(name: &[u8], memory: &mut [u8], image: &[u8]) {
     let mut text = text_room();
-    let n = read_file(name, &mut text);
+    let n = read_file(
+        name,
+        &mut text,
+        b": too long: a text has at most 1,048,576 bytes\n",
+    );
     if n <= MOST {
         over(name, memory, &text[..n], image);
     }

@@ -11,6 +11,9 @@ text-room-requires c κs = search needs
 slice-aggregate-read-file : tie.Need-slice-aggregate-read-file
 slice-aggregate-read-file c = search needs
 
+slice-aggregate-read-file-2 : tie.Need-slice-aggregate-read-file-2
+slice-aggregate-read-file-2 c = search needs
+
 read-file-requires : tie.Need-read-file-requires
 read-file-requires c κs = search needs
 
@@ -38,6 +41,7 @@ read-in-spec =
     (tie.spec
     text-room-requires
     slice-aggregate-read-file
+    slice-aggregate-read-file-2
     read-file-requires
     array-share-prefix-text
     slice-aggregate-over
