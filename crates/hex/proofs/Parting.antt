@@ -52,15 +52,6 @@ module _ (P : Part) where
   unfolding parted
   parted-done t e = enough (length t) (suc (length t)) t (omega arith) (omega arith) ∙ by-one t ∙ at-no _ _ e
 
-  -- the length of the line tells whether there is one
-  pub line-there : (t : List ℕ) (n : ℕ) → n ≡ pick (saysRecord P t) (lineLength t) 0 → 0 < n → (saysRecord P t ≡ true) × (n ≡ lineLength t)
-  line-there t n e h =
-      by-test (saysRecord P t) (λ q. (q, e ∙ at-yes _ _ q)) (λ q. let z : n ≡ 0 = e ∙ at-no _ _ q in absurd (omega (arith, z)))
-
-  pub line-missing : (t : List ℕ) (n : ℕ) → n ≡ pick (saysRecord P t) (lineLength t) 0 → n ≤ 0 → saysRecord P t ≡ false
-  line-missing t n e h =
-      by-test (saysRecord P t) (λ q. let l : n ≡ lineLength t = e ∙ at-yes _ _ q in absurd (omega (arith, l))) (λ q. q)
-
   -- ---- where the records end
 
   rest-by : (n : ℕ) (t : List ℕ) → length (partedBy P n t .rest) ≤ length t

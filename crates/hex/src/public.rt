@@ -12,6 +12,7 @@ use crate::HexReply;
 use crate::Imported;
 use crate::TEXT_SIZE;
 use crate::reading::check;
+use crate::reading::digit_values;
 use crate::reading::is_end;
 use crate::storing::store;
 use crate::writing::put_image;
@@ -62,10 +63,11 @@ fn take_text(running: bool, memory: &mut [u8], text: &[u8]) -> HexReply
     if running {
         return HexReply::NotImported;
     }
-    let checked = check(text);
+    let values = digit_values();
+    let checked = check(text, &values);
     let at = checked.at;
     if is_end(&text[at..]) {
-        store(memory, text, at);
+        store(memory, text, at, &values);
         return HexReply::Done;
     }
     HexReply::NotImported
@@ -116,7 +118,8 @@ fn lines_on(rest: &[u8]) -> usize
 pub fn bad_line(text: &[u8]) -> usize
     ensures { λ r. ⌜ r ≡ firstBad m95512 (now (text .entry)) ⌝ }
 {
-    let checked = check(text);
+    let values = digit_values();
+    let checked = check(text, &values);
     let at = checked.at;
     if is_end(&text[at..]) {
         return 0;

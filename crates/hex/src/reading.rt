@@ -1,8 +1,10 @@
 // A text read: the record at its front, and all its records.
 ghost use mathlib.Core.Path.{_≡_};
+ghost use mathlib.Core.Bool.{true};
 ghost use Prim.Native.Nat.{_+_, _*_, _<_, _≤_};
 ghost use lib.ListN.{length, drop};
 ghost use Rattle.laws.specs.Pick.{pick};
+ghost use Rattle.laws.specs.Table.{table};
 ghost use Rattle.codes.specs.Part.{m95512};
 ghost use Rattle.hex.specs.Writing.{endLine};
 ghost use Rattle.hex.specs.Reading.{digit, lineByte, dataLength, addressAt, isFramed, isPlaced, sumsUp, saysRecord, lineLength, parted, sameBytes};
@@ -14,8 +16,7 @@ fn choose(test: bool, yes: u32, no: u32) -> u32
     if test { yes } else { no }
 }
 
-// The value of a digit, 256 for none. All values are made and one is chosen: on random digits a branch would be
-// mispredicted every third time.
+// The value of a digit, 256 for none. All values are made and one is chosen: no branch.
 fn digit(byte: u8) -> u32
     ensures { λ r. ⌜ (r ≡ digit byte) × (r ≤ 256) ⌝ }
 {
@@ -24,20 +25,41 @@ fn digit(byte: u8) -> u32
     choose(number <= 9, number, choose(letter <= 5, letter + 10, 256))
 }
 
+// The value of every byte as a digit. It is made once for a text, and lent as `values` to all that reads the text: a
+// look into it is one load.
+pub(crate) fn digit_values() -> [u32; 256]
+    ensures { λ r. ⌜ r ≡ table 256 digit ⌝ }
+{
+    let mut values = [0u32; 256];
+    let mut i: usize = 0;
+    while i < 256 {
+        values[i] = digit(i as u8);
+        i += 1;
+    }
+    values
+}
+
+fn value_of(byte: u8, values: &[u32; 256]) -> u32
+    requires { ⌜ now values ≡ table 256 digit ⌝ }
+    ensures { λ r. ⌜ (r ≡ digit byte) × (r ≤ 256) ⌝ }
+{
+    values[byte as usize]
+}
+
 // Byte i of the line at the front of a text.
-pub(crate) fn line_byte(text: &[u8], i: usize) -> u32
-    requires { ⌜ 2 * i + 2 < length (now text) ⌝ }
+pub(crate) fn line_byte(text: &[u8], i: usize, values: &[u32; 256]) -> u32
+    requires { ⌜ (2 * i + 2 < length (now text)) × (now values ≡ table 256 digit) ⌝ }
     ensures { λ r. ⌜ (r ≡ lineByte (now (text .entry)) i) × (r ≤ 4352) ⌝ }
 {
-    digit(text[2 * i + 1]) * 16 + digit(text[2 * i + 2])
+    value_of(text[2 * i + 1], values) * 16 + value_of(text[2 * i + 2], values)
 }
 
 // The address of the record at the front of a text.
-pub(crate) fn address_at(text: &[u8]) -> u32
-    requires { ⌜ 12 ≤ length (now text) ⌝ }
+pub(crate) fn address_at(text: &[u8], values: &[u32; 256]) -> u32
+    requires { ⌜ (12 ≤ length (now text)) × (now values ≡ table 256 digit) ⌝ }
     ensures { λ r. ⌜ (r ≡ addressAt (now (text .entry))) × (r ≤ 1200000) ⌝ }
 {
-    line_byte(text, 1) * 256 + line_byte(text, 2)
+    line_byte(text, 1, values) * 256 + line_byte(text, 2, values)
 }
 
 fn is_framed(text: &[u8], n: usize) -> bool
@@ -47,23 +69,24 @@ fn is_framed(text: &[u8], n: usize) -> bool
     (text[0] == b':') & (text[2 * n + 11] == b'\n')
 }
 
-fn is_placed(text: &[u8], n: usize) -> bool
-    requires { ⌜ (n ≡ dataLength (now text)) × (n ≤ 255) × (12 ≤ length (now text)) ⌝ }
+fn is_placed(text: &[u8], n: usize, values: &[u32; 256]) -> bool
+    requires { ⌜ (n ≡ dataLength (now text)) × (n ≤ 255) × (12 ≤ length (now text))
+        × (now values ≡ table 256 digit) ⌝ }
     ensures { λ r. ⌜ r ≡ isPlaced m95512 (now (text .entry)) ⌝ }
 {
-    (line_byte(text, 3) == 0) & (address_at(text) as usize + n <= SIZE)
+    (line_byte(text, 3, values) == 0) & (address_at(text, values) as usize + n <= SIZE)
 }
 
 // Whether the first bytes of the line, so many, are all in digits and sum to 0.
-fn sums_up(text: &[u8], count: usize) -> bool
-    requires { ⌜ (2 * count < length (now text)) × (count ≤ 260) ⌝ }
+fn sums_up(text: &[u8], count: usize, values: &[u32; 256]) -> bool
+    requires { ⌜ (2 * count < length (now text)) × (count ≤ 260) × (now values ≡ table 256 digit) ⌝ }
     ensures { λ r. ⌜ r ≡ sumsUp (now (text .entry)) count ⌝ }
 {
     let mut all = true;
     let mut sum: u32 = 0;
     let mut i: usize = 0;
     while i < count {
-        let value = line_byte(text, i);
+        let value = line_byte(text, i, values);
         all = all & (value < 256);
         sum += value;
         i += 1;
@@ -72,32 +95,30 @@ fn sums_up(text: &[u8], count: usize) -> bool
 }
 
 // Whether the text begins with the line of a good record.
-fn says_record(text: &[u8]) -> bool
+fn says_record(text: &[u8], values: &[u32; 256]) -> bool
+    requires { ⌜ now values ≡ table 256 digit ⌝ }
     ensures { λ r. ⌜ r ≡ saysRecord m95512 (now (text .entry)) ⌝ }
 {
     let len = text.len();
     if len < 12 {
         return false;
     }
-    let n = line_byte(text, 0) as usize;
+    let n = line_byte(text, 0, values) as usize;
     if 255 < n {
         return false;
     }
     if len < 2 * n + 12 {
         return false;
     }
-    is_framed(text, n) & is_placed(text, n) & sums_up(text, n + 5)
+    is_framed(text, n) & is_placed(text, n, values) & sums_up(text, n + 5, values)
 }
 
-// The length of that line, 0 where there is none.
-fn record_length(text: &[u8]) -> usize
-    ensures { λ r. ⌜ (r ≡ pick (saysRecord m95512 (now (text .entry))) (lineLength (now (text .entry))) 0)
-        × (r ≤ length (now (text .entry))) ⌝ }
+// The length of that line.
+fn line_length(text: &[u8], values: &[u32; 256]) -> usize
+    requires { ⌜ (saysRecord m95512 (now text) ≡ true) × (now values ≡ table 256 digit) ⌝ }
+    ensures { λ r. ⌜ (r ≡ lineLength (now (text .entry))) × (r ≤ length (now (text .entry))) ⌝ }
 {
-    if says_record(text) {
-        return 2 * line_byte(text, 0) as usize + 12;
-    }
-    0
+    2 * line_byte(text, 0, values) as usize + 12
 }
 
 // How many good records a text begins with, and the index after them.
@@ -106,7 +127,8 @@ pub(crate) struct Checked {
     pub(crate) at: usize,
 }
 
-pub(crate) fn check(text: &[u8]) -> Checked
+pub(crate) fn check(text: &[u8], values: &[u32; 256]) -> Checked
+    requires { ⌜ now values ≡ table 256 digit ⌝ }
     ensures { λ r. ⌜ (r .at ≤ length (now (text .entry)))
         × (drop (r .at) (now (text .entry)) ≡ parted m95512 (now (text .entry)) .rest) ⌝ }
     ensures { λ r. ⌜ 12 * r .lines ≤ r .at ⌝ }
@@ -114,11 +136,9 @@ pub(crate) fn check(text: &[u8]) -> Checked
 {
     let mut lines: usize = 0;
     let mut at: usize = 0;
-    let mut n = record_length(text);
-    while 0 < n {
+    while says_record(&text[at..], values) {
         lines += 1;
-        at += n;
-        n = record_length(&text[at..]);
+        at += line_length(&text[at..], values);
     }
     Checked {
         lines: lines,

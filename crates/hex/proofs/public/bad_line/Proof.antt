@@ -13,6 +13,9 @@ use borrow.Author.Needs.{needs}
 use Rattle.hex.proofs.public.bad_line.Statement.{statement}
 use Rattle.hex.proofs.public.bad_line.Tie as tie
 
+digit-values-requires : tie.Need-digit-values-requires
+digit-values-requires c κs = search needs
+
 check-requires : tie.Need-check-requires
 check-requires c κs = search needs
 
@@ -30,7 +33,7 @@ is-end-requires c κs = search needs
 
 returns : tie.Need-returns
 returns c =
-    let a = c .before .before .before .before .before .args in
+    let a = c .before .before .before .before .before .before .before .args in
     let k = c .before .before .before .check in
     yes-so _ (good-told m95512 (a .text .now) (k .result .at) _ (k .ensures .0 .1) (c .before .is-end .ensures) ∙ c .if1 .taken) refl
 
@@ -51,7 +54,7 @@ add-result c = search needs
 
 returns-2 : tie.Need-returns-2
 returns-2 c =
-    let a = c .before .before .before .before .before .before .before .before .args in
+    let a = c .before .before .before .before .before .before .before .before .before .before .args in
     let k = c .before .before .before .before .before .before .check in
     let t = a .text .now in
     let bad = good-told m95512 t (k .result .at) _ (k .ensures .0 .1) (c .before .before .before .before .is-end .ensures) ∙ c .before .before .before .if1 .left in
@@ -64,6 +67,7 @@ pub bad-line-spec : {M : Type 1} → statement M
 bad-line-spec =
     tie.close
     (tie.spec
+    digit-values-requires
     check-requires
     sub-is-end
     part-is-end-start

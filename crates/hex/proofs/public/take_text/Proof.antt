@@ -15,6 +15,9 @@ returns c =
     let no = and-no-left _ (isGood m95512 (c .before .before .before .args .text .now)) (ap not (c .if1 .taken)) in
     (no-so _ no refl, no-so _ no refl)
 
+digit-values-requires : tie.Need-digit-values-requires
+digit-values-requires c κs = search needs
+
 check-requires : tie.Need-check-requires
 check-requires c κs = search needs
 
@@ -38,15 +41,17 @@ same-length c = search needs
 
 returns-2 : tie.Need-returns-2
 returns-2 c =
-    let a = c .before .before .before .before .before .before .before .before .before .before .before .args in
-    let k = c .before .before .before .before .before .before .before .check in
-    let good = good-told m95512 (a .text .now) (k .result .at) _ (k .ensures .0 .1) (c .before .before .before .before .before .is-end .ensures) ∙ c .before .before .before .before .if2 .taken in
-    let yes = and-both (not (a .running)) _ (ap not (c .before .before .before .before .before .before .before .before .if1 .left)) good in
+    let a = c .before .before .before .before .before .before .before .before .before .before .before .before .before .before .args in
+    let k = c .before .before .before .before .before .before .before .before .check in
+    let end = c .before .before .before .before .before .before .is-end in
+    let good = good-told m95512 (a .text .now) (k .result .at) _ (k .ensures .0 .1) (end .ensures) ∙ c .before .before .before .before .before .if2 .taken in
+    let free = c .before .before .before .before .before .before .before .before .before .before .before .if1 .left in
+    let yes = and-both (not (a .running)) _ (ap not free) good in
     (yes-so _ yes refl, yes-so _ yes (c .before .before .store .ensures))
 
 returns-3 : tie.Need-returns-3
 returns-3 c =
-    let a = c .before .before .before .before .before .before .before .args in
+    let a = c .before .before .before .before .before .before .before .before .before .args in
     let k = c .before .before .before .check in
     let bad = good-told m95512 (a .text .now) (k .result .at) _ (k .ensures .0 .1) (c .before .is-end .ensures) ∙ c .if2 .left in
     let no = and-no-right (not (a .running)) _ bad in
@@ -57,6 +62,7 @@ take-text-spec =
     tie.close
     (tie.spec
     returns
+    digit-values-requires
     check-requires
     sub-is-end
     part-is-end-start

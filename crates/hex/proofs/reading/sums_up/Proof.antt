@@ -11,17 +11,17 @@ use Rattle.hex.proofs.reading.sums_up.Statement.{statement}
 use Rattle.hex.proofs.reading.sums_up.Tie as tie
 
 abbrev Inv-loop : tie.InvT-loop
-Inv-loop text count all₀ sum₀ i₀ all sum i =
+Inv-loop text count values all₀ sum₀ i₀ all sum i =
     (i ≤ count) × (all ≡ each (isByte text) i) × (sum ≡ total (table i (lineByte text))) × (sum ≤ 4352 * i)
 
 abbrev μ-loop : tie.MeasureT-loop
-μ-loop text count all₀ sum₀ i₀ all sum i = count - i
+μ-loop text count values all₀ sum₀ i₀ all sum i = count - i
 
 loop-holds : tie.Need-loop-holds Inv-loop μ-loop
 loop-holds c = (omega arith, sym (each-none _), sym (total-none _), omega arith)
 
 line-byte-requires : tie.Need-line-byte-requires Inv-loop μ-loop
-line-byte-requires c κs = omega arith
+line-byte-requires c κs = (omega arith, c .before .before .before .pre .2)
 
 add-sum : tie.Need-add-sum Inv-loop μ-loop
 add-sum c = omega arith

@@ -13,11 +13,11 @@ use Rattle.hex.proofs.storing.fill.Statement.{statement}
 use Rattle.hex.proofs.storing.fill.Tie as tie
 
 abbrev Inv-loop : tie.InvT-loop
-Inv-loop cells₀ text i₀ cells i =
+Inv-loop cells₀ text values i₀ cells i =
     (i ≤ length cells₀) × (length cells ≡ length cells₀) × (cells ≡ filled cells₀ (table (length cells₀) (λ j. lineByte text (j + 4))) i)
 
 abbrev μ-loop : tie.MeasureT-loop
-μ-loop cells₀ text i₀ cells i = length cells₀ - i
+μ-loop cells₀ text values i₀ cells i = length cells₀ - i
 
 loop-holds : tie.Need-loop-holds Inv-loop μ-loop
 loop-holds c = (omega arith, refl, filled-none _ _ 0)
@@ -29,7 +29,7 @@ value-at-requires : tie.Need-value-at-requires Inv-loop μ-loop
 value-at-requires c κs =
     let l = c .before .loop in
     let pre = c .before .before .before .before .pre in
-    (omega arith, ltb-true _ _ (each-at _ _ (l .i + 4) (pre .1) (omega arith)))
+    (omega arith, ltb-true _ _ (each-at _ _ (l .i + 4) (pre .1) (omega arith)), pre .2)
 
 slice-write-cells : tie.Need-slice-write-cells Inv-loop μ-loop
 slice-write-cells c = omega arith

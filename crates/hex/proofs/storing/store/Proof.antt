@@ -14,12 +14,12 @@ use Rattle.hex.proofs.storing.store.Statement.{statement}
 use Rattle.hex.proofs.storing.store.Tie as tie
 
 abbrev Inv-loop : tie.InvT-loop
-Inv-loop memory₀ text end at₀ memory at =
+Inv-loop memory₀ text end values at₀ memory at =
     (at ≤ end) × (length memory ≡ m95512 .size) × (parted m95512 (drop at text) .rest ≡ parted m95512 text .rest)
     × (laidRecords (parted m95512 (drop at text) .records) memory ≡ laidRecords (parted m95512 text .records) memory₀)
 
 abbrev μ-loop : tie.MeasureT-loop
-μ-loop memory₀ text end at₀ memory at = end - at
+μ-loop memory₀ text end values at₀ memory at = end - at
 
 loop-holds : tie.Need-loop-holds Inv-loop μ-loop
 loop-holds c = (omega arith, omega arith, refl, refl)
@@ -39,7 +39,7 @@ store-record-requires c κs =
     let a = c .before .before .before .before .before .before .args in
     let pre = c .before .before .before .before .before .before .pre in
     let good = more-left m95512 (a .text .now) (l .at) (a .end) (pre .1) (pre .2) (l .inv .2) (omega arith) in
-    (l .inv .1, ap (saysRecord m95512) (tail-part (a .text .now) (l .at)) ∙ good)
+    (l .inv .1, ap (saysRecord m95512) (tail-part (a .text .now) (l .at)) ∙ good, pre .3)
 
 add-at : tie.Need-add-at Inv-loop μ-loop
 add-at c =

@@ -13,13 +13,13 @@ use Rattle.hex.proofs.storing.store_record.Statement.{statement}
 use Rattle.hex.proofs.storing.store_record.Tie as tie
 
 line-byte-requires : tie.Need-line-byte-requires
-line-byte-requires c κs = omega (arith, front-length m95512 _ (c .before .before .pre .1))
+line-byte-requires c κs = (omega (arith, front-length m95512 _ (c .before .before .pre .1)), c .before .before .pre .2)
 
 cast-n : tie.Need-cast-n
 cast-n c = search needs
 
 address-at-requires : tie.Need-address-at-requires
-address-at-requires c κs = omega (arith, front-length m95512 _ (c .before .before .before .pre .1))
+address-at-requires c κs = (omega (arith, front-length m95512 _ (c .before .before .before .pre .1)), c .before .before .before .pre .2)
 
 cast-start : tie.Need-cast-start
 cast-start c = search needs
@@ -48,6 +48,7 @@ fill-requires c κs =
     let k = part-cells (a .memory .now) (start .result) (n .result) fits ∙ n .ensures .0 in (
       omega (arith, k, front-length m95512 _ (pre .1)),
       ap (λ (j : ℕ). each (isByte (a .text .now)) (j + 5)) k ∙ front-digits m95512 _ (pre .1),
+      pre .2,
     )
 
 mul-result : tie.Need-mul-result
