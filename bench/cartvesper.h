@@ -50,6 +50,11 @@ enum {
     CARTVESPER_MOST_POLLS = 5001
 };
 
+/* The version of the records. Each change of a record's fields, their places or their sizes raises it. Whoever keeps
+ * records in a file, or builds them in another language, keeps this number beside them. 1 had a byte for each mark; 2
+ * has a bit. */
+#define CARTVESPER_RECORDS 2
+
 /* Bytes of an exported HEX text. */
 enum { CARTVESPER_HEX_TEXT = 180236 };
 
@@ -81,13 +86,20 @@ static inline uint64_t cartvesper_event(unsigned kind, uint32_t value) {
     return (uint64_t)kind << 32 | value;
 }
 
-/* A page write: 128 latched bytes and a mark, 1 or 0, on each addressed one. Unmarked bytes are 0. */
+/* A page write: 128 latched bytes, and a mark on each addressed one: cell i has bit i % 64 of word i / 64. Any word is
+ * inside the ranges of a latch; a byte whose cell is not marked is 0. */
 typedef struct {
     uint8_t bytes[CARTVESPER_PAGE];
-    uint8_t marks[CARTVESPER_PAGE];
+    uint64_t marks[CARTVESPER_PAGE / 64];
 } cartvesper_latch;
 
-/* What waits for the end of the write cycle: kind 0 nothing, 1 a status value, 2 a page. What does not wait is 0. */
+/* 1 where a cell is marked, 0 where it is not or the page has no such cell. */
+static inline int cartvesper_marked(const cartvesper_latch *latch, size_t cell) {
+    return cell < CARTVESPER_PAGE && (latch->marks[cell / 64] >> cell % 64 & 1) != 0;
+}
+
+/* What waits for the end of the write cycle: kind 0 nothing, 1 a status value, 2 a page. What does not wait is 0, so no
+ * cell is marked where no page waits. */
 typedef struct {
     uint8_t kind;
     uint8_t status;
@@ -109,7 +121,7 @@ typedef struct {
     uint8_t s, c, d, w, hold;
 } cartvesper_pins;
 
-/* The frame in hand; fields that it has not reached are 0. */
+/* The frame in hand; fields that it has not reached are 0, so no cell is marked where it has latched nothing. */
 typedef struct {
     uint8_t taken; /* whole bytes, 0 to 4, staying at 4 */
     uint8_t bits;  /* of the current byte, 0 to 7 */
@@ -132,13 +144,16 @@ typedef struct {
 } cartvesper_device;
 
 /* The layout that the archive goes by. */
-CARTVESPER_ASSERT(sizeof(cartvesper_latch) == 256);
-CARTVESPER_ASSERT(sizeof(cartvesper_waiting) == 264 && offsetof(cartvesper_waiting, latch) == 8);
-CARTVESPER_ASSERT(sizeof(cartvesper_core) == 280 && offsetof(cartvesper_core, waits) == 16);
+CARTVESPER_ASSERT(sizeof(cartvesper_latch) == 144 && offsetof(cartvesper_latch, marks) == 128);
+CARTVESPER_ASSERT(sizeof(cartvesper_waiting) == 152 && offsetof(cartvesper_waiting, latch) == 8);
+CARTVESPER_ASSERT(offsetof(cartvesper_waiting, page) == 4);
+CARTVESPER_ASSERT(sizeof(cartvesper_core) == 168 && offsetof(cartvesper_core, waits) == 16);
+CARTVESPER_ASSERT(offsetof(cartvesper_core, cycle) == 4 && offsetof(cartvesper_core, last) == 12);
 CARTVESPER_ASSERT(sizeof(cartvesper_pins) == 5);
-CARTVESPER_ASSERT(sizeof(cartvesper_frame_part) == 268 && offsetof(cartvesper_frame_part, latch) == 12);
-CARTVESPER_ASSERT(sizeof(cartvesper_device) == 556 && offsetof(cartvesper_device, frame) == 8);
-CARTVESPER_ASSERT(offsetof(cartvesper_device, core) == 276);
+CARTVESPER_ASSERT(sizeof(cartvesper_frame_part) == 160 && offsetof(cartvesper_frame_part, latch) == 16);
+CARTVESPER_ASSERT(offsetof(cartvesper_frame_part, address) == 8);
+CARTVESPER_ASSERT(sizeof(cartvesper_device) == 336 && offsetof(cartvesper_device, frame) == 8);
+CARTVESPER_ASSERT(offsetof(cartvesper_device, core) == 168);
 
 typedef struct {
     uint32_t number;
@@ -168,10 +183,10 @@ typedef struct {
     uint32_t value; /* 0 in a refusal */
 } cartvesper_value;
 
-CARTVESPER_ASSERT(sizeof(cartvesper_core_answer) == 284 && offsetof(cartvesper_core_answer, core) == 4);
-CARTVESPER_ASSERT(sizeof(cartvesper_frame_answer) == 296 && offsetof(cartvesper_frame_answer, core) == 16);
-CARTVESPER_ASSERT(sizeof(cartvesper_device_answer) == 560 && offsetof(cartvesper_device_answer, device) == 4);
-CARTVESPER_ASSERT(sizeof(cartvesper_driver_answer) == 292 && offsetof(cartvesper_driver_answer, core) == 12);
+CARTVESPER_ASSERT(sizeof(cartvesper_core_answer) == 176 && offsetof(cartvesper_core_answer, core) == 8);
+CARTVESPER_ASSERT(sizeof(cartvesper_frame_answer) == 184 && offsetof(cartvesper_frame_answer, core) == 16);
+CARTVESPER_ASSERT(sizeof(cartvesper_device_answer) == 344 && offsetof(cartvesper_device_answer, device) == 8);
+CARTVESPER_ASSERT(sizeof(cartvesper_driver_answer) == 184 && offsetof(cartvesper_driver_answer, core) == 16);
 CARTVESPER_ASSERT(sizeof(cartvesper_value) == 8);
 
 /* ---- the frame model */
@@ -193,6 +208,8 @@ cartvesper_value cartvesper_core_status(cartvesper_core core);
 cartvesper_value cartvesper_core_lowest_protected(cartvesper_core core);
 /* value 1 where the address is protected, which it is from that one on; 7 for an address above FFFFh */
 cartvesper_value cartvesper_core_protected(cartvesper_core core, uint32_t address);
+/* how many cells the running cycle will touch: the marked cells of the page that waits, 0 where no page waits */
+cartvesper_value cartvesper_core_touched(cartvesper_core core);
 
 /* ---- the pin model */
 
@@ -215,6 +232,8 @@ cartvesper_device_answer cartvesper_device_read_clock(cartvesper_device device, 
 cartvesper_value cartvesper_device_q(cartvesper_device device);
 /* the status byte */
 cartvesper_value cartvesper_device_status(cartvesper_device device);
+/* how many cells the running cycle will touch; those of the frame in hand do not count before its deselect */
+cartvesper_value cartvesper_device_touched(cartvesper_device device);
 /* number 0 and value 1 where the device is inside its ranges, else number 2 */
 cartvesper_value cartvesper_device_in_ranges(cartvesper_device device);
 /* A list of events at once, each a number that cartvesper_event makes: the kind, 0 to 5, above the low 32 bits, which

@@ -1,7 +1,8 @@
 /* check pages|heap [SEED] [ROUNDS]: every call that is lent bytes, on slices that are exactly as long as the call is
- * told. With `pages` a slice starts or ends at a page of the machine that may not be touched, so that one byte read
- * or written beside it stops the program; with `heap` each is an allocation of its own, for a memory checker to
- * watch. Results are compared by differ.c; here only what is touched counts. */
+ * told; and of the records that come back, how many cells their cycles will touch. With `pages` a slice starts or ends
+ * at a page of the machine that may not be touched, so that one byte read or written beside it stops the program; with
+ * `heap` each is an allocation of its own, for a memory checker to watch. Results are compared by differ.c; here only
+ * what is touched counts. */
 #define _DEFAULT_SOURCE
 #include "cartvesper.h"
 #include <stdio.h>
@@ -138,6 +139,16 @@ static void check_play(uint8_t *memory, size_t size)
     give_back(out);
 }
 
+/* a branch on the answer: a checker sees a field of the record that was never written */
+static void check_cells(cartvesper_value touched)
+{
+    if (touched.number != 0 || touched.value > CARTVESPER_PAGE) {
+        fprintf(stderr, "check: a record that came back is refused, or its cycle touches more than a page\n");
+        exit(1);
+    }
+    seen += touched.value;
+}
+
 static void check_write(uint8_t *memory, size_t size)
 {
     size_t length = random_length();
@@ -180,7 +191,9 @@ static void check_call(void)
         check_reading(memory, size);
         check_play(memory, size);
         check_write(memory, size);
-        calls += 6;
+        check_cells(cartvesper_core_touched(core));
+        check_cells(cartvesper_device_touched(device));
+        calls += 8;
     }
     check_hex(memory, size);
     calls += 2;

@@ -11,6 +11,7 @@
 enum { WREN = CARTVESPER_WREN, WRDI = CARTVESPER_WRDI, RDSR = CARTVESPER_RDSR };
 enum { WRSR = CARTVESPER_WRSR, READ = CARTVESPER_READ, WRITE = CARTVESPER_WRITE };
 enum { MEMORY = CARTVESPER_MEMORY, PAGE = CARTVESPER_PAGE, LONGEST = CARTVESPER_LONGEST_FRAME, GUARD = 64 };
+enum { WORD = 64, WORDS = PAGE / WORD }; /* of marks */
 enum { SET_S, SET_C, SET_D, SET_W, SET_HOLD, CLOCK };
 enum { EVENTS = 16384 };
 
@@ -67,6 +68,7 @@ static uint8_t frame_bytes[LONGEST + 3];
 static struct {
     uint64_t calls, frames, executed, events, readings, lists, listed, spoiled, cycles, cells, driven, drawn, unreached, damaged, damaged_calls, swept;
     uint64_t runs, moved, pages, sent, parts; /* of the driver and the split */
+    uint64_t asked, some, marked;             /* cells touched: asked for, not 0; latches made cell by cell */
     uint64_t numbers[14];                     /* answers by their number */
 } counts;
 
@@ -76,7 +78,7 @@ static uint64_t seed, current_round;
 
 static int latch_same(const cartvesper_latch *a, const cartvesper_latch *b)
 {
-    return memcmp(a->bytes, b->bytes, PAGE) == 0 && memcmp(a->marks, b->marks, PAGE) == 0;
+    return memcmp(a->bytes, b->bytes, PAGE) == 0 && memcmp(a->marks, b->marks, sizeof a->marks) == 0;
 }
 
 static int core_same(const cartvesper_core *a, const cartvesper_core *b)
@@ -109,8 +111,11 @@ static void print_latch(const cartvesper_latch *latch)
 {
     printf("    latch, byte/mark of each cell that is not 0/0:");
     for (int i = 0; i < PAGE; i++)
-        if (latch->bytes[i] || latch->marks[i])
-            printf(" %d:%02X/%d", i, latch->bytes[i], latch->marks[i]);
+        if (latch->bytes[i] || cartvesper_marked(latch, (size_t)i))
+            printf(" %d:%02X/%d", i, latch->bytes[i], cartvesper_marked(latch, (size_t)i));
+    printf("\n    its words:");
+    for (int k = 0; k < WORDS; k++)
+        printf(" %016" PRIX64, latch->marks[k]);
     printf("\n");
 }
 
@@ -323,6 +328,28 @@ static void keep_page(uint8_t *page, const cartvesper_core *core)
     memcpy(page, lib_memory.bytes + core->waits.page % 512 * PAGE, PAGE);
 }
 
+static void count_touched(cartvesper_value touched)
+{
+    counts.asked++;
+    counts.some += touched.value != 0;
+}
+
+static void try_core_touched(const cartvesper_core *core)
+{
+    cartvesper_value touched = cartvesper_core_touched(*core);
+    begin_call(core, NULL, "core_touched");
+    compare_values(touched, plain_core_touched_call(*core));
+    count_touched(touched);
+}
+
+static void try_device_touched(const cartvesper_device *device)
+{
+    cartvesper_value touched = cartvesper_device_touched(*device);
+    begin_call(NULL, device, "device_touched");
+    compare_values(touched, plain_device_touched_call(*device));
+    count_touched(touched);
+}
+
 static uint32_t try_reading(cartvesper_core *core, uint32_t reading, size_t size)
 {
     uint8_t page[PAGE];
@@ -339,6 +366,7 @@ static uint32_t try_reading(cartvesper_core *core, uint32_t reading, size_t size
     if (lib.number == 0)
         count_cycle_end(&given, &lib.core, page);
     *core = lib.core;
+    try_core_touched(core);
     return lib.number;
 }
 
@@ -382,6 +410,7 @@ static uint32_t try_frame(cartvesper_core *core, size_t size, uint8_t w, size_t 
     counts.driven += lib.number == 0 ? bits - lib.undriven : 0;
     counts.executed += given.left == 0 && lib.core.left != 0;
     *core = lib.core;
+    try_core_touched(core);
     return lib.number;
 }
 
@@ -395,6 +424,7 @@ static void try_core_queries(const cartvesper_core *core, uint32_t address)
     compare_values(cartvesper_core_lowest_protected(*core), plain_core_lowest_protected_call(*core));
     begin_call(core, NULL, "core_protected %" PRIX32, address);
     compare_values(cartvesper_core_protected(*core, address), plain_core_protected_call(*core, address));
+    try_core_touched(core);
 }
 
 static cartvesper_value try_device_queries(const cartvesper_device *device)
@@ -408,6 +438,7 @@ static cartvesper_value try_device_queries(const cartvesper_device *device)
         begin_call(NULL, device, "device_in_ranges");
         compare_values(cartvesper_device_in_ranges(*device), plain_device_in_ranges_call(*device));
     }
+    try_device_touched(device);
     return q;
 }
 
@@ -468,6 +499,8 @@ static uint32_t try_event(cartvesper_device *device, int kind, uint32_t value, s
     if (kind == CLOCK && lib.number == 0)
         count_cycle_end(&given.core, &lib.device.core, page);
     *device = lib.device;
+    if (kind == SET_S || kind == CLOCK) /* what begins or ends a cycle */
+        try_device_touched(device);
     return lib.number;
 }
 
@@ -492,6 +525,7 @@ static uint32_t try_play(cartvesper_device *device, const uint64_t *events, size
     counts.lists++;
     counts.listed += lib.number == 0 ? count : 0;
     *device = lib.device;
+    try_device_touched(device);
     return lib.number;
 }
 
@@ -524,6 +558,7 @@ static uint32_t try_write(cartvesper_core *core, size_t size, uint64_t address, 
     counts.pages += lib.pages;
     counts.sent += lib.frames;
     *core = lib.core;
+    try_core_touched(core);
     return lib.number;
 }
 
@@ -1091,14 +1126,37 @@ static void pin_session(int scripts)
 
 /* ---- records inside the ranges, also those that no events reach, field by field */
 
+/* none, all, one, all but one, a few, or any */
+static uint64_t random_word(void)
+{
+    switch (below(6)) {
+    case 0:
+        return 0;
+    case 1:
+        return UINT64_MAX;
+    case 2:
+        return 1ULL << below(WORD);
+    case 3:
+        return ~(1ULL << below(WORD));
+    case 4:
+        return next64() & next64() & next64() & next64();
+    default:
+        return next64();
+    }
+}
+
+/* bytes for the cells that are marked, 0 for the others */
+static void fill_marked(cartvesper_latch *latch)
+{
+    for (size_t i = 0; i < PAGE; i++)
+        latch->bytes[i] = cartvesper_marked(latch, i) ? (uint8_t)random32() : 0;
+}
+
 static void random_latch(cartvesper_latch *latch)
 {
-    static const uint32_t densities[] = {0, 100, 2, 50};
-    uint32_t density = densities[below(4)];
-    for (int i = 0; i < PAGE; i++) {
-        latch->marks[i] = (uint8_t)percent(density);
-        latch->bytes[i] = latch->marks[i] ? (uint8_t)random32() : 0;
-    }
+    for (int k = 0; k < WORDS; k++)
+        latch->marks[k] = random_word();
+    fill_marked(latch);
 }
 
 static void random_waiting(cartvesper_waiting *waits)
@@ -1250,19 +1308,22 @@ static const field core_fields[] = {CORE_FIELD(srwd),       CORE_FIELD(bp1),    
                                     CORE_FIELD(cycle),      CORE_FIELD(left),         CORE_FIELD(last),       CORE_FIELD(waits.kind),
                                     CORE_FIELD(waits.status), CORE_FIELD(waits.page),
                                     CORE_FIELD(waits.latch.bytes[0]), CORE_FIELD(waits.latch.bytes[127]),
-                                    CORE_FIELD(waits.latch.marks[0]), CORE_FIELD(waits.latch.marks[127])};
+                                    CORE_FIELD(waits.latch.marks[0]), CORE_FIELD(waits.latch.marks[1])};
 static const field device_fields[] = {DEVICE_FIELD(pins.s),      DEVICE_FIELD(pins.c),     DEVICE_FIELD(pins.d),      DEVICE_FIELD(pins.w),
                                       DEVICE_FIELD(pins.hold),   DEVICE_FIELD(held),       DEVICE_FIELD(frame.taken), DEVICE_FIELD(frame.bits),
                                       DEVICE_FIELD(frame.part),  DEVICE_FIELD(frame.code), DEVICE_FIELD(frame.ran),   DEVICE_FIELD(frame.value),
                                       DEVICE_FIELD(frame.out),   DEVICE_FIELD(frame.shown), DEVICE_FIELD(frame.address),
                                       DEVICE_FIELD(frame.latch.bytes[0]), DEVICE_FIELD(frame.latch.bytes[127]),
-                                      DEVICE_FIELD(frame.latch.marks[0]), DEVICE_FIELD(frame.latch.marks[127])};
+                                      DEVICE_FIELD(frame.latch.marks[0]), DEVICE_FIELD(frame.latch.marks[1])};
 
-enum { EDGES = 24 };
-static const uint32_t edges[EDGES] = {0,   1,   2,   3,   4,    5,    6,    7,     8,     9,          16,  127,
-                                      128, 255, 256, 511, 512, 4999, 5000, 5001, 65535, 65536, 0x7FFFFFFF, 0xFFFFFFFF};
+/* those above 32 bits are for the words of marks; a smaller field takes their low bits */
+enum { EDGES = 30 };
+static const uint64_t edges[EDGES] = {0,   1,   2,   3,   4,    5,    6,    7,     8,     9,          16,  127,
+                                      128, 255, 256, 511, 512, 4999, 5000, 5001, 65535, 65536, 0x7FFFFFFF, 0xFFFFFFFF,
+                                      1ULL << 32, 1ULL << 62, 1ULL << 63, 0xFFFFFFFF00000000, UINT64_MAX >> 1,
+                                      UINT64_MAX};
 
-static uint32_t damaged_value(uint32_t old)
+static uint64_t damaged_value(uint64_t old)
 {
     switch (below(4)) {
     case 0:
@@ -1276,26 +1337,38 @@ static uint32_t damaged_value(uint32_t old)
     }
 }
 
+static void damage_word(uint64_t *word)
+{
+    *word = percent(50) ? *word ^ 1ULL << below(WORD) : percent(50) ? random_word() : damaged_value(*word);
+}
+
+static void set_field(void *record, field chosen, uint64_t value)
+{
+    uint8_t *at = (uint8_t *)record + chosen.at;
+    uint32_t number = (uint32_t)value;
+    if (chosen.size == 1)
+        *at = (uint8_t)value;
+    else if (chosen.size == 4)
+        memcpy(at, &number, 4);
+    else
+        memcpy(at, &value, 8);
+}
+
 static void damage_field(void *record, field chosen)
 {
     uint8_t *at = (uint8_t *)record + chosen.at;
-    uint32_t word = 0;
+    uint32_t number = 0;
+    uint64_t word = 0;
     if (chosen.size == 1) {
         *at = (uint8_t)(percent(30) ? *at ^ 1u << below(8) : damaged_value(*at));
+    } else if (chosen.size == 4) {
+        memcpy(&number, at, 4);
+        set_field(record, chosen, damaged_value(number));
     } else {
-        memcpy(&word, at, 4);
-        word = damaged_value(word);
-        memcpy(at, &word, 4);
+        memcpy(&word, at, 8);
+        damage_word(&word);
+        set_field(record, chosen, word);
     }
-}
-
-static void set_field(void *record, field chosen, uint32_t value)
-{
-    uint8_t *at = (uint8_t *)record + chosen.at;
-    if (chosen.size == 1)
-        *at = (uint8_t)value;
-    else
-        memcpy(at, &value, 4);
 }
 
 static void damage_latch(cartvesper_latch *latch)
@@ -1303,8 +1376,10 @@ static void damage_latch(cartvesper_latch *latch)
     uint32_t cell = percent(40) ? 127 * below(2) : below(PAGE);
     if (percent(50))
         latch->bytes[cell] = (uint8_t)damaged_value(latch->bytes[cell]);
+    else if (percent(50))
+        latch->marks[cell / WORD] ^= 1ULL << cell % WORD;
     else
-        latch->marks[cell] = (uint8_t)damaged_value(latch->marks[cell]);
+        damage_word(&latch->marks[cell / WORD]);
 }
 
 static void damage_core(cartvesper_core *core)
@@ -1434,6 +1509,146 @@ static void sweep_device(void)
             try_device_calls(&copy);
         }
     counts.swept += (FIELDS(device_fields) + FIELDS(core_fields)) * EDGES;
+}
+
+/* ---- marks cell by cell, in the page that waits and in the frame in hand; what is to be answered is known */
+
+static void expect_touched(const cartvesper_device *device, uint32_t number, uint32_t cells)
+{
+    cartvesper_value touched = cartvesper_device_touched(*device);
+    try_device_queries(device);
+    compare_numbers("the number (second: wanted)", touched.number, number);
+    compare_numbers("cells touched (second: wanted)", touched.value, cells);
+}
+
+static void expect_core_touched(const cartvesper_core *core, uint32_t number, uint32_t cells)
+{
+    cartvesper_value touched = cartvesper_core_touched(*core);
+    try_core_queries(core, random_address());
+    compare_numbers("the number (second: wanted)", touched.number, number);
+    compare_numbers("cells touched (second: wanted)", touched.value, cells);
+}
+
+static cartvesper_core core_with(int page_waits)
+{
+    cartvesper_core core;
+    do
+        core = random_core();
+    while ((core.waits.kind == 2) != page_waits);
+    return core;
+}
+
+/* selected, with a WRITE in hand that its deselect executes */
+static cartvesper_device device_in_write(void)
+{
+    cartvesper_device device;
+    plain_device_power_up(&device, random_cycle(), 0, 0, 0, random_clock());
+    device.core.wel = 1;
+    device.pins.s = 0;
+    device.frame.taken = 4;
+    device.frame.code = WRITE;
+    device.frame.address = random_address();
+    return device;
+}
+
+/* the latch in a page that waits: asked, then its cycle ended */
+static void try_waiting(const cartvesper_latch *latch, uint32_t number, uint32_t cells)
+{
+    cartvesper_core core = core_with(1);
+    cartvesper_device device;
+    plain_device_power_up(&device, 1, 0, 0, 0, 0);
+    core.waits.latch = *latch;
+    device.core = core;
+    expect_core_touched(&core, number, cells);
+    try_reading(&core, core.last + core.left, MEMORY);
+    expect_core_touched(&core, number, 0);
+    expect_touched(&device, number, cells);
+    try_event(&device, CLOCK, device.core.last + device.core.left, MEMORY);
+    expect_touched(&device, number, 0);
+}
+
+/* the latch in the frame in hand: it waits from the deselect on */
+static void try_latching(const cartvesper_latch *latch, uint32_t number, uint32_t cells)
+{
+    cartvesper_device device = device_in_write();
+    device.frame.latch = *latch;
+    expect_touched(&device, number, 0);
+    try_event(&device, SET_S, 1, MEMORY);
+    expect_touched(&device, number, cells);
+    try_event(&device, CLOCK, device.core.last + device.core.left, MEMORY);
+    expect_touched(&device, number, 0);
+}
+
+/* inside the ranges: so many cells; outside them: 2 */
+static void try_latch(const cartvesper_latch *latch, uint32_t number, uint32_t cells)
+{
+    try_waiting(latch, number, cells);
+    try_latching(latch, number, cells);
+    counts.marked++;
+}
+
+/* a latch that is not empty where no page waits, and where the frame has latched nothing: 2 */
+static void try_stray(const cartvesper_latch *latch)
+{
+    cartvesper_core core = core_with(0);
+    cartvesper_device device;
+    core.waits.latch = *latch;
+    expect_core_touched(&core, 2, 0);
+    do
+        device = random_device();
+    while (device.core.waits.kind == 2);
+    device.core.waits.latch = *latch;
+    expect_touched(&device, 2, 0);
+    do
+        device = random_device();
+    while (device.frame.code == WRITE && device.frame.taken == 4);
+    device.frame.latch = *latch;
+    expect_touched(&device, 2, 0);
+    counts.marked++;
+}
+
+/* a cell alone, and every cell but it; its byte not 0 where it is not marked */
+static void sweep_cell(size_t cell)
+{
+    cartvesper_latch latch;
+    memset(&latch, 0, sizeof latch);
+    latch.bytes[cell] = (uint8_t)(1u << below(8));
+    try_latch(&latch, 2, 0);
+    try_stray(&latch);
+    latch.marks[cell / WORD] = 1ULL << cell % WORD;
+    try_latch(&latch, 0, 1);
+    try_stray(&latch);
+    latch.bytes[cell] = 0;
+    try_stray(&latch);
+    for (int k = 0; k < WORDS; k++)
+        latch.marks[k] = ~latch.marks[k];
+    fill_marked(&latch);
+    try_latch(&latch, 0, PAGE - 1);
+    latch.bytes[cell] = (uint8_t)(1u << below(8));
+    try_latch(&latch, 2, 0);
+}
+
+static void sweep_marks(void)
+{
+    cartvesper_latch latch;
+    for (size_t cell = 0; cell < PAGE; cell++)
+        sweep_cell(cell);
+    for (unsigned full = 0; full < 1u << WORDS; full++) { /* each word empty or full */
+        uint32_t cells = 0;
+        for (int k = 0; k < WORDS; k++) {
+            latch.marks[k] = full >> k & 1 ? UINT64_MAX : 0;
+            cells += full >> k & 1 ? WORD : 0;
+        }
+        fill_marked(&latch);
+        try_latch(&latch, 0, cells);
+    }
+    for (int i = 0; i < 32; i++) {
+        uint32_t cells = 0;
+        random_latch(&latch);
+        for (size_t cell = 0; cell < PAGE; cell++)
+            cells += (uint32_t)cartvesper_marked(&latch, cell);
+        try_latch(&latch, 0, cells);
+    }
 }
 
 /* ---- the two models against each other, through the library: 01 "Frames" */
@@ -1602,11 +1817,13 @@ static void cases_a_b(void)
     case_frame(&core, "02 00 7E 11 22 33 44 55", 57);
     case_expect("case b: time left (second: wanted)", core.left, 0);
     case_frame(&core, "02 00 7E 11 22 33 44", 0);
+    case_expect("case a: cells touched (second: wanted)", cartvesper_core_touched(core).value, 4);
     try_reading(&core, 10, MEMORY); /* case i: 16 elapsed */
     case_expect("case i: time left (second: wanted)", core.left, 4984);
     case_frame(&core, "03 00 7E 00 00", 0);
     case_expect("case k: Q in a cycle (second: wanted)", lib_out.bytes[3], 0xFF);
     try_reading(&core, 10 + 4984, MEMORY);
+    case_expect("case a: cells touched after it (second: wanted)", cartvesper_core_touched(core).value, 0);
     case_expect("case a: 007Eh (second: wanted)", lib_memory.bytes[0x7E], 0x11);
     case_expect("case a: 007Fh (second: wanted)", lib_memory.bytes[0x7F], 0x22);
     case_expect("case a: 0000h (second: wanted)", lib_memory.bytes[0], 0x33);
@@ -1629,6 +1846,7 @@ static void case_c(void)
     for (int i = 0; i < 130; i++)
         frame_bytes[3 + i] = (uint8_t)i;
     try_frame(&core, MEMORY, 1, 133, 8 * 133, 133);
+    case_expect("case c: cells touched (second: wanted)", cartvesper_core_touched(core).value, 128);
     try_reading(&core, core.last + 5000, MEMORY);
     case_expect("case c: cell 0 (second: wanted)", lib_memory.bytes[0], 0x80);
     case_expect("case c: cell 1 (second: wanted)", lib_memory.bytes[1], 0x81);
@@ -1647,6 +1865,7 @@ static void cases_d_e(void)
     case_expect("case e: with WEL (second: wanted)", cartvesper_core_status(core).value, 0x8E);
     case_frame(&core, "01 8C", 0);
     case_expect("case e: in a cycle (second: wanted)", cartvesper_core_status(core).value, 0x8F);
+    case_expect("case e: cells touched by a status (second: wanted)", cartvesper_core_touched(core).value, 0);
     try_reading(&core, core.last + 5000, MEMORY);
     case_expect("case e: idle (second: wanted)", cartvesper_core_status(core).value, 0x8C);
 }
@@ -1738,6 +1957,7 @@ static void run_round(void)
         step_unreached_core();
     sweep_core();
     sweep_device();
+    sweep_marks();
     try_power_ups(40);
     cross_session(12);
 }
@@ -1752,6 +1972,8 @@ static void print_summary(uint64_t rounds)
     printf("frames drawn at the pins against the frame call %" PRIu64 "\n", counts.drawn);
     printf("records inside the ranges built by hand %" PRIu64 ", damaged records %" PRIu64 " (%" PRIu64 " calls), fields set to an edge %" PRIu64 "\n",
            counts.unreached, counts.damaged, counts.damaged_calls, counts.swept);
+    printf("cells touched asked for %" PRIu64 ", not 0 %" PRIu64 ", latches made cell by cell %" PRIu64 "\n",
+           counts.asked, counts.some, counts.marked);
     printf("runs of the driver %" PRIu64 ", a status cycle ended in the first wait %" PRIu64 ", pages done %" PRIu64 ", frames sent %" PRIu64 "\n",
            counts.runs, counts.moved, counts.pages, counts.sent);
     printf("parts asked for %" PRIu64 "\n", counts.parts);

@@ -52,6 +52,19 @@ static uint8_t poll(cartvesper_core *core)
 
 /* ---- one page write, frame by frame */
 
+/* How many cells of the page that waits the end of the cycle will touch, and which: those with a mark. Asked at any
+ * time; 0 when no page waits. */
+static void print_touched(const cartvesper_core *core)
+{
+    cartvesper_value touched = cartvesper_core_touched(*core);
+    must_be_done("cells touched", touched.number);
+    printf("cells to be touched: %u;", touched.value);
+    for (size_t cell = 0; cell < CARTVESPER_PAGE; cell++)
+        if (cartvesper_marked(&core->waits.latch, cell))
+            printf(" %u", (unsigned)cell);
+    printf("%s\n", touched.value == 0 ? " no page waits" : " of the page");
+}
+
 static void write_by_hand(cartvesper_core *core)
 {
     const uint8_t wren[1] = {CARTVESPER_WREN}, read[7] = {CARTVESPER_READ, 0x00, 0x7E};
@@ -61,10 +74,12 @@ static void write_by_hand(cartvesper_core *core)
     send("WRITE", core, write, 7, out);
     /* WIP and WEL are 1, the cell is as it was */
     printf("after WRITE: status %02X, cell 007E %02X\n", poll(core), memory[0x7E]);
+    print_touched(core);
     for (int polls = 1; polls <= 5; polls++) {
         pass_time(core, 1000);
         printf("after %d ms: status %02X\n", polls, poll(core));
     }
+    print_touched(core);
     /* the cycle has ended and the page is stored: four bytes from offset 126 on, around the page's end */
     printf("cells 007E %02X, 007F %02X, 0000 %02X, 0001 %02X\n", memory[0x7E], memory[0x7F], memory[0x00], memory[0x01]);
     send("READ", core, read, 7, out); /* READ goes on into the next page */

@@ -17,6 +17,10 @@ int main() {
                                 CARTVESPER_MOST_POLLS);
     std::printf("driver: number %u, pages %u, frames %u\n", run.number, run.pages, run.frames);
 
+    // one poll does not see the end of the cycle: the page part waits in the record
+    auto late = cartvesper_write(run.core, memory.data(), memory.size(), 0x0100, bytes, sizeof bytes, 1000, 1);
+    std::printf("limit 1: number %u, cells to be touched %u\n", late.number, cartvesper_core_touched(late.core).value);
+
     auto device = cartvesper_device_power_up(CARTVESPER_LONGEST_CYCLE, 0, 0, 0, run.core.last).device;
     std::vector<uint64_t> events{cartvesper_event(CARTVESPER_EVENT_S, 0)};
     for (uint32_t head = (uint32_t)CARTVESPER_READ << 16 | 0x007F, bit = 1u << 23; bit != 0; bit >>= 1)

@@ -9,7 +9,7 @@ MEMORY = 65536
 
 
 class Latch(Structure):
-    _fields_ = [("bytes", c_uint8 * 128), ("marks", c_uint8 * 128)]
+    _fields_ = [("bytes", c_uint8 * 128), ("marks", c_uint64 * 2)]  # cell i: bit i % 64 of word i / 64
 
 
 class Waiting(Structure):
@@ -33,13 +33,23 @@ class DriverAnswer(Structure):
     _fields_ = [("number", c_uint32), ("pages", c_uint32), ("frames", c_uint32), ("core", Core)]
 
 
+class Value(Structure):
+    _fields_ = [("number", c_uint32), ("value", c_uint32)]
+
+
+# the sizes of version 2 of the records (docs/LINKING.md)
+RECORDS = [(Latch, 144), (Core, 168), (CoreAnswer, 176), (FrameAnswer, 184), (DriverAnswer, 184), (Value, 8)]
+assert all(ctypes.sizeof(record) == size for record, size in RECORDS)
+
 BYTES = POINTER(c_uint8)
 library = ctypes.CDLL(sys.argv[1])
 power_up, reading, frame, write = (library.cartvesper_power_up, library.cartvesper_clock_reading, library.cartvesper_frame,
                                    library.cartvesper_write)
+touched = library.cartvesper_core_touched
 power_up.restype, power_up.argtypes = CoreAnswer, [c_uint32, c_uint8, c_uint8, c_uint8, c_uint32]
 reading.restype, reading.argtypes = CoreAnswer, [Core, c_uint32, BYTES, c_size_t]
 frame.restype, frame.argtypes = FrameAnswer, [Core, BYTES, c_size_t, c_uint8, BYTES, c_size_t, c_size_t, BYTES, c_size_t]
+touched.restype, touched.argtypes = Value, [Core]
 write.restype, write.argtypes = DriverAnswer, [Core, BYTES, c_size_t, c_uint64, BYTES, c_size_t, c_uint32, c_uint32]
 
 memory = (c_uint8 * MEMORY)(*[0xFF] * MEMORY)
@@ -57,10 +67,11 @@ core = power_up(5000, 0, 0, 0, 0).core
 core, _ = send(core, [0x06])
 core, _ = send(core, [0x02, 0x00, 0x7E, 0x11, 0x22, 0x33, 0x44])
 core, out = send(core, [0x05, 0x00])
-print("status", out[1:].hex())
+marked = [i for i in range(128) if core.waits.latch.marks[i // 64] >> i % 64 & 1]
+print("status", out[1:].hex(), "cells to be touched", touched(core).value, marked)
 core = reading(core, 5000, memory, MEMORY).core
 core, out = send(core, [0x03, 0x00, 0x7E, 0, 0])
-print("READ at 007E", out[3:].hex())
+print("READ at 007E", out[3:].hex(), "cells to be touched", touched(core).value)
 
 run = (c_uint8 * 300)(*[i % 251 for i in range(300)])
 done = write(core, memory, MEMORY, 100, run, 300, 1000, 5001)
@@ -70,4 +81,4 @@ refused = write(guarded, memory, MEMORY, 0xBFFF, run, 2, 1000, 5001)
 print("into the protected block", refused.number, refused.pages, refused.frames)
 damaged = done.core
 damaged.wel = 2
-print("a record outside its ranges", reading(damaged, 0, memory, MEMORY).number)
+print("a record outside its ranges", reading(damaged, 0, memory, MEMORY).number, touched(damaged).number)

@@ -4,6 +4,7 @@
 
 enum { WREN = 0x06, WRDI = 0x04, RDSR = 0x05, WRSR = 0x01, READ = 0x03, WRITE = 0x02 };
 enum { MEMORY = 65536, PAGE = 128, PAGES = 512, LONGEST_FRAME = 65540, LONGEST_CYCLE = 5000 };
+enum { WORD = 64, WORDS = PAGE / WORD }; /* a word of marks has a bit for each of 64 cells */
 enum { NOTHING = 0, STATUS = 1, LATCHED = 2 }; /* what waits */
 enum { WRITABLE = 0x8C };                      /* SRWD, BP1, BP0 in the status byte */
 enum { Z = 2 };
@@ -18,19 +19,42 @@ static int all_zero(const uint8_t *bytes, size_t length)
     return seen == 0;
 }
 
-static int latch_empty(const cartvesper_latch *latch)
+static int marks_empty(const cartvesper_latch *latch)
 {
-    return all_zero(latch->bytes, PAGE) && all_zero(latch->marks, PAGE);
+    uint64_t seen = 0;
+    for (size_t k = 0; k < WORDS; k++)
+        seen |= latch->marks[k];
+    return seen == 0;
 }
 
-/* marks are 0 or 1, unmarked bytes are 0 */
+static int latch_empty(const cartvesper_latch *latch)
+{
+    return all_zero(latch->bytes, PAGE) && marks_empty(latch);
+}
+
+/* eight cells at once, the first in the low byte, as x86-64 has them */
+static uint64_t eight(const uint8_t *cells)
+{
+    uint64_t bytes;
+    memcpy(&bytes, cells, sizeof bytes);
+    return bytes;
+}
+
+/* a mask of FFh on each marked one of the eight cells from `cell` on, a multiple of 8 */
+static uint64_t eight_marked(const cartvesper_latch *latch, size_t cell)
+{
+    const uint64_t ones = 0x0101010101010101;
+    uint64_t marks = latch->marks[cell / WORD] >> cell % WORD & 0xFF;
+    uint64_t own = marks * ones & 0x8040201008040201; /* in byte j of them all, mark j alone */
+    return ((own + 0x7F * ones) >> 7 & ones) * 0xFF;
+}
+
+/* unmarked bytes are 0 */
 static int latch_ok(const cartvesper_latch *latch)
 {
-    unsigned bad = 0;
-    for (size_t i = 0; i < PAGE; i++) {
-        uint8_t mark = latch->marks[i];
-        bad |= (mark & 0xFEu) | (latch->bytes[i] & (uint8_t)(mark - 1));
-    }
+    uint64_t bad = 0;
+    for (size_t i = 0; i < PAGE; i += 8)
+        bad |= eight(latch->bytes + i) & ~eight_marked(latch, i);
     return bad == 0;
 }
 
@@ -144,6 +168,18 @@ int plain_protected(const cartvesper_core *core, uint32_t address)
     return address >= plain_lowest_protected(core);
 }
 
+/* the marked cells of the page that waits, one by one */
+uint32_t plain_touched(const cartvesper_core *core)
+{
+    uint32_t cells = 0;
+    if (core->waits.kind != LATCHED)
+        return 0;
+    for (size_t i = 0; i < PAGE; i++)
+        if (cartvesper_marked(&core->waits.latch, i))
+            cells++;
+    return cells;
+}
+
 void plain_core_power_up(cartvesper_core *core, uint32_t cycle, int srwd, int bp1, int bp0, uint32_t reading)
 {
     memset(core, 0, sizeof *core);
@@ -154,12 +190,17 @@ void plain_core_power_up(cartvesper_core *core, uint32_t cycle, int srwd, int bp
     core->last = reading;
 }
 
-/* the marked cells of the target page; a mark of 1 makes a mask of FFh */
+/* the marked cells of the target page */
 static void store_page(uint8_t *restrict cells, const cartvesper_latch *restrict latch)
 {
-    for (size_t i = 0; i < PAGE; i++) {
-        uint8_t mask = (uint8_t)-latch->marks[i];
-        cells[i] = (uint8_t)((cells[i] & ~mask) | (latch->bytes[i] & mask));
+    if ((latch->marks[0] & latch->marks[1]) == UINT64_MAX) {
+        memcpy(cells, latch->bytes, PAGE);
+        return;
+    }
+    for (size_t i = 0; i < PAGE; i += 8) {
+        uint64_t mask = eight_marked(latch, i);
+        uint64_t bytes = (eight(cells + i) & ~mask) | (eight(latch->bytes + i) & mask);
+        memcpy(cells + i, &bytes, sizeof bytes);
     }
 }
 
@@ -247,6 +288,19 @@ static uint64_t frame_read(const uint8_t *memory, const uint8_t *bytes, size_t l
     return 24;
 }
 
+/* marks `count` cells from `cell` on, as many in a word as it has left */
+static void mark_cells(cartvesper_latch *latch, size_t cell, size_t count)
+{
+    while (count > 0) {
+        size_t bit = cell % WORD, here = WORD - bit;
+        if (here > count)
+            here = count;
+        latch->marks[cell / WORD] |= UINT64_MAX >> (WORD - here) << bit;
+        cell += here;
+        count -= here;
+    }
+}
+
 /* the latest byte for a cell wins, so only the last 128 data bytes can stay */
 static void frame_latch(cartvesper_latch *latch, size_t offset, const uint8_t *data, size_t count)
 {
@@ -259,9 +313,9 @@ static void frame_latch(cartvesper_latch *latch, size_t offset, const uint8_t *d
     if (first > count)
         first = count;
     memcpy(latch->bytes + offset, data, first);
-    memset(latch->marks + offset, 1, first);
     memcpy(latch->bytes, data + first, count - first);
-    memset(latch->marks, 1, count - first);
+    mark_cells(latch, offset, first);
+    mark_cells(latch, 0, count - first);
 }
 
 static void frame_wrsr(cartvesper_core *core, int w, const uint8_t *bytes, size_t bits)
@@ -334,7 +388,7 @@ static void latch_byte(cartvesper_frame_part *frame, uint8_t byte)
 {
     uint32_t offset = frame->address % PAGE;
     frame->latch.bytes[offset] = byte;
-    frame->latch.marks[offset] = 1;
+    frame->latch.marks[offset / WORD] |= (uint64_t)1 << offset % WORD;
     frame->address = frame->address - offset + (offset + 1) % PAGE;
 }
 
@@ -499,7 +553,8 @@ void plain_device_time(cartvesper_device *device, uint8_t *memory, uint32_t read
 
 int plain_q(const cartvesper_device *device)
 {
-    if (device->pins.s || device->held || device->frame.shown == 0)
+    /* in this order, or gcc loads S and held in one word and waits for the byte that was just stored */
+    if (device->pins.s || device->frame.shown == 0 || device->held)
         return Z;
     return device->frame.out >> (8 - device->frame.shown) & 1;
 }
@@ -745,6 +800,11 @@ cartvesper_value plain_core_protected_call(cartvesper_core core, uint32_t addres
     return value_or_2(plain_core_ok(&core), (uint32_t)plain_protected(&core, address));
 }
 
+cartvesper_value plain_core_touched_call(cartvesper_core core)
+{
+    return value_or_2(plain_core_ok(&core), plain_touched(&core));
+}
+
 cartvesper_device_answer plain_device_power_up_call(uint32_t cycle, uint8_t srwd, uint8_t bp1, uint8_t bp0, uint32_t reading)
 {
     cartvesper_device_answer answer;
@@ -819,6 +879,11 @@ cartvesper_value plain_device_q_call(cartvesper_device device)
 cartvesper_value plain_device_status_call(cartvesper_device device)
 {
     return value_or_2(plain_device_ok(&device), plain_status(&device.core));
+}
+
+cartvesper_value plain_device_touched_call(cartvesper_device device)
+{
+    return value_or_2(plain_device_ok(&device), plain_touched(&device.core));
 }
 
 cartvesper_value plain_device_in_ranges_call(cartvesper_device device)

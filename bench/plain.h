@@ -13,6 +13,7 @@ int plain_device_ok(const cartvesper_device *device);
 uint8_t plain_status(const cartvesper_core *core);
 uint32_t plain_lowest_protected(const cartvesper_core *core); /* the memory's size where nothing is protected */
 int plain_protected(const cartvesper_core *core, uint32_t address);
+uint32_t plain_touched(const cartvesper_core *core); /* cells that the running cycle will touch */
 
 /* ---- the frame level */
 
@@ -58,6 +59,7 @@ cartvesper_value plain_core_in_ranges_call(cartvesper_core core);
 cartvesper_value plain_core_status_call(cartvesper_core core);
 cartvesper_value plain_core_lowest_protected_call(cartvesper_core core);
 cartvesper_value plain_core_protected_call(cartvesper_core core, uint32_t address);
+cartvesper_value plain_core_touched_call(cartvesper_core core);
 
 cartvesper_device_answer plain_device_power_up_call(uint32_t cycle, uint8_t srwd, uint8_t bp1, uint8_t bp0, uint32_t reading);
 cartvesper_device_answer plain_device_set_s_call(cartvesper_device device, uint8_t level);
@@ -68,6 +70,7 @@ cartvesper_device_answer plain_device_set_hold_call(cartvesper_device device, ui
 cartvesper_device_answer plain_device_read_clock_call(cartvesper_device device, uint32_t reading, uint8_t *memory, size_t size);
 cartvesper_value plain_device_q_call(cartvesper_device device);
 cartvesper_value plain_device_status_call(cartvesper_device device);
+cartvesper_value plain_device_touched_call(cartvesper_device device);
 cartvesper_value plain_device_in_ranges_call(cartvesper_device device);
 cartvesper_device_answer plain_device_play_call(cartvesper_device device, uint8_t *memory, size_t size, const uint64_t *events, size_t count,
                                                 uint8_t *out, size_t room);

@@ -35,7 +35,7 @@ use Rattle.edges.specs.Ranges.{frameFits}
 use Rattle.agree.specs.Drawings.{Sendable, flat, bitsOf}
 use Rattle.agree.specs.Reports.{shared, asOne, watched, outputBits, levelled, outputLevels, framesPlayed, SameSeen, Agreement, LevelAgreement}
 use Rattle.codes.proofs.Sound.{Sound, m95512-sound}
-use Rattle.agree.proofs.Facts.{bit-on}
+use Rattle.laws.specs.Flags.{bit-on}
 use Rattle.agree.proofs.Ticks.{seenOf, endOf, decides}
 use Rattle.agree.proofs.Bytes.{onQ, shown-bit, none, seen-bytes, end-bytes}
 use Rattle.agree.proofs.Seen.{seen-table}

@@ -28,23 +28,14 @@ use Rattle.codes.specs.Output.{outputs}
 use Rattle.agree.specs.Drawings.{flat}
 use Rattle.agree.specs.Reports.{asOne}
 use Rattle.codes.proofs.Sound.{Sound}
-use Rattle.agree.proofs.Facts.{on-bit}
+use Rattle.laws.specs.Flags.{on-bit, bit-on, bit-small}
 use Rattle.agree.proofs.Ticks.{tick, shows, seenOf, endOf, decidesAt, decides}
 use Rattle.agree.proofs.Steps.{shownAt, midByte, stepByte, afterBytes, drives, afterFall, addressOf, valueOf, latchOf, first-is, step-is}
 
 -- ---- the bits of a byte, joined
 
-bit-most : (b : Bool) → bit b ≤ 1
-bit-most true = omega arith
-bit-most false = omega arith
-
 bit-odd : (x : ℕ) → bit (on (x % 2)) ≡ x % 2
-bit-odd x = small (x % 2) (omega arith)
-  where
-    small : (y : ℕ) → y < 2 → bit (on y) ≡ y
-    small zero h = refl
-    small (suc zero) h = refl
-    small (suc (suc y)) h = absurd (omega arith)
+bit-odd x = sym (bit-on (x % 2) (omega arith))
 
 unfoldable pub joined : ℕ → List Bool → ℕ
 joined a [] = a
@@ -145,7 +136,7 @@ module _ (P : Part) (sound : Sound P) (m : List ℕ) (c : Core) where
   -- ---- one of the first seven ticks
 
   shifted : (d : Bool) (a : ℕ) → a < 128 → shiftedIn a (bit d) ≡ 2 * a + bit d
-  shifted d a h = rw (on-bit d) (mod-eq-of-lt (omega (arith, bit-most d)))
+  shifted d a h = rw (on-bit d) (mod-eq-of-lt (omega (arith, bit-small d)))
 
   -- the rising edge: one bit more, nothing else
   abbrev rose : Bool → ℕ → ℕ → Frame → Frame
@@ -190,7 +181,7 @@ module _ (P : Part) (sound : Sound P) (m : List ℕ) (c : Core) where
   below-128 (suc (suc (suc (suc (suc (suc (suc k))))))) a h l = absurd (omega arith)
 
   twice-below : (k a : ℕ) (d : Bool) → a < 2 ^ k → 2 * a + bit d < 2 ^ suc k
-  twice-below k a d h = omega (arith, bit-most d, pow-suc 2 k)
+  twice-below k a d h = omega (arith, bit-small d, pow-suc 2 k)
 
   mid-end : (bs rest : List Bool) (b : Bool) (f : Frame) (k a : ℕ) → drivesOf f ≡ b → k + length bs ≤ 7 → a < 2 ^ k
       → endOf P m c (midByte b k a f) (bs ++ rest) ≡ endOf P m c (midByte b (k + length bs) (joined a bs) f) rest

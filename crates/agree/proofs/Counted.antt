@@ -18,7 +18,7 @@ use Rattle.frames.specs.Answers.{frameOutcome, framed, framedOutput}
 use Rattle.frames.proofs.Outcomes.{taken}
 use Rattle.frames.proofs.Unused.{fit-bits, unused-framed, unused-output}
 use Rattle.agree.specs.Drawings.{lowBits, flat, bitsOf}
-use Rattle.agree.proofs.Facts.{bit-on}
+use Rattle.laws.specs.Flags.{bit-on}
 
 -- ---- the high bits of a byte say its high part
 

@@ -10,6 +10,7 @@ use borrow.Author.Tests.{le-leb, lt-leb, leb-true, eqb-true, lt-ltb}
 use native.Mathlib.Nat.{mod-mod, div-add-mod'}
 use native.Mathlib.Omega.{arith}
 use Rattle.laws.specs.Pick.{pick, at-yes, at-no, and-left, and-right}
+use Rattle.laws.specs.And.{failed}
 use Rattle.codes.specs.Part.{Part}
 use Rattle.codes.specs.Status.{bit, on}
 use Rattle.latch.specs.Latches.{noLatch, latched}
@@ -29,17 +30,14 @@ use Rattle.edges.specs.Frames.{noFrame}
 use Rattle.fields.specs.Bytes.{instruction, addressTo, address, payload, latchedFrom, written}
 use Rattle.frames.specs.After.{after}
 use Rattle.codes.proofs.Sound.{Sound}
-use Rattle.agree.proofs.Facts.{on-bit, min-leb, min-eqb, leb-cong, ltb-cong, eqb-cong}
+use Rattle.laws.specs.Flags.{on-bit}
+use Rattle.agree.proofs.Facts.{min-leb, min-eqb, leb-cong, ltb-cong, eqb-cong}
 use Rattle.agree.proofs.Ticks.{decidesAt}
 use Rattle.agree.proofs.Steps.{afterBytes}
 use Rattle.agree.proofs.Bytes.{step, bytesEnd, step-first, step-more}
 use Rattle.agree.proofs.Pages.{cell, cell-mod, cell-div, cell-next, same-page}
 
 -- ---- a verdict that is not "executed"
-
-failed : (t : Bool) → (t ≡ true → ⊥) → t ≡ false
-failed true h = absurd (h refl)
-failed false h = refl
 
 module _ (P : Part) (i : Instruction) (n : ℕ) (ran wel locked protected held : Bool) where
   miscounted : countFits (row P i .count) n ≡ false → isExecuted (verdict P i n ran wel locked protected held) ≡ false

@@ -1,22 +1,10 @@
--- Levels, and that no test sees the count of whole bytes stay at its most: by arithmetic.
+-- No test sees the count of whole bytes stay at its most: by arithmetic.
 use Prim.Native.Nat.{ℕ, zero, suc, _+_, _<_, _≤_, min}
 use mathlib.Core.Bool.{Bool, true, false}
 use mathlib.Core.Path.{_≡_, refl, sym, _∙_}
 use lib.Dec.{eqb, ltb, leb}
 use borrow.Author.Tests.{leb-true, leb-false, ltb-true, ltb-false, eqb-true, eqb-false}
 use native.Mathlib.Omega.{arith}
-use Rattle.codes.specs.Status.{bit, on}
-
--- ---- levels
-
-pub on-bit : (b : Bool) → on (bit b) ≡ b
-on-bit true = refl
-on-bit false = refl
-
-pub bit-on : (n : ℕ) → n ≤ 1 → n ≡ bit (on n)
-bit-on zero h = refl
-bit-on (suc zero) h = refl
-bit-on (suc (suc n)) h = absurd (omega arith)
 
 -- ---- two tests are one
 

@@ -24,7 +24,8 @@ use Rattle.codes.specs.Output.{outputs}
 use Rattle.fields.specs.Bytes.{instruction, addressTo, address}
 use Rattle.shown.specs.Shown.{byteOut}
 use Rattle.codes.proofs.Sound.{Sound}
-use Rattle.agree.proofs.Facts.{on-bit, leb-min, min-leb}
+use Rattle.laws.specs.Flags.{on-bit}
+use Rattle.agree.proofs.Facts.{leb-min, min-leb}
 use Rattle.agree.proofs.Steps.{afterBytes, drives, afterFall}
 use Rattle.agree.proofs.Bytes.{onQ, drivesOf, step, bytesSeen, step-first, step-more}
 

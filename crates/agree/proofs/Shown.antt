@@ -8,6 +8,7 @@ use Rattle.laws.specs.Pick.{pick}
 use Rattle.laws.specs.Each.{each}
 use Rattle.laws.specs.Table.{from, table}
 use Rattle.codes.specs.Part.{m95512}
+use Rattle.laws.specs.Bits.{bitOn}
 use Rattle.latch.specs.Latches.{zeros, stored}
 use Rattle.chip.specs.Records.{status}
 use Rattle.codes.specs.Instructions.{decode}
@@ -65,7 +66,7 @@ pub record Seen (rs : List (Report Bool)) : Type 0 where
   pub cell : firstCells rs ≡ 0xff ∷ 0xff ∷ 0xff ∷ 0x00 ∷ 0x00 ∷ []
 
 pub frames-seen : Seen run
-unfolding run framesPlayed framedOutput inRanges each pick verdictBy decode latchedFrom zeros timed timedMemory stored table from output flat
+unfolding run framesPlayed framedOutput inRanges each pick verdictBy decode latchedFrom zeros bitOn timed timedMemory stored table from output flat
 frames-seen = record { bits = refl; registers = refl; cell = refl }
 
 -- ---- and so the pin model, from the same device, whatever drawing of the list
@@ -74,7 +75,7 @@ abbrev pub deliveredBench : PinBench
 deliveredBench = pinBench (resting m95512 (delivered m95512)) (deliveredMemory m95512)
 
 unselected : Unselected m95512 deliveredBench
-unfolding deviceFits inRanges each pick decode zeros
+unfolding deviceFits inRanges each pick decode zeros bitOn
 unselected = record { fits = refl; up = refl; free = refl; memory = length-replicate {A = ℕ} (m95512 .size) 0xff }
 
 pub pins-seen : (es : List Event) → Wave m95512 (between false) false true [] acts es → Seen (watched asOne m95512 es [] deliveredBench)

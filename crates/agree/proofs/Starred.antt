@@ -8,6 +8,7 @@ use Rattle.laws.specs.Pick.{pick, at-yes}
 use Rattle.laws.specs.Each.{each}
 use Rattle.laws.specs.Table.{from, table}
 use Rattle.codes.specs.Part.{m95512}
+use Rattle.laws.specs.Bits.{bitOn}
 use Rattle.latch.specs.Latches.{zeros, stored}
 use Rattle.codes.specs.Instructions.{decode}
 use Rattle.codes.specs.Verdicts.{verdictBy}
@@ -28,7 +29,7 @@ use Rattle.agree.specs.Starred.{bytesF, Starred}
 
 -- READ at FFFFh is not refused
 read-taken : (size room : ℕ) → size ≡ m95512 .size → room ≡ 5 → frameOutcome m95512 (delivered m95512) size 5 40 room ≡ Done
-unfolding pick inRanges each zeros
+unfolding pick inRanges each zeros bitOn
 read-taken size room e r = rw (e, r) refl
 
 read-answer : (m : List ℕ) → length m ≡ m95512 .size → framed m95512 (delivered m95512) m true bytesF 40 5 .answer ≡ Shown 24
@@ -41,7 +42,7 @@ unfolding framedOutput
 read-rolls m out e r = at-yes _ _ (ap isDone (read-taken (length m) (length out) e r)) ∙ case-f m
 
 pub starred : Starred
-unfolding framed pick inRanges each verdictBy decode latchedFrom zeros timed timedMemory stored table from
+unfolding framed pick inRanges each verdictBy decode latchedFrom zeros bitOn timed timedMemory stored table from
 starred =
     record {
       a = refl;

@@ -23,7 +23,8 @@ use Rattle.edges.specs.Rising.{wholeByte, taking}
 use Rattle.edges.specs.Falling.{fallen, loading}
 use Rattle.codes.specs.Output.{outputs}
 use Rattle.codes.proofs.Sound.{Sound}
-use Rattle.agree.proofs.Facts.{on-bit, min-eqb, min-next}
+use Rattle.laws.specs.Flags.{on-bit}
+use Rattle.agree.proofs.Facts.{min-eqb, min-next}
 
 -- bits shown once k bits of a byte are taken, in data output and outside it
 abbrev pub shownAt : Bool → ℕ → ℕ

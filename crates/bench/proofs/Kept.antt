@@ -19,6 +19,9 @@ use Rattle.chip.specs.declared.Protection.the-variants as protection
 use Rattle.frames.specs.Answers as frames
 use Rattle.frames.specs.declared.FrameReply as frame-answer
 use Rattle.frames.specs.declared.FrameReply.the-variants as frame
+use Rattle.chip.specs.Touched.{touchedNumber, touchedValue}
+use Rattle.chip.specs.declared.Touched.{Touched}
+use Rattle.chip.specs.declared.Touched.the-variants as touched
 use Rattle.pins.specs.Answers.{qNumber, qValue, statusNumber, statusValue}
 use Rattle.edges.specs.declared.Level.{Level}
 use Rattle.edges.specs.declared.Level.the-variants.{Zero, One, Z}
@@ -127,6 +130,13 @@ q-kept (q.Shows Zero) = refl
 q-kept (q.Shows One) = refl
 q-kept (q.Shows Z) = refl
 q-kept (q.Refused r) = at-no _ _ (not-done r) ∙ ap q.Refused (refusal-kept r)
+
+abbrev pub touchedOf : ℕ → ℕ → Touched
+touchedOf n v = pick (eqb n 0) (touched.Cells v) (touched.Refused (refusalOf n))
+
+pub touched-kept : (x : Touched) → touchedOf (touchedNumber x) (touchedValue x) ≡ x
+touched-kept (touched.Cells v) = at-yes _ _ refl
+touched-kept (touched.Refused r) = at-no _ _ (not-done r) ∙ ap touched.Refused (refusal-kept r)
 
 abbrev pub statusOf : ℕ → ℕ → StatusAnswer
 statusOf n v = pick (eqb n 0) (status.Byte v) (status.Refused (refusalOf n))

@@ -27,6 +27,10 @@ use Rattle.bench.proofs.device_calls.cartvesper_device_in_ranges.Kinds 
 use Rattle.bench.proofs.device_calls.cartvesper_device_in_ranges.Reads as device-in-ranges-reads
 use Rattle.bench.proofs.device_calls.cartvesper_device_q.Kinds as device-q
 use Rattle.bench.proofs.device_calls.cartvesper_device_q.Reads as device-q-reads
+use Rattle.bench.proofs.core_calls.cartvesper_core_touched.Kinds as core-touched
+use Rattle.bench.proofs.core_calls.cartvesper_core_touched.Reads as core-touched-reads
+use Rattle.bench.proofs.device_calls.cartvesper_device_touched.Kinds as device-touched
+use Rattle.bench.proofs.device_calls.cartvesper_device_touched.Reads as device-touched-reads
 use Rattle.bench.proofs.device_calls.cartvesper_device_status.Kinds as device-status
 use Rattle.bench.proofs.device_calls.cartvesper_device_status.Reads as device-status-reads
 use Rattle.bench.proofs.core_calls.cartvesper_clock_reading.Kinds as clock-reading
@@ -90,6 +94,12 @@ device-in-ranges-one κs a z z′ e e′ p q = same p q
 
 pub device-q-one : OneResult device-q.ps device-q.r device-q-reads.Post
 device-q-one κs a z z′ e e′ p q = same p q
+
+pub core-touched-one : OneResult core-touched.ps core-touched.r core-touched-reads.Post
+core-touched-one κs a z z′ e e′ p q = same p q
+
+pub device-touched-one : OneResult device-touched.ps device-touched.r device-touched-reads.Post
+device-touched-one κs a z z′ e e′ p q = same p q
 
 pub device-status-one : OneResult device-status.ps device-status.r device-status-reads.Post
 device-status-one κs a z z′ e e′ p q = same p q

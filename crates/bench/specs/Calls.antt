@@ -1,6 +1,6 @@
 -- What each call for C answers, for every number that C may hand over.
 use Prim.Native.Nat.{ℕ}
-use mathlib.Core.Bool.{_&&_}
+use mathlib.Core.Bool.{Bool, _&&_}
 use mathlib.Core.List.{List}
 use lib.ListN.{length}
 use lib.Dec.{eqb, leb}
@@ -9,6 +9,7 @@ use Rattle.codes.specs.Part.{Part}
 use Rattle.codes.specs.Status.{on}
 use Rattle.chip.specs.Records.{status}
 use Rattle.chip.specs.Ranges.{inRanges}
+use Rattle.chip.specs.Touched.{cellsMarked, touchedChoice}
 use Rattle.chip.specs.Questions.{lowestNumber, lowestValue, questionNumber, questionValue}
 use Rattle.chip.specs.Power.{delivered, poweredUp, powerUpNumber}
 use Rattle.chip.specs.Time.{readingNumber, clockReading}
@@ -59,6 +60,10 @@ lowestProtectedCall P c = valueAnswer (lowestNumber P c) (lowestValue P c)
 
 abbrev pub protectedCall : Part → Core → ℕ → Value
 protectedCall P c a = valueAnswer (questionNumber P c a) (questionValue P c a)
+
+-- how many cells the running cycle will touch: the marked ones, 0 where no page waits
+abbrev pub touchedCall : Part → Bool → Core → Value
+touchedCall P fits c = valueAnswer (touchedChoice fits 2 0) (touchedChoice fits 0 (cellsMarked P c))
 
 -- W is a level; a level of 2 is outside the ranges, after a memory of another length
 abbrev pub frameAnswer : ℕ → ℕ → Core → FrameAnswer

@@ -2,7 +2,9 @@
 ghost use mathlib.Core.Path.{_≡_};
 ghost use Rattle.codes.specs.Part.{m95512};
 ghost use Rattle.chip.specs.Time.{clockMemory};
-ghost use Rattle.bench.specs.Calls.{powerUpCall, readingCall, inRangesCall, statusCall, lowestProtectedCall, protectedCall};
+ghost use Rattle.chip.specs.Ranges.{inRanges};
+ghost use Rattle.bench.specs.Calls.{powerUpCall, readingCall, inRangesCall, statusCall, lowestProtectedCall};
+ghost use Rattle.bench.specs.Calls.{protectedCall, touchedCall};
 use crate::CoreAnswer;
 use crate::Value;
 use chip::Core;
@@ -93,6 +95,18 @@ pub extern "C" fn cartvesper_core_lowest_protected(core: Core) -> Value
     ensures { λ r. ⌜ r ≡ lowestProtectedCall m95512 core ⌝ }
 {
     let answer = core.protected_from();
+    Value {
+        number: answer.number(),
+        value: answer.value(),
+    }
+}
+
+// How many cells the running cycle will touch, 0 where no page waits. Refusal 2.
+#[no_mangle]
+pub extern "C" fn cartvesper_core_touched(core: Core) -> Value
+    ensures { λ r. ⌜ r ≡ touchedCall m95512 (inRanges m95512 core) core ⌝ }
+{
+    let answer = core.cells_touched();
     Value {
         number: answer.number(),
         value: answer.value(),

@@ -11,7 +11,9 @@ ghost use Rattle.chip.specs.Time.{timedMemory};
 ghost use Rattle.pins.specs.Events.{onS, onC, onD, onW, onHold};
 ghost use Rattle.pins.specs.Answers.{answerMemory, memoryOutcome};
 ghost use Rattle.lists.specs.Answers.{playMemory, playOutput};
-ghost use Rattle.bench.specs.Calls.{deviceAnswer, devicePowerUpCall, pinCall, clockPinCall, deviceReadingCall, qCall, deviceStatusCall, deviceInRangesCall, playCall};
+ghost use Rattle.pins.specs.Ranges.{deviceFits};
+ghost use Rattle.bench.specs.Calls.{deviceAnswer, devicePowerUpCall, pinCall, clockPinCall, deviceReadingCall};
+ghost use Rattle.bench.specs.Calls.{qCall, deviceStatusCall, deviceInRangesCall, playCall, touchedCall};
 use crate::DeviceAnswer;
 use crate::Value;
 use chip::Core;
@@ -175,6 +177,18 @@ pub extern "C" fn cartvesper_device_status(device: Device) -> Value
     ensures { λ r. ⌜ r ≡ deviceStatusCall m95512 device ⌝ }
 {
     let answer = device.status();
+    Value {
+        number: answer.number(),
+        value: answer.value(),
+    }
+}
+
+// How many cells the running cycle will touch, 0 where no page waits. Refusal 2.
+#[no_mangle]
+pub extern "C" fn cartvesper_device_touched(device: Device) -> Value
+    ensures { λ r. ⌜ r ≡ touchedCall m95512 (deviceFits m95512 device) (device .core) ⌝ }
+{
+    let answer = device.cells_touched();
     Value {
         number: answer.number(),
         value: answer.value(),

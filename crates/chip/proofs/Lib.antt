@@ -3,6 +3,7 @@ pub mod Readings
 pub mod Within
 pub mod Passing
 pub mod Cases
+pub mod Touching
 pub mod Ones
 pub mod Numbers
 pub mod Lowest

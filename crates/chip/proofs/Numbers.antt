@@ -19,7 +19,7 @@ use Rattle.chip.specs.declared.ProtectedFrom.{ProtectedFrom}
 use Rattle.chip.specs.declared.Protection.{Protection}
 use Rattle.chip.specs.declared.Protection.the-variants.{Open, Protected, Refused}
 use Rattle.codes.specs.declared.Refusal.the-variants.{RecordRange, AddressRange}
-use Rattle.codes.proofs.Bits.{pick-bit}
+use Rattle.laws.specs.Flags.{pick-bit}
 
 module _ (P : Part) (n : ℕ) (s b a : Bool) (t : ℕ) where
   -- an answer that is the right one has the right number

@@ -5,6 +5,14 @@ use Rattle.chip.proofs.Core.in_ranges.Kinds as in-ranges
 use Rattle.chip.proofs.Core.in_ranges.Reads as in-ranges-reads
 use Rattle.chip.proofs.Core.protected_from.Kinds as protected-from
 use Rattle.chip.proofs.Core.protected_from.Reads as protected-from-reads
+use Rattle.chip.proofs.Core.cells_touched.Kinds as cells-touched
+use Rattle.chip.proofs.Core.cells_touched.Reads as cells-touched-reads
+use Rattle.chip.proofs.Core.touched.Kinds as core-touched
+use Rattle.chip.proofs.Core.touched.Reads as core-touched-reads
+use Rattle.chip.proofs.Touched.number.Kinds as touched-number
+use Rattle.chip.proofs.Touched.number.Reads as touched-number-reads
+use Rattle.chip.proofs.Touched.value.Kinds as touched-value
+use Rattle.chip.proofs.Touched.value.Reads as touched-value-reads
 use Rattle.chip.proofs.Core.protection.Kinds as protection
 use Rattle.chip.proofs.Core.protection.Reads as protection-reads
 use Rattle.chip.proofs.power.power_up.Kinds as power-up
@@ -37,6 +45,8 @@ use Rattle.chip.proofs.Core.running.Kinds as core-running
 use Rattle.chip.proofs.Core.running.Reads as core-running-reads
 use Rattle.chip.proofs.Core.status.Kinds as core-status
 use Rattle.chip.proofs.Core.status.Reads as core-status-reads
+use Rattle.chip.proofs.Core.with_time.Kinds as core-with-time
+use Rattle.chip.proofs.Core.with_time.Reads as core-with-time-reads
 use Rattle.chip.proofs.Core.ends.Kinds as core-ends
 use Rattle.chip.proofs.Core.ends.Reads as core-ends-reads
 use Rattle.chip.proofs.time.left_after.Kinds as left-after
@@ -67,6 +77,18 @@ pub protection-one : OneResult protection.ps protection.r protection-reads.Post
 protection-one κs a z z′ e e′ p q = same (p .0) (q .0)
 
 -- ---- inner calls
+
+pub cells-touched-one : OneResult cells-touched.ps cells-touched.r cells-touched-reads.Post
+cells-touched-one κs a z z′ e e′ p q = same (p .0) (q .0)
+
+pub core-touched-one : OneResult core-touched.ps core-touched.r core-touched-reads.Post
+core-touched-one κs a z z′ e e′ p q = same (p .0) (q .0)
+
+pub touched-number-one : OneResult touched-number.ps touched-number.r touched-number-reads.Post
+touched-number-one κs a z z′ e e′ p q = same p q
+
+pub touched-value-one : OneResult touched-value.ps touched-value.r touched-value-reads.Post
+touched-value-one κs a z z′ e e′ p q = same p q
 
 pub protected-from-number-one : OneResult protected-from-number.ps protected-from-number.r protected-from-number-reads.Post
 protected-from-number-one κs a z z′ e e′ p q = same p q
@@ -106,6 +128,9 @@ core-running-one κs a z z′ e e′ p q = same p q
 
 pub core-status-one : OneResult core-status.ps core-status.r core-status-reads.Post
 core-status-one κs a z z′ e e′ p q = same p q
+
+pub core-with-time-one : OneResult core-with-time.ps core-with-time.r core-with-time-reads.Post
+core-with-time-one κs a z z′ e e′ p q = same p q
 
 pub core-ends-one : OneResult core-ends.ps core-ends.r core-ends-reads.Post
 core-ends-one κs a z z′ e e′ p q = same p q

@@ -3,13 +3,11 @@ use mathlib.Core.Path.{_≡_, refl, ap, _∙_}
 use mathlib.Core.Bool.{Bool, true, false, _&&_}
 use Prim.Native.Nat.{ℕ, _-_, _<_, _≤_}
 use native.Mathlib.Omega.{arith}
-use lib.ListN.{getD-replicate}
 use lib.Dec.{leb, ltb}
 use borrow.Author.Tests.{le-leb, leb-true, le-ltb, lt-ltb, eq-eqb, ltb-false, ltb-true}
 use Rattle.laws.specs.Pick.{pick, at-no, and-left, and-right, and-both}
-use Rattle.laws.specs.Each.{each-of}
 use Rattle.codes.specs.Part.{Part}
-use Rattle.latch.specs.Latches.{zeros, noLatch, cellFits}
+use Rattle.latch.proofs.Fitting.{none-latched}
 use Rattle.chip.specs.Records.{nothing, withTime}
 use Rattle.chip.specs.Ranges.{flagsFit, cycleFits, timeFits, tied, waitFits, inRanges}
 use Rattle.chip.specs.declared.Core.{Core}
@@ -45,13 +43,9 @@ module _ (P : Part) (c : Core) where
 
 -- ---- nothing waits
 
-zero-cell : (P : Part) (i : ℕ) → i < P .page → cellFits false (noLatch P) i ≡ true
-unfolding zeros
-zero-cell P i h = rw (getD-replicate {A = ℕ} (P .page) i 0 0 h) refl
-
 pub nothing-fits : (P : Part) → waitFits P (nothing P) ≡ true
 unfolding pick
-nothing-fits P = each-of (cellFits false (noLatch P)) (P .page) (zero-cell P)
+nothing-fits P = none-latched P false
 
 -- the tie of a device with no time left
 pub quiet-tie : (P : Part) (c : Core) → c .left ≡ 0 → c .waits .kind ≡ 0 → tied P c ≡ true

@@ -3,6 +3,7 @@
 pub mod Records
 pub mod Ranges
 pub mod Questions
+pub mod Touched
 pub mod Effects
 pub mod Time
 pub mod Power

@@ -1,13 +1,14 @@
 // What both models of the M95512 share: the record that each holds, its ranges, passing time, power-up, and what waits
 // for the end of a cycle.
 //
-// Public calls, each for every input: power_up, in_ranges, protected_from, protection, clock_reading. Every other
-// public function is an inner call of the models: total, and exactly its definition.
+// Public calls, each for every input: power_up, in_ranges, protected_from, protection, cells_touched, clock_reading.
+// Every other public function is an inner call of the models: total, and exactly its definition.
 use codes::Outcome;
 use codes::Refusal;
 use latch::Latch;
 
 mod answers;
+mod counting;
 mod effects;
 mod power;
 mod protect;
@@ -15,7 +16,7 @@ mod ranges;
 mod status;
 mod time;
 
-// Public calls, beside the methods Core::in_ranges, Core::protected_from and Core::protection.
+// Public calls, beside the methods of Core in_ranges, protected_from, protection and cells_touched.
 pub use power::power_up;
 pub use time::clock_reading;
 
@@ -56,6 +57,12 @@ pub enum ProtectedFrom {
 pub enum Protection {
     Open,
     Protected,
+    Refused(Refusal),
+}
+
+// How many cells the running cycle will touch, 0 where no page waits.
+pub enum Touched {
+    Cells(u32),
     Refused(Refusal),
 }
 

@@ -52,7 +52,8 @@ impl Core {
         self
     }
 
-    fn with_time(mut self, reading: u32, left: u32) -> Core
+    // The clock read, and so much of the cycle left.
+    pub fn with_time(mut self, reading: u32, left: u32) -> Core
         ensures { λ r. ⌜ r ≡ withTime reading left self ⌝ }
     {
         self.last = reading;

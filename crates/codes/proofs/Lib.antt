@@ -1,6 +1,5 @@
 -- What the proofs need of a part; facts on bits, and on a frame that is executed.
 pub mod Sound
 pub mod Starts
-pub mod Bits
 pub mod Judged
 pub mod Ones

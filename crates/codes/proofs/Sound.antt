@@ -4,7 +4,7 @@ use mathlib.Core.Path.{_≡_, refl}
 use native.Mathlib.Nat.{dvd-mul-right}
 use native.Mathlib.Omega.{arith}
 use lib.Dec.{lit≤}
-use Rattle.codes.specs.Part.{Part, m95512, pages}
+use Rattle.codes.specs.Part.{Part, m95512, pages, words}
 
 pub record Sound (P : Part) : Type 0 where
   -- there is a page, and a memory
@@ -15,6 +15,8 @@ pub record Sound (P : Part) : Type 0 where
   -- and each of its quarters, by which it is protected
   pub quarter : ℕ
   pub quarters : P .size ≡ 4 * (quarter * P .page)
+  -- the words of marks have a bit for each cell of a page, and no other
+  pub marks-whole : words P * 64 ≡ P .page
   -- an address has a byte, and its bytes reach every cell
   pub bytes-some : 1 ≤ P .addressBytes
   pub reached : P .size ≤ 256 ^ P .addressBytes
@@ -34,6 +36,7 @@ m95512-sound =
       whole = refl;
       quarter = 128;
       quarters = refl;
+      marks-whole = refl;
       bytes-some = omega arith;
       reached = lit≤ tt;
       placed = dvd-mul-right 256 256;

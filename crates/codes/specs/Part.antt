@@ -19,3 +19,7 @@ m95512 = record { size = 65536; page = 128; addressBytes = 2; most = 4; longest 
 
 abbrev pub pages : Part → ℕ
 pages P = P .size / P .page
+
+-- words of marks, a bit for each cell of a page
+abbrev pub words : Part → ℕ
+words P = P .page / 64

@@ -5,6 +5,7 @@ use Prim.Native.Nat.{ℕ, _+_, _%_, _≤_}
 use native.Mathlib.Omega.{arith}
 use lib.Bits.{bitAnd, and-mask}
 use lib.Dec.{ltb}
+use Rattle.laws.specs.Flags.{on-bit}
 use Rattle.codes.specs.Part.{Part}
 use Rattle.codes.specs.Protect.{lowestProtected}
 use Rattle.codes.specs.Status.{bit, on, bitOf}
@@ -21,10 +22,6 @@ low-bit v =
 bit-most : (b : Bool) → bit b ≤ 1
 bit-most true = omega arith
 bit-most false = omega arith
-
-on-bit : (b : Bool) → on (bit b) ≡ b
-on-bit true = refl
-on-bit false = refl
 
 module _ (s : ℕ) (c : Core) (e : s ≡ status c) where
   pub seen-wip : on (bitOf 0 s) ≡ running c

@@ -10,6 +10,8 @@ ghost use Rattle.frames.specs.Play.{acted, frameBench};
 ghost use Rattle.driver.specs.Sequence.{sent, playedFrom, moved, pollsOn, firstWait, pageWait};
 use crate::sending::poll;
 use chip::Core;
+use chip::elapsed;
+use chip::left_after;
 
 // What a wait saw last, the record after it, and the frames sent.
 pub(crate) struct Waited {
@@ -29,7 +31,7 @@ impl Waited {
     }
 }
 
-// The clock moved by the interval. The counter wraps.
+// The clock moved by the interval; the counter wraps. A reading that ends no cycle moves two fields of the record.
 fn moved(core: Core, memory: &mut [u8], interval: u32) -> Core
     requires { ⌜ length (now memory) ≡ m95512 .size ⌝ }
     requires { ⌜ inRanges m95512 core ≡ true ⌝ }
@@ -41,7 +43,11 @@ fn moved(core: Core, memory: &mut [u8], interval: u32) -> Core
         .memory ⌝ }
 {
     let reading = std::num::wrapping_add_u32(core.last, interval);
-    chip::clock_reading(core, reading, memory).core
+    let passed = elapsed(core.last, reading);
+    if core.ends(passed) {
+        return core.timed(reading, memory);
+    }
+    core.with_time(reading, left_after(core.left, passed))
 }
 
 // Polls while WIP is 1 and some are left, each after moving the clock, after one that saw a status byte.
@@ -59,8 +65,16 @@ fn poll_on(start: Core, seen: u8, memory: &mut [u8], interval: u32, left: u32) -
     let mut status = seen;
     let mut polls: u32 = 0;
     while (polls < left) & (status & 1 == 1) {
-        core = moved(core, memory, interval);
-        status = poll(core, memory);
+        let reading = std::num::wrapping_add_u32(core.last, interval);
+        let passed = elapsed(core.last, reading);
+        if core.ends(passed) {
+            core = core.timed(reading, memory);
+        } else {
+            let rest = left_after(core.left, passed);
+            core.last = reading;
+            core.left = rest;
+        }
+        status = poll(core);
         polls += 1;
     }
     Waited {
@@ -81,7 +95,7 @@ pub(crate) fn first_wait(core: Core, memory: &mut [u8], interval: u32, limit: u3
     ensures { λ _. ⌜ now (memory .exit)
         ≡ playedFrom m95512 (firstWait m95512 interval limit) core (now (memory .entry)) .memory ⌝ }
 {
-    let seen = poll(core, memory);
+    let seen = poll(core);
     poll_on(core, seen, memory, interval, limit - 1).and_sent(1)
 }
 
@@ -97,6 +111,6 @@ pub(crate) fn page_wait(core: Core, memory: &mut [u8], interval: u32, limit: u32
         ≡ playedFrom m95512 (pageWait m95512 interval limit) core (now (memory .entry)) .memory ⌝ }
 {
     let next = moved(core, memory, interval);
-    let seen = poll(next, memory);
+    let seen = poll(next);
     poll_on(next, seen, memory, interval, limit - 1).and_sent(1)
 }

@@ -9,6 +9,7 @@ use Rattle.laws.specs.Pick.{pick}
 use Rattle.laws.specs.Each.{each}
 use Rattle.laws.specs.Table.{from, table, table-of}
 use Rattle.codes.specs.Part.{m95512}
+use Rattle.laws.specs.Bits.{bitOn}
 use Rattle.latch.specs.Latches.{zeros}
 use Rattle.codes.specs.Instructions.{decode}
 use Rattle.codes.specs.Verdicts.{verdictBy}
@@ -53,7 +54,7 @@ computed m f = record { at-1000 = refl; at-700 = refl; polls-700 = refl }
 -- the run is not refused, so the answer is its own
 not-refused : (interval size len : ℕ) → size ≡ m95512 .size → len ≡ 300 → pollsFit m95512 interval 5001 ≡ true
     → driveOutcome m95512 (delivered m95512) size 100 len interval 5001 ≡ outcome.Done
-unfolding pick inRanges each zeros
+unfolding pick inRanges each zeros bitOn
 not-refused interval size len s e p = rw (s, e, p) refl
 
 answers : (m bytes : List ℕ) (interval : ℕ) → length m ≡ m95512 .size → length bytes ≡ 300 → pollsFit m95512 interval 5001 ≡ true

@@ -7,19 +7,20 @@ use Prim.Native.Nat.{ℕ, suc, _+_, _-_, _*_, _/_, _%_, _<_, _≤_}
 use native.Mathlib.Nat.{mod-eq-of-lt}
 use native.Mathlib.Decide.{decLt, ℕ-discrete}
 use native.Mathlib.Omega.{arith}
-use lib.ListN.{length, getD, replicate, length-set, length-append, length-replicate, getD-replicate, List·getD-append, List·getD-eq-default}
+use lib.ListN.{length, getD, length-set, length-append, length-replicate, List·getD-append}
 use lib.Seq.{ext-getD, getD-set-same, getD-set-other}
 use lib.Dec.{leb, ltb}
 use borrow.Author.Tests.{le-leb, lt-leb, lt-ltb, le-ltb}
 use Rattle.laws.specs.Pick.{pick, at-yes, at-no, and-both, and-no-left, and-no-right}
 use Rattle.laws.specs.Spliced.{getD-past}
 use Rattle.laws.specs.Table.{table-length, table-at, table-cong, table-of}
-use Rattle.codes.specs.Part.{Part}
-use Rattle.codes.specs.Status.{on}
+use Rattle.laws.specs.Marks.{mark-none, mark-set-same, mark-set-other}
+use Rattle.codes.specs.Part.{Part, words}
 use Rattle.latch.specs.Latches.{laidAt, zeros, noLatch, latched, inPage, storedAt, stored}
 use Rattle.latch.specs.declared.Latch.{Latch}
 use Rattle.codes.proofs.Sound.{Sound}
 use Rattle.codes.proofs.Starts.{start-of, page-in-memory}
+use Rattle.latch.proofs.Fitting.{cell-word}
 use Rattle.fields.specs.Bytes.{payload, latchedFrom, written}
 use Rattle.driver.specs.Sequence.{writeBytes}
 use Rattle.driver_theorems.specs.Counts.{overwritten}
@@ -41,26 +42,27 @@ among-past a n j h = and-no-right (leb a j) _ (le-ltb j (a + n) h)
 
 -- ---- what a latch holds after bytes for cells that follow each other in the page
 
-module _ (i v : ℕ) (l : Latch) (bytes : i < length (l .bytes)) (marks : i < length (l .marks)) where
+module _ (i v : ℕ) (l : Latch) (bytes : i < length (l .bytes)) (marks : i / 64 < length (l .marks)) where
   laid-same : (x : ℕ) → laidAt (latched i v l) i x ≡ v
-  laid-same x = at-yes _ _ (ap on (getD-set-same (l .marks) i 1 0 marks)) ∙ getD-set-same (l .bytes) i v 0 bytes
+  laid-same x = at-yes _ _ (mark-set-same (l .marks) i marks) ∙ getD-set-same (l .bytes) i v 0 bytes
 
   laid-other : (j x : ℕ) → (j ≡ i → ⊥) → laidAt (latched i v l) j x ≡ laidAt l j x
-  laid-other j x h = rw (getD-set-other (l .marks) i j 1 0 h, getD-set-other (l .bytes) i j v 0 h)
+  laid-other j x h = rw (mark-set-other (l .marks) i j h, getD-set-other (l .bytes) i j v 0 h)
 
-laid-run : (P : Part) (vs : List ℕ) (i : ℕ) (l : Latch) → length (l .bytes) ≡ P .page → length (l .marks) ≡ P .page → i + length vs ≤ P .page → (j x : ℕ)
+laid-run : (P : Part) → Sound P → (vs : List ℕ) (i : ℕ) (l : Latch) → length (l .bytes) ≡ P .page → length (l .marks) ≡ words P
+    → i + length vs ≤ P .page → (j x : ℕ)
     → laidAt (latchedFrom P i vs l) j x ≡ pick (among i (length vs) j) (getD vs (j - i) 0) (laidAt l j x)
 unfolding latchedFrom
-laid-run P [] i l b m h j x = elim (decLt j i) [
+laid-run P sound [] i l b m h j x = elim (decLt j i) [
   | yes p ↦ sym (at-no _ _ (among-below i 0 j p))
   | no p ↦ sym (at-no _ _ (among-past i 0 j (omega arith)))
 ]
-laid-run P (v ∷ vs) i l b m h j x =
+laid-run P sound (v ∷ vs) i l b m h j x =
     let cell : i % P .page ≡ i = mod-eq-of-lt (omega arith) in
     let next = latched (i % P .page) v l in
-    let rest = laid-run P vs (suc i) next (length-set (l .bytes) (i % P .page) v ∙ b) (length-set (l .marks) (i % P .page) 1 ∙ m) (omega arith) j x in
+    let rest = laid-run P sound vs (suc i) next (length-set (l .bytes) (i % P .page) v ∙ b) (length-set (l .marks) (i % P .page / 64) _ ∙ m) (omega arith) j x in
     let in-bytes : i % P .page < length (l .bytes) = omega arith in
-    let in-marks : i % P .page < length (l .marks) = omega arith in
+    let in-marks : i % P .page / 64 < length (l .marks) = rw m (cell-word P sound (i % P .page) (omega arith)) in
     elim (decLt j i) [
       | yes p ↦
           let other : j ≡ i % P .page → ⊥ = λ e. omega arith in
@@ -97,21 +99,13 @@ laid-run P (v ∷ vs) i l b m h j x =
     ]
 
 -- an empty latch changes nothing
-no-mark : (n j : ℕ) → getD (replicate {A = ℕ} n 0) j 0 ≡ 0
-no-mark n j = elim (decLt j n) [
-  | yes h ↦ getD-replicate n j 0 0 h
-  | no h ↦
-      let past : length (replicate {A = ℕ} n 0) ≤ j = omega (arith, length-replicate {A = ℕ} n 0) in
-      List·getD-eq-default (replicate {A = ℕ} n 0) 0 past
-]
-
 laid-none : (P : Part) (j x : ℕ) → laidAt (noLatch P) j x ≡ x
 unfolding zeros
-laid-none P j x = at-no _ _ (ap on (no-mark (P .page) j))
+laid-none P j x = at-no _ _ (mark-none (words P) j)
 
-zeros-length : (P : Part) → length (zeros P) ≡ P .page
+zeros-length : (n : ℕ) → length (zeros n) ≡ n
 unfolding zeros
-zeros-length P = length-replicate {A = ℕ} (P .page) 0
+zeros-length n = length-replicate {A = ℕ} n 0
 
 -- ---- a part, stored
 
@@ -130,7 +124,7 @@ module _ (P : Part) (sound : Sound P) (a : ℕ) (bytes m : List ℕ) (low : a < 
       ap (λ (k : ℕ). laidAt (latchedFrom P (k % P .page) (payload P (writeBytes P a bytes)) (noLatch P)) (j - start) (getD m j 0))
       (write-address P sound a bytes low)
       ∙ ap (λ (vs : List ℕ). laidAt (latchedFrom P (a % P .page) vs (noLatch P)) (j - start) (getD m j 0)) (write-payload P a bytes)
-      ∙ laid-run P bytes (a % P .page) (noLatch P) (zeros-length P) (zeros-length P) one (j - start) (getD m j 0)
+      ∙ laid-run P sound bytes (a % P .page) (noLatch P) (zeros-length (P .page)) (zeros-length (words P)) one (j - start) (getD m j 0)
       ∙ ap (pick (among (a % P .page) (length bytes) (j - start)) (getD bytes (j - start - a % P .page) 0)) (laid-none P (j - start) (getD m j 0))
 
   abbrev Cell : ℕ → Type 0

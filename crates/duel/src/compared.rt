@@ -66,9 +66,14 @@ fn latches(frame_side: Latch, pin_side: Latch, run: &mut Run) {
             pin_side.bytes[i],
             run,
         );
-        same_at(b"mark", i, frame_side.marks[i], pin_side.marks[i], run);
         i += 1;
     }
+    word(0, frame_side.marks[0], pin_side.marks[0], run);
+    word(1, frame_side.marks[1], pin_side.marks[1], run);
+}
+
+fn word(i: usize, frame_side: u64, pin_side: u64, run: &mut Run) {
+    same_at(b"word of marks", i, (frame_side == pin_side) as u8, 1, run);
 }
 
 fn waits(frame_side: Waiting, pin_side: Waiting, run: &mut Run) {

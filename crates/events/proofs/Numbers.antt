@@ -11,6 +11,7 @@ use lib.Dec.{eqb, leb, ltb}
 use borrow.Author.Tests.{le-leb, lt-leb, leb-true, lt-ltb, ltb-true, ltb-false, le-ltb, eq-eqb, ne-eqb}
 use Rattle.laws.specs.Pick.{pick, and-both}
 use Rattle.laws.specs.And.{or-left, or-right}
+use Rattle.laws.specs.Flags.{bit-on}
 use Rattle.codes.specs.Status.{bit, on}
 use Rattle.pins.specs.declared.Event.{Event}
 use Rattle.pins.specs.declared.Event.the-variants.{S, C, D, W, Hold, Time}
@@ -91,12 +92,6 @@ number-means (Hold true) h = refl
 number-means (Hold false) h = refl
 number-means (Time t) h = let s = ltb-true t (2 ^ 32) h in rw (kind-of 5 t s, value-of 5 t s) refl
 
--- a level is what it was
-level-of : (v : ℕ) → v ≤ 1 → bit (on v) ≡ v
-level-of zero h = refl
-level-of (suc zero) h = refl
-level-of (suc (suc v)) h = absurd (omega arith)
-
 pin-out : (k v : ℕ) → k < 5 → (ltb k 5 && leb v 1 || eqb k 5) ≡ true → v ≤ 1
 pin-out k v i h = leb-true v 1 (sym (rw (lt-ltb k 5 i, ne-eqb k 5 (λ e. omega arith)) (or-false (leb v 1))) ∙ h)
 
@@ -106,11 +101,11 @@ unfolding pick
 means-number n h = by-kind (n / 2 ^ 32) refl h
   where
     by-kind : (k : ℕ) → n / 2 ^ 32 ≡ k → (ltb k 5 && leb (n % 2 ^ 32) 1 || eqb k 5) ≡ true → numberOf (eventOf n) ≡ n
-    by-kind zero p h = let v = pin-out 0 (n % 2 ^ 32) (omega arith) h in rw p (omega (arith, level-of (n % 2) (omega arith)))
-    by-kind (suc zero) p h = let v = pin-out 1 (n % 2 ^ 32) (omega arith) h in rw p (omega (arith, level-of (n % 2) (omega arith)))
-    by-kind (suc (suc zero)) p h = let v = pin-out 2 (n % 2 ^ 32) (omega arith) h in rw p (omega (arith, level-of (n % 2) (omega arith)))
-    by-kind (suc (suc (suc zero))) p h = let v = pin-out 3 (n % 2 ^ 32) (omega arith) h in rw p (omega (arith, level-of (n % 2) (omega arith)))
-    by-kind (suc (suc (suc (suc zero)))) p h = let v = pin-out 4 (n % 2 ^ 32) (omega arith) h in rw p (omega (arith, level-of (n % 2) (omega arith)))
+    by-kind zero p h = let v = pin-out 0 (n % 2 ^ 32) (omega arith) h in rw p (omega (arith, bit-on (n % 2) (omega arith)))
+    by-kind (suc zero) p h = let v = pin-out 1 (n % 2 ^ 32) (omega arith) h in rw p (omega (arith, bit-on (n % 2) (omega arith)))
+    by-kind (suc (suc zero)) p h = let v = pin-out 2 (n % 2 ^ 32) (omega arith) h in rw p (omega (arith, bit-on (n % 2) (omega arith)))
+    by-kind (suc (suc (suc zero))) p h = let v = pin-out 3 (n % 2 ^ 32) (omega arith) h in rw p (omega (arith, bit-on (n % 2) (omega arith)))
+    by-kind (suc (suc (suc (suc zero)))) p h = let v = pin-out 4 (n % 2 ^ 32) (omega arith) h in rw p (omega (arith, bit-on (n % 2) (omega arith)))
     by-kind (suc (suc (suc (suc (suc zero))))) p h = rw p (omega arith)
     by-kind (suc (suc (suc (suc (suc (suc k)))))) p h =
         let six = suc (suc (suc (suc (suc (suc k))))) in

@@ -2,16 +2,23 @@
 -- from the page's first cell.
 use mathlib.Core.Path.{_≡_, refl, ap, sym, _∙_}
 use mathlib.Core.List.{List, [], _∷_, _++_, append-assoc, append-nil}
-use Prim.Native.Nat.{ℕ, suc, _+_, _%_, _<_, _≤_}
-use native.Mathlib.Nat.{add-zero, mod-eq-of-lt, mod-add-mod, mod-mod, mod-self, zero-mod}
+use Prim.Native.Nat.{ℕ, suc, _+_, _-_, _*_, _/_, _%_, _<_, _≤_}
+use native.Mathlib.Nat.{add-zero, mod-lt, mod-eq-of-lt, mod-add-mod, mod-mod, mod-self, zero-mod}
 use native.Mathlib.Decide.{decLt}
 use native.Mathlib.Numerals.{add-one}
 use native.Mathlib.Omega.{arith}
-use lib.ListN.{length, take, drop, set, replicate, length-set, length-drop, length-replicate, drop-of-length-le, take-append-drop, replicate-append-replicate}
+use lib.ListN.{length, getD, take, drop, set, replicate, length-set, length-drop, length-replicate, getD-replicate}
+use lib.ListN.{drop-of-length-le, take-append-drop, replicate-append-replicate}
 use lib.Seq.{sets, sets-eq, drop-drop, drop-at, take-all, length-take-le}
-use Rattle.laws.specs.Spliced.{spliced}
-use Rattle.codes.specs.Part.{Part}
+use Rattle.laws.specs.Spliced.{spliced, spliced-length, spliced-before, spliced-in, spliced-after}
+use Rattle.laws.specs.Flags.{bit}
+use Rattle.laws.specs.Marks.{mark, markSet, markBytes, Wide, wide-none, wide-set}
+use Rattle.laws.specs.Marks.{mark-bytes-none, mark-bytes-set, mark-bytes-is, mark-bytes-same}
+use Rattle.codes.specs.Part.{Part, words}
+use Rattle.latch.specs.Latches.{zeros, noLatch, latched}
+use Rattle.latch.specs.Words.{runMarks}
 use Rattle.latch.specs.declared.Latch.{Latch}
+use Rattle.latch.proofs.Runs.{run-marks-length, run-marks-wide, marked-in-run, marked-in-rest, unmarked-before, unmarked-after}
 use Rattle.fields.specs.Bytes.{latchedFrom}
 
 -- ---- the bytes and the marks, each by itself
@@ -21,11 +28,37 @@ unfoldable dealt : ℕ → ℕ → List ℕ → List ℕ → List ℕ
 dealt p a [] c = c
 dealt p a (v ∷ vs) c = dealt p (suc a) vs (set c (a % p) v)
 
+-- the same cells marked
+unfoldable dealtMarks : ℕ → ℕ → List ℕ → List ℕ → List ℕ
+dealtMarks p a [] ws = ws
+dealtMarks p a (v ∷ vs) ws = dealtMarks p (suc a) vs (markSet (a % p) ws)
+
 latched-dealt : (P : Part) (a : ℕ) (vs : List ℕ) (l : Latch)
-    → latchedFrom P a vs l ≡ record { bytes = dealt (P .page) a vs (l .bytes); marks = dealt (P .page) a (replicate (length vs) 1) (l .marks) }
-unfolding latchedFrom dealt
+    → latchedFrom P a vs l ≡ record { bytes = dealt (P .page) a vs (l .bytes); marks = dealtMarks (P .page) a vs (l .marks) }
+unfolding latchedFrom dealt dealtMarks
 latched-dealt P a [] l = refl
-latched-dealt P a (v ∷ vs) l = latched-dealt P (suc a) vs (record { bytes = set (l .bytes) (a % P .page) v; marks = set (l .marks) (a % P .page) 1 })
+latched-dealt P a (v ∷ vs) l = latched-dealt P (suc a) vs (latched (a % P .page) v l)
+
+module _ (p n : ℕ) (whole : n * 64 ≡ p) (some : 0 < p) where
+  dealt-marks-length : (a : ℕ) (vs ws : List ℕ) → length (dealtMarks p a vs ws) ≡ length ws
+  unfolding dealtMarks
+  dealt-marks-length a [] ws = refl
+  dealt-marks-length a (v ∷ vs) ws =
+      dealt-marks-length (suc a) vs (markSet (a % p) ws) ∙ length-set ws (a % p / 64) _
+
+  dealt-marks-wide : (a : ℕ) (vs ws : List ℕ) → Wide n ws → Wide n (dealtMarks p a vs ws)
+  unfolding dealtMarks
+  dealt-marks-wide a [] ws w = w
+  dealt-marks-wide a (v ∷ vs) ws w = dealt-marks-wide (suc a) vs (markSet (a % p) ws) (wide-set n (a % p) ws w)
+
+  -- seen as a byte for each mark, a 1 is put into each cell
+  dealt-marks-bytes : (a : ℕ) (vs ws : List ℕ) → length ws ≡ n
+      → markBytes n (dealtMarks p a vs ws) ≡ dealt p a (replicate (length vs) 1) (markBytes n ws)
+  unfolding dealt dealtMarks
+  dealt-marks-bytes a [] ws e = refl
+  dealt-marks-bytes a (v ∷ vs) ws e =
+      dealt-marks-bytes (suc a) vs (markSet (a % p) ws) (length-set ws (a % p / 64) _ ∙ e)
+      ∙ ap (dealt p (suc a) (replicate (length vs) 1)) (mark-bytes-set n (a % p) ws e (rw whole (mod-lt a some)))
 
 dealt-length : (p a : ℕ) (vs c : List ℕ) → length (dealt p a vs c) ≡ length c
 unfolding dealt
@@ -138,28 +171,105 @@ three-parts l i f h e =
     ∙ take-append-drop i l
 
 -- i values that do not stay, f up to the page's end and h from its first cell
-module _ (P : Part) (a : ℕ) (vs : List ℕ) (l : Latch) (i f h : ℕ) (bytes : length (l .bytes) ≡ P .page)
-    (marks : length (l .marks) ≡ P .page) (all : i + (f + h) ≡ length vs) (fits : (a + i) % P .page + f ≤ P .page)
-    (turn : 0 < h → (a + i) % P .page + f ≡ P .page) (short : f + h ≤ P .page) (full : 0 < i → f + h ≡ P .page) where
-  abbrev laidRuns : List ℕ → List ℕ → List ℕ → List ℕ
-  laidRuns c low high = spliced (spliced c low ((a + i) % P .page) f) high 0 h
+module _ (P : Part) (a : ℕ) (vs : List ℕ) (i f h : ℕ) (all : i + (f + h) ≡ length vs)
+    (fits : (a + i) % P .page + f ≤ P .page) (turn : 0 < h → (a + i) % P .page + f ≡ P .page) (short : f + h ≤ P .page)
+    (full : 0 < i → f + h ≡ P .page) where
+  abbrev start : ℕ
+  start = (a + i) % P .page
 
-  run-bytes : dealt (P .page) a vs (l .bytes) ≡ laidRuns (l .bytes) (take f (drop i vs)) (take h (drop (i + f) vs))
-  run-bytes =
+  abbrev laidRuns : List ℕ → List ℕ → List ℕ → List ℕ
+  laidRuns c low high = spliced (spliced c low start f) high 0 h
+
+  run-bytes : (c : List ℕ) → length c ≡ P .page
+      → dealt (P .page) a vs c ≡ laidRuns c (take f (drop i vs)) (take h (drop (i + f) vs))
+  run-bytes c long =
       let first : length (take f (drop i vs)) ≡ f = length-take-le f (drop i vs) (simp length-drop (omega arith)) in
       let second : length (take h (drop (i + f) vs)) ≡ h = length-take-le h (drop (i + f) vs) (simp length-drop (omega arith)) in
-      ap (λ (xs : List ℕ). dealt (P .page) a xs (l .bytes)) (sym (three-parts vs i f h all))
-      ∙ dealt-parts (P .page) a (take i vs) (take f (drop i vs)) (take h (drop (i + f) vs)) (l .bytes) i f h
-      (length-take-le i vs (omega arith)) first second bytes fits turn short full
+      ap (λ (xs : List ℕ). dealt (P .page) a xs c) (sym (three-parts vs i f h all))
+      ∙ dealt-parts (P .page) a (take i vs) (take f (drop i vs)) (take h (drop (i + f) vs)) c i f h
+      (length-take-le i vs (omega arith)) first second long fits turn short full
 
-  run-marks : dealt (P .page) a (replicate (length vs) 1) (l .marks) ≡ laidRuns (l .marks) (replicate f 1) (replicate h 1)
-  run-marks =
-      ap (λ (n : ℕ). dealt (P .page) a (replicate n 1) (l .marks)) (sym all)
-      ∙ ap (λ (xs : List ℕ). dealt (P .page) a xs (l .marks)) (sym (replicate-append-replicate i (f + h) 1))
-      ∙ ap (λ (xs : List ℕ). dealt (P .page) a (replicate i 1 ++ xs) (l .marks)) (sym (replicate-append-replicate f h 1))
-      ∙ dealt-parts (P .page) a (replicate i 1) (replicate f 1) (replicate h 1) (l .marks) i f h
-      (length-replicate i 1) (length-replicate f 1) (length-replicate h 1) marks fits turn short full
+  run-ones : (c : List ℕ) → length c ≡ P .page
+      → dealt (P .page) a (replicate (length vs) 1) c ≡ laidRuns c (replicate f 1) (replicate h 1)
+  run-ones c long =
+      ap (λ (n : ℕ). dealt (P .page) a (replicate n 1) c) (sym all)
+      ∙ ap (λ (xs : List ℕ). dealt (P .page) a xs c) (sym (replicate-append-replicate i (f + h) 1))
+      ∙ ap (λ (xs : List ℕ). dealt (P .page) a (replicate i 1 ++ xs) c) (sym (replicate-append-replicate f h 1))
+      ∙ dealt-parts (P .page) a (replicate i 1) (replicate f 1) (replicate h 1) c i f h
+      (length-replicate i 1) (length-replicate f 1) (length-replicate h 1) long fits turn short full
 
-  pub latched-runs : latchedFrom P a vs l
-      ≡ record { bytes = laidRuns (l .bytes) (take f (drop i vs)) (take h (drop (i + f) vs)); marks = laidRuns (l .marks) (replicate f 1) (replicate h 1) }
-  latched-runs = latched-dealt P a vs l ∙ rw (run-bytes, run-marks) refl
+  -- ---- the marks of the two runs, as words
+
+  module _ (whole : words P * 64 ≡ P .page) where
+    none : List ℕ
+    none = replicate (P .page) 0
+
+    none-long : length none ≡ P .page
+    unfolding none
+    none-long = length-replicate {A = ℕ} (P .page) 0
+
+    first-long : length (spliced none (replicate f 1) start f) ≡ P .page
+    first-long = spliced-length none (replicate f 1) start f 0 (rw none-long fits) (length-replicate f 1) ∙ none-long
+
+    -- a cell that the second run does not reach
+    past : (j : ℕ) → h ≤ j → getD (laidRuns none (replicate f 1) (replicate h 1)) j 0 ≡ getD (spliced none (replicate f 1) start f) j 0
+    past j k =
+        spliced-after (spliced none (replicate f 1) start f) (replicate h 1) 0 h 0 (rw first-long (omega arith)) (length-replicate h 1) j
+        (omega arith)
+
+    outside : (j : ℕ) → j < P .page → getD {A = ℕ} none j 0 ≡ 0
+    unfolding none
+    outside j k = getD-replicate {A = ℕ} (P .page) j 0 0 k
+
+    run-at : (j : ℕ) → j < words P * 64
+        → getD (laidRuns none (replicate f 1) (replicate h 1)) j 0 ≡ bit (mark (runMarks P start (start + f) h) j)
+    run-at j below = elim (decLt j h) [
+      | yes k ↦
+          spliced-in (spliced none (replicate f 1) start f) (replicate h 1) 0 h 0 (rw first-long (omega arith)) (length-replicate h 1) j
+          (omega arith) (omega arith)
+          ∙ getD-replicate {A = ℕ} h (j - 0) 1 0 (omega arith)
+          ∙ sym (ap bit (marked-in-rest P start (start + f) h j below k))
+      | no k ↦ past j (omega arith) ∙ elim (decLt j start) [
+        | yes b ↦
+            spliced-before none (replicate f 1) start f 0 (rw none-long fits) (length-replicate f 1) j b
+            ∙ outside j (omega arith)
+            ∙ sym (ap bit (unmarked-before P start (start + f) h j below b (omega arith)))
+        | no b ↦ elim (decLt j (start + f)) [
+          | yes t ↦
+              spliced-in none (replicate f 1) start f 0 (rw none-long fits) (length-replicate f 1) j (omega arith) t
+              ∙ getD-replicate {A = ℕ} f (j - start) 1 0 (omega arith)
+              ∙ sym (ap bit (marked-in-run P start (start + f) h j below (omega arith) t))
+          | no t ↦
+              spliced-after none (replicate f 1) start f 0 (rw none-long fits) (length-replicate f 1) j (omega arith)
+              ∙ outside j (omega arith)
+              ∙ sym (ap bit (unmarked-after P start (start + f) h j below (omega arith) (omega arith)))
+        ]
+      ]
+    ]
+
+    run-length : length (laidRuns none (replicate f 1) (replicate h 1)) ≡ P .page
+    run-length =
+        spliced-length (spliced none (replicate f 1) start f) (replicate h 1) 0 h 0 (rw first-long (omega arith)) (length-replicate h 1)
+        ∙ first-long
+
+    run-words : 0 < P .page → dealtMarks (P .page) a vs (replicate (words P) 0) ≡ runMarks P start (start + f) h
+    unfolding none
+    run-words some =
+        mark-bytes-same (words P) _ _
+        (dealt-marks-length (P .page) (words P) whole some a vs _ ∙ length-replicate {A = ℕ} (words P) 0)
+        (run-marks-length P start (start + f) h)
+        (dealt-marks-wide (P .page) (words P) whole some a vs _ (wide-none (words P)))
+        (run-marks-wide P start (start + f) h)
+        (dealt-marks-bytes (P .page) (words P) whole some a vs _ (length-replicate {A = ℕ} (words P) 0)
+        ∙ ap (dealt (P .page) a (replicate (length vs) 1)) (mark-bytes-none (words P) ∙ ap (λ (n : ℕ). replicate n 0) whole)
+        ∙ run-ones (replicate (P .page) 0) none-long
+        ∙ mark-bytes-is (words P) (runMarks P start (start + f) h) _ (run-length ∙ sym whole) run-at)
+
+    pub latched-runs : 0 < P .page → latchedFrom P a vs (noLatch P) ≡ record {
+      bytes = laidRuns (zeros (P .page)) (take f (drop i vs)) (take h (drop (i + f) vs));
+      marks = runMarks P start (start + f) h;
+    }
+    unfolding zeros
+    latched-runs some =
+        latched-dealt P a vs (noLatch P)
+        ∙ rw (run-bytes (replicate (P .page) 0) (length-replicate {A = ℕ} (P .page) 0), run-words some) refl

@@ -1,19 +1,19 @@
 // The bytes of a frame: the code, the address, the data. A byte that the frame lacks reads 0.
 ghost use mathlib.Core.Path.{_≡_};
 ghost use Prim.Native.Nat.{_+_, _*_, _%_, _≤_};
-ghost use lib.ListN.{length, getD, replicate};
+ghost use lib.ListN.{length, getD};
 ghost use Rattle.laws.specs.Spliced.{spliced};
 ghost use Rattle.codes.specs.Part.{m95512};
 ghost use Rattle.latch.specs.Latches.{noLatch};
 ghost use Rattle.fields.specs.Bytes.{instruction, address, latchedFrom, written};
 use crate::runs::at_most;
-use crate::runs::fill;
 use codes::HEAD;
 use codes::Instruction;
 use codes::PAGE;
 use latch::Latch;
 use latch::ROOM;
 use latch::cell_of;
+use latch::run_marks;
 
 pub fn byte_at(bytes: &[u8], i: usize) -> u8
     ensures { λ r. ⌜ r ≡ getD (now (bytes .entry)) i 0 ⌝ }
@@ -43,18 +43,14 @@ pub fn address_of(bytes: &[u8]) -> usize
     joined(byte_at(bytes, 1), byte_at(bytes, 2))
 }
 
-// A run of bytes latched: into the cells from `start` on, with a mark on each.
-fn latch_run(cells: &mut [u8], marks: &mut [u8], start: usize, run: &[u8])
+// A run of bytes latched: into the cells from `start` on.
+fn latch_run(cells: &mut [u8], start: usize, run: &[u8])
     requires { ⌜ start + length (now run) ≤ length (now cells) ⌝ }
-    requires { ⌜ start + length (now run) ≤ length (now marks) ⌝ }
     ensures { λ _. ⌜ now (cells .exit)
         ≡ spliced (now (cells .entry)) (now (run .entry)) start (length (now (run .entry))) ⌝ }
-    ensures { λ _. ⌜ now (marks .exit)
-        ≡ spliced (now (marks .entry)) (replicate (length (now (run .entry))) 1) start (length (now (run .entry))) ⌝ }
 {
     let end = start + run.len();
     bytes::copy(run, &mut cells[start..end]);
-    fill(&mut marks[start..end], 1);
 }
 
 // Bytes latched from an address up and round within its page. Only the last page of them stays, in at most two runs: up
@@ -63,17 +59,17 @@ fn latch_all(address: usize, values: &[u8]) -> Latch
     ensures { λ r. ⌜ r ≡ latchedFrom m95512 (address % m95512 .page) (now (values .entry)) (noLatch m95512) ⌝ }
 {
     let mut cells = [0u8; ROOM];
-    let mut marks = [0u8; ROOM];
     let n = values.len();
     let kept = at_most(PAGE, n);
     let skip = n - kept;
     let start = cell_of(cell_of(address) + skip);
-    let turn = skip + at_most(PAGE - start, kept);
-    latch_run(&mut cells, &mut marks, start, &values[skip..turn]);
-    latch_run(&mut cells, &mut marks, 0, &values[turn..n]);
+    let first = at_most(PAGE - start, kept);
+    let turn = skip + first;
+    latch_run(&mut cells, start, &values[skip..turn]);
+    latch_run(&mut cells, 0, &values[turn..n]);
     Latch {
         bytes: cells,
-        marks: marks,
+        marks: run_marks(start, start + first, n - turn),
     }
 }
 

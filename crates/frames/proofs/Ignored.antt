@@ -6,6 +6,7 @@ use mathlib.Core.List.{List}
 use Prim.Native.Nat.{ℕ}
 use lib.ListN.{length}
 use Rattle.laws.specs.Pick.{at-no, and-both, pick-same}
+use Rattle.laws.specs.And.{failed}
 use Rattle.codes.specs.Part.{Part}
 use Rattle.codes.specs.Status.{on}
 use Rattle.chip.specs.Questions.{protects}
@@ -19,11 +20,6 @@ use Rattle.fields.specs.Bytes.{instruction, address}
 use Rattle.frames.specs.After.{judged, after}
 use Rattle.frames.specs.Answers.{frameOutcome, framed, framedOutput}
 use Rattle.codes.proofs.Judged.{Passed, passed}
-
--- a test that cannot have passed failed
-failed : (t : Bool) → (t ≡ true → ⊥) → t ≡ false
-failed true h = absurd (h refl)
-failed false h = refl
 
 module _ (P : Part) (ran w : Bool) (c : Core) (s : List ℕ) (n : ℕ) where
   -- the tests that it passed, were it executed

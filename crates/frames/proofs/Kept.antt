@@ -6,7 +6,7 @@ use Prim.Native.Nat.{ℕ, zero, suc, _+_, _*_, _-_, _/_, _%_, _^_, _<_}
 use native.Mathlib.Nat.{mod-lt}
 use lib.ListN.{length, getD, length-set, length-replicate}
 use Rattle.laws.specs.Pick.{pick-case}
-use Rattle.codes.specs.Part.{Part, pages}
+use Rattle.codes.specs.Part.{Part, pages, words}
 use Rattle.codes.specs.Status.{on}
 use Rattle.latch.specs.Latches.{zeros, noLatch, latched, latchFits}
 use Rattle.chip.specs.Records.{running}
@@ -18,7 +18,7 @@ use Rattle.chip.specs.declared.Core.{Core}
 use Rattle.chip.proofs.Within.{Within}
 use Rattle.codes.proofs.Sound.{Sound}
 use Rattle.codes.proofs.Starts.{page-of-memory}
-use Rattle.latch.proofs.Fitting.{none-latched, one-latched}
+use Rattle.latch.proofs.Fitting.{none-latched, cell-word, one-latched}
 use Rattle.chip.proofs.Executed.{executed-within}
 use Rattle.fields.specs.Bytes.{instruction, address, addressTo, payload, latchedFrom, written}
 use Rattle.frames.specs.After.{judged, after}
@@ -33,24 +33,26 @@ address-below P s h (suc k) = mod-lt (addressTo P s k + getD s (suc k) 0 * 256 ^
 pub page-below : (P : Part) (s : List ℕ) → Sound P → address P s / P .page < pages P
 page-below P s h = page-of-memory h (address P s) (address-below P s (h .size-some) (P .addressBytes))
 
-all-latched : (P : Part) (i : ℕ) (vs : List ℕ) (l : Latch) → 0 < P .page → length (l .marks) ≡ P .page → latchFits P true l ≡ true
+all-latched : (P : Part) → Sound P → (i : ℕ) (vs : List ℕ) (l : Latch) → length (l .marks) ≡ words P → latchFits P true l ≡ true
     → latchFits P true (latchedFrom P i vs l) ≡ true
 unfolding latchedFrom
-all-latched P i [] l h e fits = fits
-all-latched P i (v ∷ vs) l h e fits =
-    let below : i % P .page < length (l .marks) = rw e (mod-lt i h) in
-    all-latched P (suc i) vs (latched (i % P .page) v l) h (length-set (l .marks) (i % P .page) 1 ∙ e) (one-latched P (i % P .page) v l below fits)
+all-latched P sound i [] l e fits = fits
+all-latched P sound i (v ∷ vs) l e fits =
+    let below : i % P .page / 64 < length (l .marks) = rw e (cell-word P sound (i % P .page) (mod-lt i (sound .page-some))) in
+    all-latched P sound (suc i) vs (latched (i % P .page) v l) (length-set (l .marks) (i % P .page / 64) _ ∙ e)
+    (one-latched P (i % P .page) v l below fits)
 
-pub written-fits : (P : Part) (s : List ℕ) → 0 < P .page → latchFits P true (written P s) ≡ true
+pub written-fits : (P : Part) (s : List ℕ) → Sound P → latchFits P true (written P s) ≡ true
 unfolding zeros
-written-fits P s h = all-latched P _ (payload P s) (noLatch P) h (length-replicate (P .page) 0) (none-latched P)
+written-fits P s sound =
+    all-latched P sound _ (payload P s) (noLatch P) (length-replicate {A = ℕ} (words P) 0) (none-latched P true)
 
 module _ (P : Part) (sound : Sound P) (w : Bool) (c : Core) (s : List ℕ) (n : ℕ) where
   pub after-within : (ran : Bool) → (running c ≡ true → ran ≡ true) → Within P c → Within P (after P ran w c s n)
   after-within ran h k =
       pick-case (Within P) (isExecuted (judged P ran w c s n))
       (λ e. executed-within P (instruction P s) n ran (on (c .srwd) && not w) (protects P c (address P s)) false
-      (getD s 1 0) (address P s / P .page) (written P s) c e h (page-below P s sound) (written-fits P s (sound .page-some)) k)
+      (getD s 1 0) (address P s / P .page) (written P s) c e h (page-below P s sound) (written-fits P s sound) k)
       (λ e. k)
 
   -- the public call: what it hands back of a record inside the ranges

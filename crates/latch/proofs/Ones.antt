@@ -5,6 +5,8 @@ use Rattle.latch.proofs.Latch.none.Kinds as latch-none
 use Rattle.latch.proofs.Latch.none.Reads as latch-none-reads
 use Rattle.latch.proofs.Latch.with.Kinds as latch-with
 use Rattle.latch.proofs.Latch.with.Reads as latch-with-reads
+use Rattle.latch.proofs.Latch.touched.Kinds as latch-touched
+use Rattle.latch.proofs.Latch.touched.Reads as latch-touched-reads
 use Rattle.latch.proofs.Latch.fits.Kinds as latch-fits
 use Rattle.latch.proofs.Latch.fits.Reads as latch-fits-reads
 use Rattle.latch.proofs.Latch.store.Kinds as latch-store
@@ -15,12 +17,17 @@ use Rattle.latch.proofs.pages.latch_byte.Kinds as latch-byte
 use Rattle.latch.proofs.pages.latch_byte.Reads as latch-byte-reads
 use Rattle.latch.proofs.pages.next_cell.Kinds as next-cell
 use Rattle.latch.proofs.pages.next_cell.Reads as next-cell-reads
+use Rattle.latch.proofs.words.run_marks.Kinds as run-marks
+use Rattle.latch.proofs.words.run_marks.Reads as run-marks-reads
 
 pub latch-none-one : OneResult latch-none.ps latch-none.r latch-none-reads.Post
 latch-none-one κs a z z′ e e′ p q = same p q
 
 pub latch-with-one : OneResult latch-with.ps latch-with.r latch-with-reads.Post
 latch-with-one κs a z z′ e e′ p q = same p q
+
+pub latch-touched-one : OneResult latch-touched.ps latch-touched.r latch-touched-reads.Post
+latch-touched-one κs a z z′ e e′ p q = same (p .0) (q .0)
 
 pub latch-fits-one : OneResult latch-fits.ps latch-fits.r latch-fits-reads.Post
 latch-fits-one κs a z z′ e e′ p q = same p q
@@ -39,3 +46,6 @@ latch-byte-marks κs a z z′ e e′ p q = same (p .1) (q .1)
 
 pub next-cell-one : OneResult next-cell.ps next-cell.r next-cell-reads.Post
 next-cell-one κs a z z′ e e′ p q = same p q
+
+pub run-marks-one : OneResult run-marks.ps run-marks.r run-marks-reads.Post
+run-marks-one κs a z z′ e e′ p q = same p q

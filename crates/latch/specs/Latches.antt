@@ -1,18 +1,19 @@
--- A page write: latched bytes, and a mark on each addressed one; what it lays over a page, its ranges, and storing it.
+-- A page write: latched bytes, and a mark on each addressed one, a bit for each cell; what it lays over a page, its
+-- ranges, the cells that it touches, and storing it.
 use Prim.Native.Nat.{ℕ, _+_, _*_, _-_, _%_}
-use mathlib.Core.Bool.{Bool, _&&_, _||_}
+use mathlib.Core.Bool.{Bool, _&&_}
 use mathlib.Core.List.{List}
 use lib.ListN.{length, getD, set, replicate}
 use lib.Dec.{eqb, leb, ltb}
 use Rattle.laws.specs.Pick.{pick}
 use Rattle.laws.specs.Each.{each}
+use Rattle.laws.specs.Marks.{mark, markSet, onesOf}
 use Rattle.laws.specs.Table.{table}
-use Rattle.codes.specs.Part.{Part}
-use Rattle.codes.specs.Status.{on}
+use Rattle.codes.specs.Part.{Part, words}
 use Rattle.latch.specs.declared.Latch.{Latch}
 
 abbrev pub marked : Latch → ℕ → Bool
-marked l i = on (getD (l .marks) i 0)
+marked l i = mark (l .marks) i
 
 abbrev pub byteAt : Latch → ℕ → ℕ
 byteAt l i = getD (l .bytes) i 0
@@ -21,17 +22,16 @@ byteAt l i = getD (l .bytes) i 0
 abbrev pub laidAt : Latch → ℕ → ℕ → ℕ
 laidAt l i x = pick (marked l i) (byteAt l i) x
 
--- a page's worth of zeros
-unfoldable pub zeros : Part → List ℕ
-zeros P = replicate (P .page) 0
+unfoldable pub zeros : ℕ → List ℕ
+zeros n = replicate n 0
 
 -- no byte latched: what does not wait reads 0
 abbrev pub noLatch : Part → Latch
-noLatch P = record { bytes = zeros P; marks = zeros P }
+noLatch P = record { bytes = zeros (P .page); marks = zeros (words P) }
 
 -- one more byte latched, for cell i of its page; the latest byte for a cell wins
 abbrev pub latched : ℕ → ℕ → Latch → Latch
-latched i v l = record { bytes = set (l .bytes) i v; marks = set (l .marks) i 1 }
+latched i v l = record { bytes = set (l .bytes) i v; marks = markSet i (l .marks) }
 
 -- the cell of its page that comes after address i: from the last one back to the first
 abbrev pub nextCell : Part → ℕ → ℕ
@@ -43,13 +43,19 @@ laid P l page = table (P .page) (λ i. laidAt l i (getD page i 0))
 
 -- ---- its ranges
 
--- cell i: no mark and the byte 0, or a mark where there may be marks
+-- cell i: a mark where there may be marks, or no mark and the byte 0
 abbrev pub cellFits : Bool → Latch → ℕ → Bool
-cellFits may l i = eqb (getD (l .marks) i 0) 0 && eqb (byteAt l i) 0 || eqb (getD (l .marks) i 0) 1 && may
+cellFits may l i = pick (marked l i) may (eqb (byteAt l i) 0)
 
 -- every cell; `may` says whether anything may be marked
 abbrev pub latchFits : Part → Bool → Latch → Bool
 latchFits P may l = each (cellFits may l) (P .page)
+
+-- ---- the cells that it touches
+
+-- the ones of its words
+abbrev pub touched : Part → Latch → ℕ
+touched P l = onesOf (words P) (l .marks)
 
 -- ---- storing it
 

@@ -2,18 +2,31 @@
 // stored in.
 //
 // Every public function is an inner call of the models: total, and exactly its definition.
+mod lay;
 mod pages;
+mod ranges;
+mod words;
 
 pub use pages::cell_of;
 pub use pages::latch_byte;
 pub use pages::next_cell;
+pub use words::run_marks;
 
 // Cells that a latch has room for: a page.
 pub const ROOM: usize = 128;
 
-// Up to a page of latched bytes and a mark on each addressed one, 1 or 0. Unmarked bytes read 0.
+// Words of marks, a bit for each cell.
+pub const WORDS: usize = 2;
+
+// Cells to a word, and the word with every mark.
+pub(crate) const WORD: usize = 64;
+
+pub(crate) const FULL: u64 = 0xffff_ffff_ffff_ffff;
+
+// Up to a page of latched bytes, and a mark on each addressed one: cell i has bit i % 64 of word i / 64. Unmarked bytes
+// read 0.
 #[repr(C)]
 pub struct Latch {
     pub bytes: [u8; ROOM],
-    pub marks: [u8; ROOM],
+    pub marks: [u64; WORDS],
 }

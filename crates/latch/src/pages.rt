@@ -1,14 +1,19 @@
-// A page write: its ranges, and the page that it is stored in.
+// A page write: bytes latched, its ranges, the cells that it touches, and the page that it is stored in.
 ghost use mathlib.Core.Path.{_≡_};
 ghost use Prim.Native.Nat.{_%_};
-ghost use mathlib.Core.Bool.{_&&_, _||_};
-ghost use lib.Dec.{eqb};
-ghost use lib.ListN.{length, set};
-ghost use Rattle.laws.specs.Pick.{pick};
+ghost use lib.ListN.{set};
+ghost use Rattle.laws.specs.Count.{count};
+ghost use Rattle.laws.specs.Marks.{markSet};
 ghost use Rattle.codes.specs.Part.{m95512};
-ghost use Rattle.latch.specs.Latches.{laid, latchFits, latched, nextCell, noLatch, stored};
+ghost use Rattle.latch.specs.Latches.{latchFits, latched, marked, nextCell, noLatch, stored, touched};
 use crate::Latch;
 use crate::ROOM;
+use crate::WORD;
+use crate::WORDS;
+use crate::lay::store_page;
+use crate::ranges::cells_fit;
+use crate::words::ones_of;
+use crate::words::with_bit;
 use codes::PAGE;
 
 impl Latch {
@@ -18,7 +23,7 @@ impl Latch {
     {
         Latch {
             bytes: [0; ROOM],
-            marks: [0; ROOM],
+            marks: [0; WORDS],
         }
     }
 
@@ -33,6 +38,14 @@ impl Latch {
             bytes: bytes,
             marks: marks,
         }
+    }
+
+    // How many cells a cycle will touch: the ones of both words, which are the marked cells.
+    pub fn touched(self) -> u32
+        ensures { λ r. ⌜ (r ≡ touched m95512 self) × (r ≡ count (marked self) (m95512 .page)) ⌝ }
+    {
+        let marks = self.marks;
+        ones_of(marks[0]) + ones_of(marks[1])
     }
 
     // Unmarked bytes read 0; there are marks only where there may be.
@@ -68,13 +81,14 @@ pub fn cell_of(address: usize) -> usize
 
 // One more byte latched where it stands, for the cell of its page that an address is in; the latest byte for a cell
 // wins.
-pub fn latch_byte(bytes: &mut [u8; ROOM], marks: &mut [u8; ROOM], address: usize, byte: u8)
+pub fn latch_byte(bytes: &mut [u8; ROOM], marks: &mut [u64; WORDS], address: usize, byte: u8)
     ensures { λ _. ⌜ now (bytes .exit) ≡ set (now (bytes .entry)) (address % m95512 .page) byte ⌝ }
-    ensures { λ _. ⌜ now (marks .exit) ≡ set (now (marks .entry)) (address % m95512 .page) 1 ⌝ }
+    ensures { λ _. ⌜ now (marks .exit) ≡ markSet (address % m95512 .page) (now (marks .entry)) ⌝ }
 {
     let cell = cell_of(address);
+    let word = cell / WORD;
     bytes[cell] = byte;
-    marks[cell] = 1;
+    marks[word] = with_bit(marks[word], cell % WORD);
 }
 
 // The cell of its page that comes after an address: from the last one back to the first.
@@ -82,39 +96,4 @@ pub fn next_cell(address: usize) -> usize
     ensures { λ r. ⌜ r ≡ nextCell m95512 address ⌝ }
 {
     cell_of(cell_of(address) + 1)
-}
-
-// No mark and the byte 0, or a mark where there may be marks.
-fn cell_fits(may: bool, byte: u8, mark: u8) -> bool
-    ensures { λ r. ⌜ r ≡ (eqb mark 0 && eqb byte 0 || eqb mark 1 && may) ⌝ }
-{
-    (mark == 0) & (byte == 0) | (mark == 1) & may
-}
-
-// The loop has no branch: it runs at every public call.
-fn cells_fit<'a>(may: bool, bytes: &'a [u8; ROOM], marks: &'a [u8; ROOM]) -> bool
-    ensures { λ r. ⌜ r ≡ latchFits m95512 may (record { bytes = now (bytes .entry); marks = now (marks .entry) }) ⌝ }
-{
-    let mut fits = true;
-    for i in 0..PAGE {
-        fits = fits & cell_fits(may, bytes[i], marks[i]);
-    }
-    fits
-}
-
-fn laid_byte(byte: u8, mark: u8, old: u8) -> u8
-    ensures { λ r. ⌜ r ≡ pick (eqb mark 1) byte old ⌝ }
-{
-    if mark == 1 { byte } else { old }
-}
-
-// The marked bytes go into the page; its other cells stay.
-fn store_page<'a>(page: &mut [u8], bytes: &'a [u8; ROOM], marks: &'a [u8; ROOM])
-    requires { ⌜ length (now page) ≡ m95512 .page ⌝ }
-    ensures { λ _. ⌜ now (page .exit)
-        ≡ laid m95512 (record { bytes = now (bytes .entry); marks = now (marks .entry) }) (now (page .entry)) ⌝ }
-{
-    for i in 0..PAGE {
-        page[i] = laid_byte(bytes[i], marks[i], page[i]);
-    }
 }

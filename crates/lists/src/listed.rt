@@ -15,6 +15,7 @@ use events::are_events;
 use events::event_of;
 use latch::Latch;
 use latch::ROOM;
+use latch::WORDS;
 use latch::latch_byte;
 use pins::Device;
 use pins::Stepped;
@@ -112,13 +113,13 @@ fn play_all(device: Device, memory: &mut [u8], events: &[u64], out: &mut [u8]) -
             Way::Select { held } => {
                 front = front.without_frame(0, held);
                 bytes = [0; ROOM];
-                marks = [0; ROOM];
+                marks = [0; WORDS];
                 q = 2;
             }
             Way::Drop { wel } => {
                 front = front.without_frame(1, 0);
                 bytes = [0; ROOM];
-                marks = [0; ROOM];
+                marks = [0; WORDS];
                 core.wel = wel;
                 q = 2;
             }

@@ -19,6 +19,8 @@ use Rattle.pins.proofs.Device.q.Kinds as q
 use Rattle.pins.proofs.Device.q.Reads as q-reads
 use Rattle.pins.proofs.Device.status.Kinds as status
 use Rattle.pins.proofs.Device.status.Reads as status-reads
+use Rattle.pins.proofs.Device.cells_touched.Kinds as cells-touched
+use Rattle.pins.proofs.Device.cells_touched.Reads as cells-touched-reads
 use Rattle.pins.proofs.Device.in_ranges.Kinds as in-ranges
 use Rattle.pins.proofs.Device.in_ranges.Reads as in-ranges-reads
 use Rattle.pins.proofs.QAnswer.number.Kinds as qanswer-number
@@ -63,6 +65,9 @@ q-one κs a z z′ e e′ p q = same (p .0) (q .0)
 
 pub status-one : OneResult status.ps status.r status-reads.Post
 status-one κs a z z′ e e′ p q = same (p .0) (q .0)
+
+pub cells-touched-one : OneResult cells-touched.ps cells-touched.r cells-touched-reads.Post
+cells-touched-one κs a z z′ e e′ p q = same (p .0) (q .0)
 
 pub in-ranges-one : OneResult in-ranges.ps in-ranges.r in-ranges-reads.Post
 in-ranges-one κs a z z′ e e′ p q = same p q

@@ -5,13 +5,16 @@ ghost use Rattle.codes.specs.Part.{m95512};
 ghost use Rattle.chip.specs.Power.{powerUpNumber};
 ghost use Rattle.codes.specs.Refusals.{number};
 ghost use Rattle.chip.specs.Time.{timedMemory};
+ghost use Rattle.chip.specs.Touched.{cellsMarked, touchedAnswer, touchedChoice, touchedNumber, touchedValue};
 ghost use Rattle.codes.specs.declared.Outcome.the-variants.{Done, Refused};
+ghost use Rattle.pins.specs.Ranges.{deviceFits};
 ghost use Rattle.pins.specs.Events.{onS, onC, onD, onW, onHold, onTime};
 ghost use Rattle.pins.specs.Answers.{steppedTo, recordOutcome, memoryOutcome, recordNumber, memoryNumber, answer, answerMemory, qAnswer, qNumber, qValue, qAsked, statusAnswer, statusNumber, statusValue, statusAsked, powered};
 use crate::Device;
 use crate::QAnswer;
 use crate::StatusAnswer;
 use crate::Stepped;
+use chip::Touched;
 use codes::Outcome;
 use codes::Refusal;
 use codes::SIZE;
@@ -150,5 +153,18 @@ impl Device {
             return StatusAnswer::Byte(core.status());
         }
         StatusAnswer::Refused(Refusal::RecordRange)
+    }
+
+    // How many cells the running cycle will touch, 0 where no page waits. 2 for a device outside its ranges.
+    pub fn cells_touched(self) -> Touched
+        ensures { λ r. ⌜ r ≡ touchedAnswer m95512 (deviceFits m95512 self) (self .core) ⌝ }
+        ensures { λ r. ⌜ touchedNumber r ≡ touchedChoice (deviceFits m95512 self) 2 0 ⌝ }
+        ensures { λ r. ⌜ touchedValue r ≡ touchedChoice (deviceFits m95512 self) 0 (cellsMarked m95512 (self .core)) ⌝ }
+    {
+        let core = self.core;
+        if self.in_ranges() {
+            return Touched::Cells(core.touched());
+        }
+        Touched::Refused(Refusal::RecordRange)
     }
 }

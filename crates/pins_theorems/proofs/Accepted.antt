@@ -34,7 +34,7 @@ use Rattle.pins.specs.Devices.{withC, withPins, selected, counting}
 use Rattle.pins.specs.Ranges.{deviceFits}
 use Rattle.pins.specs.Events.{judgedNow, renewed, onS, onC, onD, onW, onHold, onTime, stepped, eventOf}
 use Rattle.pins.specs.Answers.{PinBench, afterEvent, played}
-use Rattle.pins_theorems.specs.Cells.{inFrame, writes, touched, dataFor}
+use Rattle.pins_theorems.specs.Cells.{inFrame, writes, writesAny, dataFor}
 use Rattle.pins_theorems.specs.Hands.{Hand, hand, noHand, bitTaken, handAfter, clockedIn, codeOf, startOf, dataCell, addressedBy, accepts, acceptedCell}
 use Rattle.pins_theorems.proofs.Parts.{FrameFits, Fits, parts}
 use Rattle.pins_theorems.proofs.Untouched.{taking-same, loading-same}
@@ -338,15 +338,15 @@ module _ (P : Part) (sound : Sound P) (i : ℕ) where
       (stepped-fits P sound x sized fits (b .memory) (eventOf e)) (event-clocked P sound i x h (parts P x fits) c (b .memory) (eventOf e))
 
   list-accepted : (es : List ℕ) (b : PinBench) (h : Hand) → Sized P (b .device) → deviceFits P (b .device) ≡ true → Clocked P i h (b .device .frame)
-      → acceptedCell P i es b h ≡ false → touched P i es b ≡ false
-  unfolding acceptedCell touched
+      → acceptedCell P i es b h ≡ false → writesAny P i es b ≡ false
+  unfolding acceptedCell writesAny
   list-accepted [] b h sized fits c none = refl
   list-accepted (e ∷ es) b h sized fits c none =
       let x = b .device in
       let t = parts P x fits in
       let g = handAfter (eventOf e) x h in
       let two = or-none-out (accepts P i (eventOf e) x h) (acceptedCell P i es (afterEvent P e b) g) none in
-      or-none-in (writes P i (eventOf e) x) (touched P i es (afterEvent P e b)) (unaccepted P sound i x h t c (eventOf e) (two .0))
+      or-none-in (writes P i (eventOf e) x) (writesAny P i es (afterEvent P e b)) (unaccepted P sound i x h t c (eventOf e) (two .0))
       (list-accepted es (afterEvent P e b) g (stepped-sized P x sized (b .memory) (eventOf e)) (stepped-fits P sound x sized fits (b .memory) (eventOf e))
       (event-clocked P sound i x h t c (b .memory) (eventOf e)) (two .1))
 

@@ -7,15 +7,14 @@ use Prim.Native.Nat.{ℕ, _+_, _-_, _*_, _/_, _%_, _<_, _≤_}
 use native.Mathlib.Nat.{add-zero, mod-lt, mul-add-div-right, div-eq-of-lt, div-add-mod'}
 use native.Mathlib.Omega.{arith}
 use lib.ListN.{length, getD}
-use lib.Seq.{getD-set-other}
 use lib.Dec.{eqb, leb, ltb}
 use borrow.Author.Tests.{leb-true, ltb-true, lt-leb, eqb-true, eq-eqb}
 use Rattle.laws.specs.Pick.{pick, pick-case, and-left, and-right, and-both, and-no-left, and-no-right}
 use Rattle.laws.specs.And.{and-other, and-rest, or-none-in, or-none-out, never}
-use Rattle.laws.specs.Each.{each-at}
+use Rattle.laws.specs.Marks.{mark-set-other}
 use Rattle.codes.specs.Part.{Part}
 use Rattle.codes.specs.Status.{bit, on}
-use Rattle.latch.specs.Latches.{inPage, marked, byteAt, noLatch, cellFits, latchFits, latched, nextCell}
+use Rattle.latch.specs.Latches.{inPage, marked, noLatch, latchFits, latched, nextCell}
 use Rattle.chip.specs.Records.{running}
 use Rattle.codes.specs.Instructions.{decode, isWrite}
 use Rattle.codes.specs.Verdicts.{isExecuted}
@@ -33,11 +32,12 @@ use Rattle.pins.specs.Devices.{withC, withPins, counting}
 use Rattle.edges.specs.Rising.{shiftedIn, latchByte, taking, wholeByte, risen}
 use Rattle.codes.specs.Output.{outputs}
 use Rattle.codes.proofs.Sound.{Sound}
+use Rattle.latch.proofs.Fitting.{unmarked}
 use Rattle.edges.specs.Falling.{loading, fallen}
 use Rattle.edges.specs.Ranges.{latches}
 use Rattle.pins.specs.Ranges.{deviceFits}
 use Rattle.pins.specs.Events.{judgedNow, renewed, onS, onC, onD, onW, onHold, onTime, stepped, eventOf}
-use Rattle.pins_theorems.specs.Cells.{inFrame, writes, touched, dataFor, takes, byteTaken}
+use Rattle.pins_theorems.specs.Cells.{inFrame, writes, writesAny, dataFor, takes, byteTaken}
 use Rattle.pins.specs.Answers.{PinBench, afterEvent, played}
 use Rattle.pins_theorems.proofs.Parts.{FrameFits, Fits, parts}
 use Rattle.pins_theorems.proofs.Edges.{no-latch-fits}
@@ -45,16 +45,6 @@ use Rattle.pins_theorems.proofs.Fits.{Sized, stepped-fits, stepped-size
 use Rattle.pins_theorems.proofs.CellRule.{untouched-cell}
 
 -- ---- a latch in which nothing may be marked
-
-no-mark : (a b c : Bool) → (a && b || c && false) ≡ true → a ≡ true
-no-mark true b c e = refl
-no-mark false b true e = e
-no-mark false b false e = e
-
-unmarked : (P : Part) (l : Latch) (k : ℕ) → latchFits P false l ≡ true → k < P .page → marked l k ≡ false
-unmarked P l k e h =
-    let zero : getD (l .marks) k 0 ≡ 0 = eqb-true _ _ (no-mark (eqb (getD (l .marks) k 0) 0) (eqb (byteAt l k) 0) (eqb (getD (l .marks) k 0) 1) (each-at (cellFits false l) (P .page) k e h)) in
-    ap on zero
 
 in-offset : (P : Part) (p i : ℕ) → inPage P p i ≡ true → (i - p * P .page < P .page) × (p * P .page ≤ i)
 in-offset P p i e =
@@ -90,7 +80,7 @@ module _ (P : Part) (i : ℕ) where
       same q =
           let from : p * P .page ≤ i = in-offset P p i q .1 in
           let whole : p * P .page + f .address % P .page ≡ f .address = div-add-mod' (f .address) (P .page) in
-          ap on (getD-set-other (f .latch .marks) (f .address % P .page) (i - p * P .page) 1 0 (λ k. other (omega arith)))
+          mark-set-other (f .latch .marks) (f .address % P .page) (i - p * P .page) (λ k. other (omega arith))
 
       go : (b : Bool) → inPage P p i ≡ b → (inPage P p i && marked l (i - p * P .page)) ≡ false
       go true q = ap (λ (m : Bool). inPage P p i && m) (same q) ∙ e
@@ -196,14 +186,14 @@ module _ (P : Part) (sound : Sound P) (i : ℕ) (x : Device) (t : Fits P x) (h :
 
 module _ (P : Part) (sound : Sound P) (i : ℕ) where
   unaddressed : (es : List ℕ) (b : PinBench) → Sized P (b .device) → deviceFits P (b .device) ≡ true → inFrame P (b .device .frame) i ≡ false
-      → byteTaken P i es b ≡ false → touched P i es b ≡ false
-  unfolding byteTaken touched
+      → byteTaken P i es b ≡ false → writesAny P i es b ≡ false
+  unfolding byteTaken writesAny
   unaddressed [] b sized fits h none = refl
   unaddressed (e ∷ es) b sized fits h none =
       let x = b .device in
       let t = parts P x fits in
       let two = or-none-out (takes P i (eventOf e) x) (byteTaken P i es (afterEvent P e b)) none in
-      or-none-in (writes P i (eventOf e) x) (touched P i es (afterEvent P e b)) (unwritten P sound i x t h (eventOf e))
+      or-none-in (writes P i (eventOf e) x) (writesAny P i es (afterEvent P e b)) (unwritten P sound i x t h (eventOf e))
       (unaddressed es (afterEvent P e b) (stepped-sized P x sized (b .memory) (eventOf e)) (stepped-fits P sound x sized fits (b .memory) (eventOf e))
       (event-frame P sound i x t h (b .memory) (eventOf e) (two .0)) (two .1))
 

@@ -28,7 +28,7 @@ use Rattle.pins.specs.declared.Event.the-variants.{S, C, D, W, Hold, Time}
 use Rattle.pins.specs.Devices.{withC, withPins, counting}
 use Rattle.pins.specs.Ranges.{deviceFits}
 use Rattle.pins.specs.Events.{judgedNow, decided, renewed, onS, onC, onD, onW, onHold, onTime, stepped, steppedMemory, eventOf}
-use Rattle.pins_theorems.specs.Cells.{endsCycle, inFrame, writes, touched}
+use Rattle.pins_theorems.specs.Cells.{endsCycle, inFrame, writes, writesAny}
 use Rattle.pins.specs.Answers.{PinBench, afterEvent, played}
 use Rattle.pins_theorems.proofs.Parts.{parts}
 use Rattle.pins_theorems.proofs.Fits.{Sized, stepped-fits, stepped-sized}
@@ -117,13 +117,13 @@ module _ (P : Part) (x : Device) (i : ℕ) (a : awaited P (x .core) i ≡ false)
 
 module _ (P : Part) (sound : Sound P) (i : ℕ) (h : i < P .size) where
   pub untouched-cell : (es : List ℕ) (b : PinBench) → length (b .memory) ≡ P .size → Sized P (b .device) → deviceFits P (b .device) ≡ true
-      → awaited P (b .device .core) i ≡ false → touched P i es b ≡ false → getD (played P es b .memory) i 0 ≡ getD (b .memory) i 0
-  unfolding played touched
+      → awaited P (b .device .core) i ≡ false → writesAny P i es b ≡ false → getD (played P es b .memory) i 0 ≡ getD (b .memory) i 0
+  unfolding played writesAny
   untouched-cell [] b size sized fits a t = refl
   untouched-cell (e ∷ es) b size sized fits a t =
       let x = b .device in
       let m = b .memory in
-      let none = or-none-out (writes P i (eventOf e) x) (touched P i es (afterEvent P e b)) t in
+      let none = or-none-out (writes P i (eventOf e) x) (writesAny P i es (afterEvent P e b)) t in
       untouched-cell es (afterEvent P e b) (event-length P x m (eventOf e) ∙ size) (stepped-sized P x sized m (eventOf e))
       (stepped-fits P sound x sized fits m (eventOf e)) (event-awaits P x i a m (eventOf e) (none .0)) (none .1)
       ∙ unawaited-stays P x m size (parts P x fits .core) i h (eventOf e) a

@@ -11,16 +11,15 @@ use lib.Dec.{eqb, leb, ltb}
 use borrow.Author.Tests.{le-leb, leb-true, ltb-true, eq-eqb, eqb-true, eqb-false, ne-eqb}
 use Rattle.laws.specs.Pick.{pick, at-yes, at-no, pick-case, and-left, and-right, and-both}
 use Rattle.laws.specs.And.{or-right}
-use Rattle.codes.specs.Part.{Part}
+use Rattle.codes.specs.Part.{Part, words}
 use Rattle.codes.specs.Status.{bit, on}
-use Rattle.chip.specs.Records.{nothing, status}
+use Rattle.chip.specs.Records.{status}
 use Rattle.codes.specs.Instructions.{decode}
 use Rattle.latch.specs.Latches.{latchFits, noLatch}
 use Rattle.chip.specs.declared.Core.{Core}
 use Rattle.codes.specs.declared.Instruction.{Instruction}
 use Rattle.codes.specs.declared.Instruction.the-variants.{Wren, Wrdi, Rdsr, Wrsr, Read, Write, Silence}
-use Rattle.chip.specs.Ranges.{valueFits, pageFits}
-use Rattle.chip.proofs.Within.{nothing-fits}
+use Rattle.latch.proofs.Fitting.{none-latched}
 use Rattle.edges.specs.declared.Frame.{Frame}
 use Rattle.edges.specs.Frames.{noFrame, withBits, withByte, withCode, withOut}
 use Rattle.edges.specs.Rising.{shiftedIn, taking, wholeByte, risen}
@@ -28,7 +27,7 @@ use Rattle.codes.specs.Output.{outputs}
 use Rattle.edges.specs.Falling.{loading, fallen}
 use Rattle.edges.specs.Ranges.{valued, latches, codeFits}
 use Rattle.pins_theorems.proofs.Parts.{FieldsFit, FrameFits}
-use Rattle.codes.proofs.Bits.{bit-small}
+use Rattle.laws.specs.Flags.{bit-small}
 use Rattle.codes.proofs.Sound.{Sound}
 use Rattle.pins_theorems.proofs.Untouched.{taking-same, loading-same}
 use Rattle.pins_theorems.proofs.Fields.{latch-more, address-some, whole-bounded, taking-fits}
@@ -40,7 +39,7 @@ unfolding decode pick
 no-code P = refl
 
 pub no-latch-fits : (P : Part) → latchFits P false (noLatch P) ≡ true
-no-latch-fits P = and-right (valueFits (nothing P) && pageFits P (nothing P)) (latchFits P false (noLatch P)) (nothing-fits P)
+no-latch-fits P = none-latched P false
 
 pub empty-frame : (P : Part) → FrameFits P (noFrame P)
 unfolding pick
@@ -89,7 +88,7 @@ module _ (P : Part) (sound : Sound P) (f : Frame) (v : ℕ) (byte : v < 256) (t 
             };
       }
 
-  later-fits : length (f .latch .marks) ≡ P .page → (f .taken ≡ 0 → ⊥) → FrameFits P (taking P (decode P (f .code)) (f .taken) v (withByte P f))
+  later-fits : length (f .latch .marks) ≡ words P → (f .taken ≡ 0 → ⊥) → FrameFits P (taking P (decode P (f .code)) (f .taken) v (withByte P f))
   later-fits sized z =
       let most : P .addressBytes + 2 ≤ P .most = sound .counted in
       let i = decode P (f .code) in
@@ -109,14 +108,14 @@ module _ (P : Part) (sound : Sound P) (f : Frame) (v : ℕ) (byte : v < 256) (t 
         fields = subst (λ (j : Instruction). FieldsFit P j g) (ap (decode P) (sym c)) (taking-fits P sound f v (omega arith) (t .taken) sized i (t .fields));
       }
 
-  byte-fits : (run : Bool) → length (f .latch .marks) ≡ P .page → FrameFits P (wholeByte P run v f)
+  byte-fits : (run : Bool) → length (f .latch .marks) ≡ words P → FrameFits P (wholeByte P run v f)
   unfolding wholeByte
   byte-fits run sized =
       pick-case (FrameFits P) (eqb (f .taken) 0) (λ e. first-fits run (eqb-true _ _ e)) (λ e. later-fits sized (eqb-false _ _ e))
 
 -- ---- the rising edge
 
-module _ (P : Part) (sound : Sound P) (run : Bool) (d : ℕ) (f : Frame) (sized : length (f .latch .marks) ≡ P .page) (t : FrameFits P f) where
+module _ (P : Part) (sound : Sound P) (run : Bool) (d : ℕ) (f : Frame) (sized : length (f .latch .marks) ≡ words P) (t : FrameFits P f) where
   bit-fits : f .bits < 7 → FrameFits P (withBits (f .bits + 1) (shiftedIn (f .part) d) f)
   bit-fits h =
       let old : f .part < 2 ^ f .bits = t .part in

@@ -10,13 +10,13 @@ use lib.Dec.{eqb, leb, ltb}
 use borrow.Author.Tests.{le-leb, leb-true, leb-false, lt-ltb, ltb-true, eq-eqb, eqb-true}
 use Rattle.laws.specs.Pick.{pick, pick-case, and-left, and-right, and-both}
 use Rattle.laws.specs.And.{or-left, or-more}
-use Rattle.codes.specs.Part.{Part}
+use Rattle.codes.specs.Part.{Part, words}
 use Rattle.codes.specs.Status.{on}
 use Rattle.latch.specs.Latches.{latched, nextCell, latchFits}
 use Rattle.latch.specs.declared.Latch.{Latch}
 use Rattle.codes.specs.declared.Instruction.{Instruction}
 use Rattle.codes.specs.declared.Instruction.the-variants.{Wren, Wrdi, Rdsr, Wrsr, Read, Write, Silence}
-use Rattle.latch.proofs.Fitting.{more-fits, one-latched}
+use Rattle.latch.proofs.Fitting.{more-fits, cell-word, one-latched}
 use Rattle.edges.specs.declared.Frame.{Frame}
 use Rattle.edges.specs.Frames.{withByte, withValue, withAddress}
 use Rattle.edges.specs.Rising.{latchByte, taking}
@@ -165,7 +165,7 @@ module _ (P : Part) (sound : Sound P) (f : Frame) (v : ℕ) (one : 1 ≤ f .take
       record { address = t .address; value = or-left (leb 2 next) (eqb v 0) (le-leb 2 next (omega arith)); out = up-out Wrsr t; latch = up-latch Wrsr t }
 
   -- a data byte of WRITE
-  latch-fits : length (f .latch .marks) ≡ P .page → P .addressBytes < f .taken → FieldsFit P Write f → FieldsFit P Write (latchByte P v (withByte P f))
+  latch-fits : length (f .latch .marks) ≡ words P → P .addressBytes < f .taken → FieldsFit P Write f → FieldsFit P Write (latchByte P v (withByte P f))
   latch-fits sized k t =
       let most : P .addressBytes + 2 ≤ P .most = sound .counted in
       let below : f .address < P .size = bounded-below P (f .taken) (f .address) (t .address) in
@@ -177,10 +177,11 @@ module _ (P : Part) (sound : Sound P) (f : Frame) (v : ℕ) (one : 1 ≤ f .take
         out = up-out Write t;
         latch =
             ap (λ (may : Bool). latchFits P may (latched (f .address % P .page) v (f .latch))) there
-            ∙ one-latched P (f .address % P .page) v (f .latch) (omega arith) (more-fits P (latches P Write (f .taken)) (f .latch) (t .latch));
+            ∙ one-latched P (f .address % P .page) v (f .latch) (rw sized (cell-word P sound (f .address % P .page) cell))
+            (more-fits P (latches P Write (f .taken)) (f .latch) (t .latch));
       }
 
-  pub taking-fits : length (f .latch .marks) ≡ P .page → (i : Instruction) → FieldsFit P i f → FieldsFit P i (taking P i (f .taken) v (withByte P f))
+  pub taking-fits : length (f .latch .marks) ≡ words P → (i : Instruction) → FieldsFit P i f → FieldsFit P i (taking P i (f .taken) v (withByte P f))
   taking-fits sized Wren t = at-address Wren (f .address) (t .address) t
   taking-fits sized Wrdi t = at-address Wrdi (f .address) (t .address) t
   taking-fits sized Rdsr t = at-address Rdsr (f .address) (t .address) t

@@ -2,14 +2,14 @@
 use mathlib.Core.Path.{_≡_, refl, ap, sym, _∙_}
 use mathlib.Core.List.{List, [], _∷_}
 use mathlib.Core.Bool.{Bool, true, not, _&&_, true≢false}
-use Prim.Native.Nat.{ℕ, _+_, _-_, _%_, _≤_}
+use Prim.Native.Nat.{ℕ, _+_, _-_, _/_, _%_, _≤_}
 use native.Mathlib.Omega.{arith}
 use lib.ListN.{length, length-set, length-replicate}
 use lib.Dec.{eqb, leb, ltb}
 use borrow.Author.Tests.{le-leb, lt-ltb, ltb-true, eq-eqb}
 use Rattle.laws.specs.Pick.{pick, at-yes, pick-case, and-left}
 use Rattle.laws.specs.And.{and-5-out, and-5-in, or-left}
-use Rattle.codes.specs.Part.{Part}
+use Rattle.codes.specs.Part.{Part, words}
 use Rattle.codes.specs.Status.{bit, on}
 use Rattle.latch.specs.Latches.{zeros}
 use Rattle.chip.specs.Records.{running}
@@ -38,7 +38,7 @@ use Rattle.pins.specs.Ranges.{pinsFit, heldFits, ranFits, deviceFits}
 use Rattle.pins.specs.Events.{selecting, deselecting, renewed, raising, lowering, onS, onC, onD, onW, onHold, onTime, stepped, eventOf}
 use Rattle.pins.specs.Answers.{PinBench, answer, afterEvent, played, powered}
 use Rattle.pins_theorems.proofs.Parts.{Fits, parts, device-fits}
-use Rattle.codes.proofs.Bits.{bit-small}
+use Rattle.laws.specs.Flags.{on-bit, bit-small}
 use Rattle.codes.proofs.Sound.{Sound}
 use Rattle.pins_theorems.proofs.Held.{hold-small, low-or-high, renewed-fits, held-small}
 use Rattle.pins_theorems.proofs.Untouched.{taking-same, loading-same}
@@ -65,9 +65,6 @@ module _ (p : Pins) (v : ℕ) (small : v ≤ 1) (fits : pinsFit p ≡ true) wher
 
   hold-set : pinsFit (withHold v p) ≡ true
   hold-set = and-5-in (leb (p .s) 1) (leb (p .c) 1) (leb (p .d) 1) (leb (p .w) 1) (leb v 1) (levels .0) (levels .1 .0) (levels .1 .1 .0) (levels .1 .1 .1 .0) (le-leb _ _ small)
-
-on-bit : (b : Bool) → b ≡ true → on (bit b) ≡ true
-on-bit b e = rw e refl
 
 -- a cycle that runs after a reading ran before it
 ran-before : (P : Part) (r : ℕ) (c : Core) → running (timed P r c) ≡ true → running c ≡ true
@@ -159,7 +156,7 @@ module _ (P : Part) (sound : Sound P) (x : Device) (t : Fits P x) where
       let g : Frame = taking P (decode P (f .code)) (f .taken) v (withByte P f) in
       let kept : Frame → Type 0 = λ g. ranFits (withFrame g x) ≡ true in
       pick-case kept (ltb (f .bits) 7) (λ e. t .ran)
-      (λ e. pick-case kept (eqb (f .taken) 0) (λ z. tie-in (eqb (withByte P f .taken) 0) run (on (bit run)) (λ n r. on-bit run r))
+      (λ e. pick-case kept (eqb (f .taken) 0) (λ z. tie-in (eqb (withByte P f .taken) 0) run (on (bit run)) (λ n r. on-bit run ∙ r))
       (λ z. tie-in (eqb (g .taken) 0) run (on (g .ran))
       (λ n r. ap (λ (g : Frame). on (g .ran)) (taking-same P (f .taken) v (withByte P f) (decode P (f .code)))
       ∙ tie-out (eqb (f .taken) 0) run (on (f .ran)) (t .ran) z r)))
@@ -174,7 +171,7 @@ module _ (P : Part) (sound : Sound P) (x : Device) (t : Fits P x) where
       (λ e. ap (λ (g : Frame). ranFits (withFrame g x)) (loading-same P m (x .core) f (decode P (f .code))) ∙ t .ran))
       (λ o. t .ran)
 
-  up-fits : length (x .frame .latch .marks) ≡ P .page → Fits P (raising P x)
+  up-fits : length (x .frame .latch .marks) ≡ words P → Fits P (raising P x)
   up-fits sized =
       let p = c-set (x .pins) 1 (omega arith) (t .pins) in
       pick-case (λ (y : Device). Fits P (withPins (withC 1 (x .pins)) y)) (counting x)
@@ -203,7 +200,7 @@ module _ (P : Part) (sound : Sound P) (x : Device) (t : Fits P x) where
       })
       (λ k. record { pins = p; held = h; frame = t .frame; empty = t .empty; ran = t .ran; core = t .core })
 
-  c-fits : (m : List ℕ) (level : Bool) → length (x .frame .latch .marks) ≡ P .page → Fits P (onC P level m x)
+  c-fits : (m : List ℕ) (level : Bool) → length (x .frame .latch .marks) ≡ words P → Fits P (onC P level m x)
   unfolding onC
   c-fits m level sized =
       pick-case (Fits P) (eqb (x .pins .c) (bit level)) (λ e. t) (λ e. pick-case (Fits P) level (λ l. up-fits sized) (λ l. down-fits m))
@@ -225,7 +222,7 @@ module _ (P : Part) (sound : Sound P) (x : Device) (t : Fits P x) where
         core = timed-within P r (x .core) (t .core);
       }
 
-  event-fits : (m : List ℕ) → length (x .frame .latch .marks) ≡ P .page → (e : Event) → Fits P (stepped P m e x)
+  event-fits : (m : List ℕ) → length (x .frame .latch .marks) ≡ words P → (e : Event) → Fits P (stepped P m e x)
   event-fits m sized (S level) = s-fits level
   event-fits m sized (C level) = c-fits m level sized
   event-fits m sized (D level) = d-fits level
@@ -236,14 +233,14 @@ module _ (P : Part) (sound : Sound P) (x : Device) (t : Fits P x) where
 -- ---- the length of the latch, which a record of lists does not carry
 
 abbrev pub Sized : Part → Device → Type 0
-Sized P x = length (x .frame .latch .marks) ≡ P .page
+Sized P x = length (x .frame .latch .marks) ≡ words P
 
 abbrev marks : Frame → ℕ
 marks f = length (f .latch .marks)
 
-empty-sized : (P : Part) → marks (noFrame P) ≡ P .page
+empty-sized : (P : Part) → marks (noFrame P) ≡ words P
 unfolding zeros
-empty-sized P = length-replicate (P .page) 0
+empty-sized P = length-replicate {A = ℕ} (words P) 0
 
 taking-sized : (P : Part) (n v : ℕ) (f : Frame) (i : Instruction) → marks (taking P i n v f) ≡ marks f
 taking-sized P n v f Wren = refl
@@ -252,7 +249,7 @@ taking-sized P n v f Rdsr = refl
 taking-sized P n v f Wrsr = pick-case (λ (g : Frame). marks g ≡ marks f) (eqb n 1) (λ e. refl) (λ e. refl)
 taking-sized P n v f Read = pick-case (λ (g : Frame). marks g ≡ marks f) (leb n (P .addressBytes)) (λ e. refl) (λ e. refl)
 taking-sized P n v f Write =
-    pick-case (λ (g : Frame). marks g ≡ marks f) (leb n (P .addressBytes)) (λ e. refl) (λ e. length-set (f .latch .marks) (f .address % P .page) 1)
+    pick-case (λ (g : Frame). marks g ≡ marks f) (leb n (P .addressBytes)) (λ e. refl) (λ e. length-set (f .latch .marks) (f .address % P .page / 64) _)
 taking-sized P n v f Silence = refl
 
 risen-sized : (P : Part) (run : Bool) (d : ℕ) (f : Frame) → marks (risen P run d f) ≡ marks f

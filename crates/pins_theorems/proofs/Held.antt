@@ -8,7 +8,7 @@ use borrow.Author.Tests.{le-leb, leb-true, eq-eqb, eqb-true, eqb-false}
 use Rattle.laws.specs.Pick.{at-yes, at-no, pick-case}
 use Rattle.laws.specs.And.{and-5-out}
 use Rattle.codes.specs.Status.{bit, on}
-use Rattle.codes.proofs.Bits.{bit-small}
+use Rattle.laws.specs.Flags.{bit-small}
 use Rattle.pins.specs.declared.Pins.{Pins}
 use Rattle.pins.specs.Ranges.{pinsFit, heldFits}
 

@@ -44,9 +44,9 @@ writes P i (Hold level) x = false
 writes P i (Time t) x = false
 
 -- .. at some event of a list
-unfoldable pub touched : Part → ℕ → List ℕ → PinBench → Bool
-touched P i [] b = false
-touched P i (e ∷ es) b = writes P i (eventOf e) (b .device) || touched P i es (afterEvent P e b)
+unfoldable pub writesAny : Part → ℕ → List ℕ → PinBench → Bool
+writesAny P i [] b = false
+writesAny P i (e ∷ es) b = writes P i (eventOf e) (b .device) || writesAny P i es (afterEvent P e b)
 
 -- the next whole byte of the frame is a data byte of a WRITE, for cell i
 abbrev pub dataFor : Part → ℕ → Frame → Bool

@@ -4,7 +4,7 @@ ghost use mathlib.Core.Bool.{true};
 ghost use Prim.Native.Nat.{_+_, _*_, _<_, _≤_};
 ghost use lib.ListN.{length};
 ghost use lib.Dec.{leb};
-ghost use Rattle.codes.specs.Part.{m95512};
+ghost use Rattle.codes.specs.Part.{m95512, words};
 ghost use Rattle.pins.specs.Answers.{played, pinBench};
 ghost use Rattle.events.specs.Events.{areEvents};
 ghost use Rattle.lists.specs.Answers.{playedQ};
@@ -27,7 +27,7 @@ use printing::put_header;
 
 // An array has its length by its type; the proofs ask for that of the latch's marks.
 fn marked(device: Device) -> bool
-    ensures { λ _. ⌜ length (device .frame .latch .marks) ≡ m95512 .page ⌝ }
+    ensures { λ _. ⌜ length (device .frame .latch .marks) ≡ words m95512 ⌝ }
 {
     true
 }

@@ -1,4 +1,4 @@
-use Rattle.codes.proofs.Bits.{byte-bit}
+use Rattle.laws.specs.Flags.{byte-bit}
 use borrow.Author.Needs.{needs}
 use Rattle.chip.proofs.Core.idle.Statement.{statement}
 use Rattle.chip.proofs.Core.idle.Tie as tie

@@ -1,4 +1,4 @@
-use Rattle.codes.proofs.Bits.{masked-bit}
+use Rattle.laws.specs.Bits.{masked-bit}
 use Rattle.codes.proofs.status.bp0_of.Statement.{statement}
 use Rattle.codes.proofs.status.bp0_of.Tie as tie
 

@@ -25,10 +25,10 @@ poll-on-requires c κs = search needs
 
 and-sent-requires : tie.Need-and-sent-requires
 and-sent-requires c κs =
-    let a = c .before .before .before .before .before .before .before .args in
+    let a = c .before .before .before .before .before .before .args in
     let wait = c .before .before .poll-on in
     let d : FrameBench = frameBench (a .core) (a .memory .now) in
-    let most = c .before .before .before .before .before .before .before .pre .1 .1 in
+    let most = c .before .before .before .before .before .before .pre .1 .1 in
     omega (arith, wait .ensures .1 .1 .0, sent-most m95512 (a .interval) (a .limit - 1) d)
 
 same-length : tie.Need-same-length
@@ -36,7 +36,7 @@ same-length c = search needs
 
 returns : tie.Need-returns
 returns c =
-    let a = c .before .before .before .before .before .before .before .before .args in
+    let a = c .before .before .before .before .before .before .before .args in
     let wait = c .before .before .before .poll-on in
     let d : FrameBench = frameBench (a .core) (a .memory .now) in
     told m95512 _ d _ d 1 (first-wait m95512 (a .interval) (a .limit) d d refl) (wait .result) (c .and-sent .result) (wait .last .1 .1 .0) (wait .ensures) (c .and-sent .ensures)

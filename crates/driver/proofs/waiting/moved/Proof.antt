@@ -1,40 +1,73 @@
-use mathlib.Core.Path.{ap, _∙_}
-use Prim.Native.Nat.{ℕ}
-use Rattle.chip.specs.Time.{timed, timedMemory}
+-- A reading that ends the cycle is the record's own step; any other leaves a little less of it.
+use mathlib.Core.Path.{_≡_, ap, sym, _∙_}
+use mathlib.Core.Bool.{false, _&&_}
+use Prim.Native.Nat.{ℕ, _-_}
+use lib.Dec.{leb}
 use Rattle.codes.specs.Part.{m95512}
-use Rattle.chip.specs.declared.Timed.{Timed}
-use Rattle.frames.specs.Play.{FrameBench, frameBench}
-use Rattle.driver.proofs.Frames.{reading-core, reading-memory}
+use Rattle.chip.specs.Records.{running, withTime}
+use Rattle.chip.specs.Time.{ends, timed, timedMemory}
+use Rattle.chip.proofs.Passing.{on-core, no-end}
 use borrow.Author.Needs.{needs}
 use Rattle.driver.proofs.waiting.moved.Statement.{statement}
 use Rattle.driver.proofs.waiting.moved.Tie as tie
-use Rattle.driver.proofs.waiting.moved.Reads as reads
-use Rattle.driver.proofs.waiting.moved.Lts as lts
-use Rattle.chip.proofs.clock_reading.Reads as clock-reading-reads
-use Rattle.std.proofs.num.wrapping_add_u32.Reads as wrapping-add-u32-reads
 
 wrapping-add-u32-requires : tie.Need-wrapping-add-u32-requires
 wrapping-add-u32-requires c κs = search needs
 
-clock-reading-requires : tie.Need-clock-reading-requires
-clock-reading-requires c κs = search needs
+elapsed-requires : tie.Need-elapsed-requires
+elapsed-requires c κs = search needs
+
+ends-requires : tie.Need-ends-requires
+ends-requires c κs = search needs
+
+timed-requires : tie.Need-timed-requires
+timed-requires c κs = search needs
 
 same-length : tie.Need-same-length
 same-length c = search needs
 
 returns : tie.Need-returns
 returns c =
-    let start = c .before .before .before .before .before .before .before in
+    let a = c .before .before .before .before .before .before .before .before .before .args in
+    let added = c .before .before .before .before .before .before .before .wrapping-add-u32 in
+    let step = c .before .before .timed .ensures in (
+      step .0 ∙ ap (λ (n : ℕ). timed m95512 n (a .core)) (added .ensures),
+      step .1 ∙ ap (λ (n : ℕ). timedMemory m95512 n (a .core) (a .memory .now)) (added .ensures),
+    )
+
+left-after-requires : tie.Need-left-after-requires
+left-after-requires c κs = search needs
+
+with-time-requires : tie.Need-with-time-requires
+with-time-requires c κs = search needs
+
+returns-2 : tie.Need-returns-2
+returns-2 c =
+    let a = c .before .before .before .before .before .before .before .args in
     let added = c .before .before .before .before .before .wrapping-add-u32 in
+    let passed = c .before .before .before .before .elapsed .ensures in
     let t = added .result in
-    let clock = c .before .before .before .clock-reading in
-    let d : FrameBench = frameBench (start .args .core) (start .args .memory .now) in
-    let core = ap (λ (x : Timed). x .core) (clock .ensures .0) ∙ reading-core m95512 (d .core) (d .memory) t (start .pre .0) (start .pre .1) in
-    let memory = clock .ensures .1 .1 ∙ reading-memory m95512 (d .core) (d .memory) t (start .pre .0) (start .pre .1) in (
-      core ∙ ap (λ (n : ℕ). timed m95512 n (d .core)) (added .ensures),
-      memory ∙ ap (λ (n : ℕ). timedMemory m95512 n (d .core) (d .memory)) (added .ensures),
+    let on : ends t (a .core) ≡ false =
+    ap (λ (n : ℕ). running (a .core) && leb (a .core .left) n) (sym passed) ∙ sym (c .before .before .before .ends .ensures) ∙ c .before .before .if1 .left in
+    let left = c .before .left-after .ensures ∙ ap (λ (n : ℕ). a .core .left - n) passed in (
+      c .with-time .ensures
+          ∙ ap (λ (n : ℕ). withTime t n (a .core)) left
+          ∙ sym (on-core m95512 t (a .core) on)
+          ∙ ap (λ (n : ℕ). timed m95512 n (a .core)) (added .ensures),
+      sym (no-end m95512 t (a .core) (a .memory .now) on)
+          ∙ ap (λ (n : ℕ). timedMemory m95512 n (a .core) (a .memory .now)) (added .ensures),
     )
 
 pub moved-spec : {M : Type 1} → statement M
 moved-spec =
-    tie.close (tie.spec wrapping-add-u32-requires clock-reading-requires same-length returns)
+    tie.close
+    (tie.spec
+    wrapping-add-u32-requires
+    elapsed-requires
+    ends-requires
+    timed-requires
+    same-length
+    returns
+    left-after-requires
+    with-time-requires
+    returns-2)

@@ -25,33 +25,27 @@ moved-requires : tie.Need-moved-requires
 moved-requires c κs = search needs
 
 poll-requires : tie.Need-poll-requires
-poll-requires c κs =
-    let start = c .before .before .before .before .before .before in
-    let a = start .args in
-    let next = c .before .before .before .moved in
-    let d : FrameBench = frameBench (a .core) (a .memory .now) in
-    let ready = ready-acted-all m95512 m95512-sound (moved (a .interval) d ∷ []) d (record { whole = start .pre .0; ranges = start .pre .1 .0 }) in
-    (ap length (next .ensures .1) ∙ ready .whole, ap (inRanges m95512) (next .ensures .0) ∙ ready .ranges)
+poll-requires c κs = search needs
 
 sub-poll-on : tie.Need-sub-poll-on
 sub-poll-on c = search needs
 
 poll-on-requires : tie.Need-poll-on-requires
 poll-on-requires c κs =
-    let start = c .before .before .before .before .before .before .before .before in
+    let start = c .before .before .before .before .before .before .before in
     let a = start .args in
-    let next = c .before .before .before .before .before .moved in
+    let next = c .before .before .before .before .moved in
     let d : FrameBench = frameBench (a .core) (a .memory .now) in
     let ready = ready-acted-all m95512 m95512-sound (moved (a .interval) d ∷ []) d (record { whole = start .pre .0; ranges = start .pre .1 .0 }) in
     (ap length (next .ensures .1) ∙ ready .whole, (ap (inRanges m95512) (next .ensures .0) ∙ ready .ranges, c .before .poll .ensures))
 
 and-sent-requires : tie.Need-and-sent-requires
 and-sent-requires c κs =
-    let a = c .before .before .before .before .before .before .before .before .before .before .before .args in
-    let next = c .before .before .before .before .before .before .before .before .moved in
+    let a = c .before .before .before .before .before .before .before .before .before .before .args in
+    let next = c .before .before .before .before .before .before .before .moved in
     let wait = c .before .before .poll-on in
     let x : FrameBench = frameBench (next .result) (next .last .1 .0) in
-    let most = c .before .before .before .before .before .before .before .before .before .before .before .pre .1 .1 in
+    let most = c .before .before .before .before .before .before .before .before .before .before .pre .1 .1 in
     omega (arith, wait .ensures .1 .1 .0, sent-most m95512 (a .interval) (a .limit - 1) x)
 
 same-length : tie.Need-same-length
@@ -59,8 +53,8 @@ same-length c = search needs
 
 returns : tie.Need-returns
 returns c =
-    let a = c .before .before .before .before .before .before .before .before .before .before .before .before .args in
-    let next = c .before .before .before .before .before .before .before .before .before .moved in
+    let a = c .before .before .before .before .before .before .before .before .before .before .before .args in
+    let next = c .before .before .before .before .before .before .before .before .moved in
     let wait = c .before .before .before .poll-on in
     let d : FrameBench = frameBench (a .core) (a .memory .now) in
     let x : FrameBench = frameBench (next .result) (next .last .1 .0) in

@@ -1,10 +1,15 @@
 use mathlib.Core.Path.{_≡_, ap, sym, subst, _∙_}
+use mathlib.Core.Logic.{⊎-elim}
 use mathlib.Core.List.{[], _∷_}
-use Prim.Native.Nat.{_-_, _≤_}
+use Prim.Native.Nat.{ℕ, _-_, _≤_}
+use mathlib.Core.Bool.{false, _&&_}
+use lib.Dec.{leb}
 use native.Mathlib.Omega.{arith}
 use lib.ListN.{length}
 use Rattle.codes.specs.Part.{m95512}
-use Rattle.chip.specs.Records.{status}
+use Rattle.chip.specs.Records.{status, running, withTime}
+use Rattle.chip.specs.Time.{ends, timed, timedMemory}
+use Rattle.chip.proofs.Passing.{on-core, no-end}
 use Rattle.chip.specs.Ranges.{inRanges}
 use Rattle.codes.proofs.Sound.{m95512-sound}
 use Rattle.frames.specs.Play.{FrameBench, acted, frameBench}
@@ -12,12 +17,9 @@ use Rattle.driver.specs.Sequence.{moved}
 use Rattle.driver.proofs.Ready.{Ready, bench-of, ready-acted-all}
 use Rattle.driver.proofs.Joined.{late-poll-leaves}
 use Rattle.driver.proofs.Waits.{goes-on, is-over, Onward, onward-first, onward-next, onward-last}
+use borrow.Author.Needs.{needs}
 use Rattle.driver.proofs.waiting.poll_on.Statement.{statement}
 use Rattle.driver.proofs.waiting.poll_on.Tie as tie
-use Rattle.driver.proofs.waiting.poll_on.Reads as reads
-use Rattle.driver.proofs.waiting.poll_on.Lts as lts
-use Rattle.driver.proofs.sending.poll.Reads as poll-reads
-use Rattle.driver.proofs.waiting.moved.Reads as moved-reads
 
 abbrev Inv-loop : tie.InvT-loop
 Inv-loop seen memory₀ interval left core₀ status₀ polls₀ memory core seen-now polls =
@@ -33,47 +35,65 @@ loop-holds c =
     let start = c .before in
     (omega arith, (start .pre .1 .1, (record { whole = start .pre .0; ranges = start .pre .1 .0 }, onward-first m95512 _ _ _)))
 
-moved-requires : tie.Need-moved-requires Inv-loop μ-loop
-moved-requires c κs =
-    let inv = c .before .before .loop .inv in
-    (inv .1 .1 .0 .whole, inv .1 .1 .0 .ranges)
+wrapping-add-u32-requires : tie.Need-wrapping-add-u32-requires Inv-loop μ-loop
+wrapping-add-u32-requires c κs = search needs
+
+elapsed-requires : tie.Need-elapsed-requires Inv-loop μ-loop
+elapsed-requires c κs = search needs
+
+ends-requires : tie.Need-ends-requires Inv-loop μ-loop
+ends-requires c κs = search needs
+
+timed-requires : tie.Need-timed-requires Inv-loop μ-loop
+timed-requires c κs = search needs
+
+left-after-requires : tie.Need-left-after-requires Inv-loop μ-loop
+left-after-requires c κs = search needs
 
 poll-requires : tie.Need-poll-requires Inv-loop μ-loop
-poll-requires c κs =
-    let l = c .before .before .before .before .before .before .loop in
-    let a = c .before .before .before .before .before .before .before .before .args in
-    let next = c .before .before .before .moved in
-    let d : FrameBench = frameBench (l .core) (l .memory) in
-    let ready = ready-acted-all m95512 m95512-sound (moved (a .interval) d ∷ []) d (l .inv .1 .1 .0) in
-    (ap length (next .ensures .1) ∙ ready .whole, ap (inRanges m95512) (next .ensures .0) ∙ ready .ranges)
+poll-requires c κs = search needs
 
 add-polls : tie.Need-add-polls Inv-loop μ-loop
 add-polls c =
-    let l = c .before .before .before .before .before .before .before .loop in
-    let start = c .before .before .before .before .before .before .before .before .before in
+    let l = c .before .before .before .before .before .before .loop in
+    let start = c .before .before .before .before .before .before .before .before in
     let a = start .args in
-    let on = goes-on (l .polls) (a .left) (l .status) (l .core) (l .inv .1 .0) (c .before .before .before .before .before .before .loop-test .taken) in
+    let on = goes-on (l .polls) (a .left) (l .status) (l .core) (l .inv .1 .0) (c .before .before .before .before .before .loop-test .taken) in
     let most = start .good in
     omega (arith, on .0)
 
 loop-less : tie.Need-loop-less Inv-loop μ-loop
 loop-less c =
-    let l = c .before .before .before .before .before .before .before .loop in
-    let start = c .before .before .before .before .before .before .before .before .before in
+    let l = c .before .before .before .before .before .before .loop in
+    let start = c .before .before .before .before .before .before .before .before in
     let a = start .args in
-    let on = goes-on (l .polls) (a .left) (l .status) (l .core) (l .inv .1 .0) (c .before .before .before .before .before .before .loop-test .taken) in
+    let on = goes-on (l .polls) (a .left) (l .status) (l .core) (l .inv .1 .0) (c .before .before .before .before .before .loop-test .taken) in
     omega (arith, on .0)
 
 loop-again : tie.Need-loop-again Inv-loop μ-loop
 loop-again c =
-    let l = c .before .before .before .before .before .before .before .loop in
-    let start = c .before .before .before .before .before .before .before .before .before in
+    let l = c .before .before .before .before .before .before .loop in
+    let start = c .before .before .before .before .before .before .before .before in
     let a = start .args in
-    let on = goes-on (l .polls) (a .left) (l .status) (l .core) (l .inv .1 .0) (c .before .before .before .before .before .before .loop-test .taken) in
-    let next = c .before .before .before .before .moved in
+    let on = goes-on (l .polls) (a .left) (l .status) (l .core) (l .inv .1 .0) (c .before .before .before .before .before .loop-test .taken) in
     let d : FrameBench = frameBench (l .core) (l .memory) in
-    let x : FrameBench = frameBench (next .result) (next .last .1 .0) in
-    let e : x ≡ acted m95512 (moved (a .interval) d) d = bench-of (acted m95512 (moved (a .interval) d) d) (next .ensures .0) (next .ensures .1) in
+    let x : FrameBench = frameBench (c .before .if1 .core) (c .before .if1 .memory) in
+    let added = c .before .before .before .before .wrapping-add-u32 in
+    let t = added .result in
+    let passed = c .before .before .before .elapsed .ensures in
+    let step = ap (λ (n : ℕ). timed m95512 n (l .core)) (added .ensures) in
+    let kept = ap (λ (n : ℕ). timedMemory m95512 n (l .core) (l .memory)) (added .ensures) in
+    let e : x ≡ acted m95512 (moved (a .interval) d) d =
+    ⊎-elim
+    (λ w. bench-of (acted m95512 (moved (a .interval) d) d) (w .6 ∙ w .2 .ensures .0 ∙ step) (w .5 ∙ w .2 .ensures .1 ∙ kept))
+    (λ w.
+    let on : ends t (l .core) ≡ false =
+    ap (λ (n : ℕ). running (l .core) && leb (l .core .left) n) (sym passed) ∙ sym (c .before .before .ends .ensures) ∙ w .0 .left in
+    let rest = w .1 .ensures ∙ ap (λ (n : ℕ). l .core .left - n) passed in
+    bench-of (acted m95512 (moved (a .interval) d) d)
+    (w .3 ∙ ap (λ (n : ℕ). withTime t n (l .core)) rest ∙ sym (on-core m95512 t (l .core) on) ∙ step)
+    (w .2 ∙ sym (no-end m95512 t (l .core) (l .memory) on) ∙ kept))
+    (c .before .if1 .came) in
     let ready : Ready m95512 x =
     subst (Ready m95512) (sym e) (ready-acted-all m95512 m95512-sound (moved (a .interval) d ∷ []) d (l .inv .1 .1 .0)) in
     let rest =
@@ -101,7 +121,11 @@ poll-on-spec =
     Inv-loop
     μ-loop
     loop-holds
-    moved-requires
+    wrapping-add-u32-requires
+    elapsed-requires
+    ends-requires
+    timed-requires
+    left-after-requires
     poll-requires
     add-polls
     loop-less

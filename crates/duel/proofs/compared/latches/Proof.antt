@@ -5,10 +5,10 @@ use Rattle.duel.proofs.compared.latches.Statement.{statement}
 use Rattle.duel.proofs.compared.latches.Tie as tie
 
 abbrev Inv-loop : tie.InvT-loop
-Inv-loop run₀ frame_side pin_side i₀ t7 t8 run i = i ≤ 128
+Inv-loop run₀ frame-side pin-side i₀ t7 run i = i ≤ 128
 
 abbrev μ-loop : tie.MeasureT-loop
-μ-loop run₀ frame_side pin_side i₀ t7 t8 run i = 128 - i
+μ-loop run₀ frame-side pin-side i₀ t7 run i = 128 - i
 
 loop-holds : tie.Need-loop-holds Inv-loop μ-loop
 loop-holds c = search needs
@@ -25,18 +25,6 @@ element-copy-out-same-at-2 c = search needs
 same-at-requires : tie.Need-same-at-requires Inv-loop μ-loop
 same-at-requires c κs = search needs
 
-slice-aggregate-same-at-2 : tie.Need-slice-aggregate-same-at-2 Inv-loop μ-loop
-slice-aggregate-same-at-2 c = search needs
-
-element-copy-out-same-at-3 : tie.Need-element-copy-out-same-at-3 Inv-loop μ-loop
-element-copy-out-same-at-3 c = search needs
-
-element-copy-out-same-at-4 : tie.Need-element-copy-out-same-at-4 Inv-loop μ-loop
-element-copy-out-same-at-4 c = search needs
-
-same-at-requires-2 : tie.Need-same-at-requires-2 Inv-loop μ-loop
-same-at-requires-2 c κs = search needs
-
 add-i : tie.Need-add-i Inv-loop μ-loop
 add-i c = search needs
 
@@ -45,6 +33,24 @@ loop-less c = search needs
 
 loop-again : tie.Need-loop-again Inv-loop μ-loop
 loop-again c = search needs
+
+element-copy-out-word : tie.Need-element-copy-out-word Inv-loop μ-loop
+element-copy-out-word c = search needs
+
+element-copy-out-word-2 : tie.Need-element-copy-out-word-2 Inv-loop μ-loop
+element-copy-out-word-2 c = search needs
+
+word-requires : tie.Need-word-requires Inv-loop μ-loop
+word-requires c κs = search needs
+
+element-copy-out-word-3 : tie.Need-element-copy-out-word-3 Inv-loop μ-loop
+element-copy-out-word-3 c = search needs
+
+element-copy-out-word-4 : tie.Need-element-copy-out-word-4 Inv-loop μ-loop
+element-copy-out-word-4 c = search needs
+
+word-requires-2 : tie.Need-word-requires-2 Inv-loop μ-loop
+word-requires-2 c κs = search needs
 
 returns : tie.Need-returns Inv-loop μ-loop
 returns c = search needs
@@ -60,11 +66,13 @@ latches-spec =
     element-copy-out-same-at
     element-copy-out-same-at-2
     same-at-requires
-    slice-aggregate-same-at-2
-    element-copy-out-same-at-3
-    element-copy-out-same-at-4
-    same-at-requires-2
     add-i
     loop-less
     loop-again
+    element-copy-out-word
+    element-copy-out-word-2
+    word-requires
+    element-copy-out-word-3
+    element-copy-out-word-4
+    word-requires-2
     returns)

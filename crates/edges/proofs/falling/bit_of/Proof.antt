@@ -1,4 +1,4 @@
-use Rattle.codes.proofs.Bits.{masked-bit}
+use Rattle.laws.specs.Bits.{masked-bit}
 use borrow.Author.Needs.{needs}
 use Rattle.edges.proofs.falling.bit_of.Statement.{statement}
 use Rattle.edges.proofs.falling.bit_of.Tie as tie

@@ -6,7 +6,7 @@ use native.Mathlib.Omega.{arith}
 use lib.ListN.{length, take, drop, length-drop}
 use lib.Seq.{length-take-le}
 use Rattle.codes.specs.Part.{m95512}
-use Rattle.latch.specs.Latches.{zeros, noLatch}
+use Rattle.latch.specs.Latches.{zeros}
 use Rattle.fields.proofs.Latching.{latched-runs}
 use borrow.Author.Needs.{needs}
 use Rattle.fields.proofs.fields.latch_all.Statement.{statement}
@@ -39,9 +39,6 @@ add-turn c = search needs
 slice-aggregate-latch-run : tie.Need-slice-aggregate-latch-run
 slice-aggregate-latch-run c = search needs
 
-slice-aggregate-latch-run-2 : tie.Need-slice-aggregate-latch-run-2
-slice-aggregate-latch-run-2 c = search needs
-
 sub-latch-run : tie.Need-sub-latch-run
 sub-latch-run c = search needs
 
@@ -54,11 +51,8 @@ part-latch-run-end c = search needs
 latch-run-requires : tie.Need-latch-run-requires
 latch-run-requires c κs = search needs
 
-slice-aggregate-latch-run-3 : tie.Need-slice-aggregate-latch-run-3
-slice-aggregate-latch-run-3 c = search needs
-
-slice-aggregate-latch-run-4 : tie.Need-slice-aggregate-latch-run-4
-slice-aggregate-latch-run-4 c = search needs
+slice-aggregate-latch-run-2 : tie.Need-slice-aggregate-latch-run-2
+slice-aggregate-latch-run-2 c = search needs
 
 sub-latch-run-2 : tie.Need-sub-latch-run-2
 sub-latch-run-2 c = search needs
@@ -72,10 +66,19 @@ part-latch-run-end-2 c = search needs
 latch-run-requires-2 : tie.Need-latch-run-requires-2
 latch-run-requires-2 c κs = search needs
 
+add-run-marks : tie.Need-add-run-marks
+add-run-marks c = search needs
+
+sub-run-marks : tie.Need-sub-run-marks
+sub-run-marks c = search needs
+
+run-marks-requires : tie.Need-run-marks-requires
+run-marks-requires c κs = search needs
+
 returns : tie.Need-returns
 unfolding zeros
 returns c =
-    let d = c .before .before .before .before .before .before .before .before .before .before .before .before in
+    let d = c .before .before .before .before .before .before .before .before .before in
     let a = d .before .before .before .before .before .args in
     let vs = a .values .now in
     let n = length vs in
@@ -90,10 +93,10 @@ returns c =
     let fits : (a .address % 128 + i) % 128 + f ≤ 128 = omega arith in
     let turn : 0 < h → (a .address % 128 + i) % 128 + f ≡ 128 = λ q. omega arith in
     let full : 0 < i → f + h ≡ 128 = λ q. omega arith in
-    let one = c .before .before .before .before .before .before .before .before .latch-run .ensures in
+    let one = c .before .before .before .before .before .before .latch-run .ensures in
     let two = c .before .before .latch-run2 .ensures in
-    rw (two .0, two .1, one .0, one .1, add-sub-cancel-left i f, first, second, start)
-    (sym (latched-runs m95512 (a .address % 128) vs (noLatch m95512) i f h refl refl all fits turn (omega arith) full))
+    rw (c .run-marks .ensures, two, one, add-sub-cancel-left i f, first, second, start)
+    (sym (latched-runs m95512 (a .address % 128) vs i f h all fits turn (omega arith) full refl (omega arith)))
 
 pub latch-all-spec : {M : Type 1} → statement M
 latch-all-spec =
@@ -108,15 +111,16 @@ latch-all-spec =
     at-most-requires-2
     add-turn
     slice-aggregate-latch-run
-    slice-aggregate-latch-run-2
     sub-latch-run
     part-latch-run-start
     part-latch-run-end
     latch-run-requires
-    slice-aggregate-latch-run-3
-    slice-aggregate-latch-run-4
+    slice-aggregate-latch-run-2
     sub-latch-run-2
     part-latch-run-start-2
     part-latch-run-end-2
     latch-run-requires-2
+    add-run-marks
+    sub-run-marks
+    run-marks-requires
     returns)

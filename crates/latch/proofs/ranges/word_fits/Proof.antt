@@ -2,26 +2,26 @@
 use Prim.Native.Nat.{_≤_, _-_}
 use mathlib.Core.Path.{_≡_, sym}
 use native.Mathlib.Nat.{le-antisymm}
-use Rattle.laws.specs.Each.{each, each-none, each-more}
-use Rattle.latch.specs.Latches.{cellFits}
+use Rattle.laws.specs.Each.{each-none, each-more}
+use Rattle.latch.specs.Words.{wordFits}
 use borrow.Author.Needs.{needs}
-use Rattle.latch.proofs.pages.cells_fit.Statement.{statement}
-use Rattle.latch.proofs.pages.cells_fit.Tie as tie
+use Rattle.latch.proofs.ranges.word_fits.Statement.{statement}
+use Rattle.latch.proofs.ranges.word_fits.Tie as tie
 
 abbrev Inv-loop : tie.InvT-loop
-Inv-loop may bytes marks fits₀ i₀ fits i = (i ≤ 128) × (fits ≡ each (cellFits may (record { bytes = bytes; marks = marks })) i)
+Inv-loop may bytes start word fits₀ i₀ fits i = (i ≤ 64) × (fits ≡ wordFits may bytes start word i)
 
 abbrev μ-loop : tie.MeasureT-loop
-μ-loop may bytes marks fits₀ i₀ fits i = 128 - i
+μ-loop may bytes start word fits₀ i₀ fits i = 64 - i
 
 loop-holds : tie.Need-loop-holds Inv-loop μ-loop
 loop-holds c = (search needs, sym (each-none _))
 
+add-cell-fits : tie.Need-add-cell-fits Inv-loop μ-loop
+add-cell-fits c = search needs
+
 element-copy-out-cell-fits : tie.Need-element-copy-out-cell-fits Inv-loop μ-loop
 element-copy-out-cell-fits c = search needs
-
-element-copy-out-cell-fits-2 : tie.Need-element-copy-out-cell-fits-2 Inv-loop μ-loop
-element-copy-out-cell-fits-2 c = search needs
 
 cell-fits-requires : tie.Need-cell-fits-requires Inv-loop μ-loop
 cell-fits-requires c κs = search needs
@@ -33,22 +33,12 @@ loop-less : tie.Need-loop-less Inv-loop μ-loop
 loop-less c = search needs
 
 loop-again : tie.Need-loop-again Inv-loop μ-loop
-loop-again c = (search needs, rw (each-more _ _, c .cell-fits .ensures, c .before .before .before .before .loop .inv .1))
+loop-again c = (search needs, rw (each-more _ _, c .cell-fits .ensures, c .before .before .before .loop .inv .1))
 
 returns : tie.Need-returns Inv-loop μ-loop
 returns c = rw (← (le-antisymm (c .before .loop .inv .0) (c .loop-test .left))) (c .before .loop .inv .1)
 
-pub cells-fit-spec : {M : Type 1} → statement M
-cells-fit-spec =
+pub word-fits-spec : {M : Type 1} → statement M
+word-fits-spec =
     tie.close
-    (tie.spec
-    Inv-loop
-    μ-loop
-    loop-holds
-    element-copy-out-cell-fits
-    element-copy-out-cell-fits-2
-    cell-fits-requires
-    add-i
-    loop-less
-    loop-again
-    returns)
+    (tie.spec Inv-loop μ-loop loop-holds add-cell-fits element-copy-out-cell-fits cell-fits-requires add-i loop-less loop-again returns)

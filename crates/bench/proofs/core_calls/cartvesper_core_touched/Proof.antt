@@ -1,0 +1,19 @@
+use borrow.Author.Needs.{needs}
+use Rattle.bench.proofs.core_calls.cartvesper_core_touched.Statement.{statement}
+use Rattle.bench.proofs.core_calls.cartvesper_core_touched.Tie as tie
+
+cells-touched-requires : tie.Need-cells-touched-requires
+cells-touched-requires c κs = search needs
+
+number-requires : tie.Need-number-requires
+number-requires c κs = search needs
+
+value-requires : tie.Need-value-requires
+value-requires c κs = search needs
+
+returns : tie.Need-returns
+returns c = rw (c .before .number .ensures, c .value .ensures, c .before .before .cells-touched .ensures .1 .0, c .before .before .cells-touched .ensures .1 .1)
+
+pub cartvesper-core-touched-spec : {M : Type 1} → statement M
+cartvesper-core-touched-spec =
+    tie.close (tie.spec cells-touched-requires number-requires value-requires returns)

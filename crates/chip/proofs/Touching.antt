@@ -1,0 +1,35 @@
+-- How many cells a cycle will touch: an answer with its number and its value; and 0 where no page waits.
+use Prim.Native.Nat.{ℕ}
+use mathlib.Core.Path.{_≡_, refl, ap, _∙_, sym}
+use mathlib.Core.Bool.{Bool, true, false, _&&_}
+use Rattle.laws.specs.Pick.{pick, yes-so, no-so, and-right}
+use Rattle.codes.specs.Part.{Part}
+use Rattle.codes.specs.declared.Refusal.the-variants.{RecordRange}
+use Rattle.latch.specs.Latches.{latchFits}
+use Rattle.latch.proofs.Fitting.{none-counted}
+use Rattle.chip.specs.Records.{waitsPage}
+use Rattle.chip.specs.Ranges.{inRanges, valueFits, pageFits}
+use Rattle.chip.specs.Touched.{cellsTouched, cellsMarked, touchedChoice, touchedAnswer, touchedNumber, touchedValue}
+use Rattle.chip.specs.declared.Core.{Core}
+use Rattle.chip.specs.declared.Touched.{Touched}
+use Rattle.chip.specs.declared.Touched.the-variants.{Cells, Refused}
+use Rattle.chip.proofs.Within.{within}
+
+-- what the call of a record or a device promises of its answer
+abbrev pub TouchedSo : Part → Bool → Core → Touched → Type 0
+TouchedSo P fits c r =
+    (r ≡ touchedAnswer P fits c)
+    × ((touchedNumber r ≡ touchedChoice fits 2 0) × (touchedValue r ≡ touchedChoice fits 0 (cellsMarked P c)))
+
+module _ (P : Part) (fits : Bool) (c : Core) where
+  pub touched-counted : (n : ℕ) → fits ≡ true → (n ≡ cellsTouched P c) × (n ≡ cellsMarked P c) → TouchedSo P fits c (Cells n)
+  touched-counted n h e = (yes-so _ h (ap Cells (e .0)), (yes-so _ h refl, yes-so _ h (e .1)))
+
+  pub touched-refused : fits ≡ false → TouchedSo P fits c (Refused RecordRange)
+  touched-refused h = (no-so _ h refl, (no-so _ h refl, no-so _ h refl))
+
+-- 0 where no page waits
+pub none-touched : (P : Part) (c : Core) → inRanges P c ≡ true → waitsPage (c .waits) ≡ false → cellsMarked P c ≡ 0
+none-touched P c ranges h =
+    let latch = and-right (valueFits (c .waits) && pageFits P (c .waits)) (latchFits P (waitsPage (c .waits)) (c .waits .latch)) (within P c ranges .waits) in
+    none-counted P (c .waits .latch) (sym (ap (λ (may : Bool). latchFits P may (c .waits .latch)) h) ∙ latch)
