@@ -58,9 +58,11 @@ module _ (P : Part) (m : List ℕ) (core : Core) (f : Frame) (o : outputs P (dec
   next-cell v a e i ev ea = yes-so _ o (no-so _ e (read-cell v a ev ea ∙ sym (ap (λ (j : Instruction). loading P m core j f) i)))
 
   -- the status byte
-  pub status-byte : (leb 1 (f .shown) && ltb (f .shown) 8) ≡ false → decode P (f .code) ≡ Rdsr → withOut (status core) 1 f ≡ fallen P m core f
+  pub status-byte : (v : ℕ) → (leb 1 (f .shown) && ltb (f .shown) 8) ≡ false → decode P (f .code) ≡ Rdsr → v ≡ status core
+      → withAddress (f .address) (withOut v 1 f) ≡ fallen P m core f
   unfolding fallen
-  status-byte e i = yes-so _ o (no-so _ e (sym (ap (λ (j : Instruction). loading P m core j f) i)))
+  status-byte v e i ev =
+      yes-so _ o (no-so _ e (ap (λ (k : ℕ). withOut k 1 f) ev ∙ sym (ap (λ (j : Instruction). loading P m core j f) i)))
 
 -- ---- the device
 

@@ -8,7 +8,7 @@ use Rattle.codes.specs.Part.{Part}
 use Rattle.latch.specs.declared.Latch.{Latch}
 use Rattle.latch.specs.Latches.{latched}
 use Rattle.chip.specs.declared.Core.{Core}
-use Rattle.chip.specs.Records.{running, status, withTime, withWel}
+use Rattle.chip.specs.Records.{running, withTime, withWel}
 use Rattle.edges.specs.declared.Frame.{Frame}
 use Rattle.edges.specs.Frames.{noFrame, withBits, withCode, withValue, withOut, withAddress, withLatch}
 use Rattle.pins.specs.declared.Device.{Device}
@@ -17,7 +17,8 @@ use Rattle.pins.specs.Devices.{withS, withC, withD, withW, withHold, withHeldAt
 use Rattle.pins.specs.Events.{stepped, steppedMemory}
 use Rattle.lists.specs.declared.Front.{Front}
 use Rattle.lists.specs.declared.Way.{Way}
-use Rattle.lists.specs.declared.Way.the-variants.{Data, Set, Rise, Code, Byte, Latched, Fall, Status, Select, Drop, Pass, Whole}
+use Rattle.lists.specs.declared.Way.the-variants.{Data, Set, Rise, Code, Byte, Latched}
+use Rattle.lists.specs.declared.Way.the-variants.{Fall, Select, Drop, Pass, Whole}
 
 -- ---- the front: all but the bytes it latches and the core
 
@@ -99,7 +100,6 @@ isWhole (Code n v) = false
 isWhole (Byte n v a) = false
 isWhole (Latched n v a) = false
 isWhole (Fall held v n a) = false
-isWhole (Status held) = false
 isWhole (Select held) = false
 isWhole (Drop wel) = false
 isWhole (Pass t n) = false
@@ -116,8 +116,6 @@ afterWay P m e (Latched n v a) x =
     risenTo (withAddress a (withLatch (latched (x .frame .address % P .page) v (x .frame .latch)) (byteTaken n (x .frame)))) x
 afterWay P m e (Fall held v n a) x =
     withHeldAt held (withPins (withC 0 (x .pins)) (withFrame (withAddress a (withOut v n (x .frame))) x))
-afterWay P m e (Status held) x =
-    withHeldAt held (withPins (withC 0 (x .pins)) (withFrame (withOut (status (x .core)) 1 (x .frame)) x))
 afterWay P m e (Select held) x = withoutFrame P 0 held x
 afterWay P m e (Drop wel) x = withoutFrame P 1 0 (withCore (withWel wel (x .core)) x)
 afterWay P m e (Pass t n) x = withCore (withTime t n (x .core)) x

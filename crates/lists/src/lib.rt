@@ -57,15 +57,12 @@ pub(crate) enum Way {
         byte: u8,
         address: u32,
     },
-    // C falls: a bit, or the next byte of a READ; the status byte
+    // C falls: the same bit, the next one, or the next byte
     Fall {
         held: u8,
         out: u8,
         shown: u8,
         address: u32,
-    },
-    Status {
-        held: u8,
     },
     // S falls; S rises, and at most WEL moves
     Select {

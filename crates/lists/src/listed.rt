@@ -102,14 +102,6 @@ fn play_all(device: Device, memory: &mut [u8], events: &[u64], out: &mut [u8]) -
                 front.address = address;
                 q = front.q();
             }
-            Way::Status { held } => {
-                let status = core.status();
-                front.c = 0;
-                front.held = held;
-                front.out = status;
-                front.shown = 1;
-                q = front.q();
-            }
             Way::Select { held } => {
                 front = front.without_frame(0, held);
                 bytes = [0; ROOM];

@@ -190,10 +190,10 @@ fn polls(i: Instruction) -> bool
 
 impl Front {
     // A falling edge: the same bit, the next bit, or the next byte of a READ or an RDSR.
-    fn falling(self, memory: &[u8]) -> Way
+    fn falling(self, memory: &[u8], core: Core) -> Way
         requires { ⌜ (self .c ≡ 0 → ⊥) ⌝ }
-        ensures { λ r. ⌜ ((l : Latch) (k : Core) → afterWay m95512 (now (memory .entry)) (C false) r (whole self l k)
-            ≡ onC m95512 false (now (memory .entry)) (whole self l k)) ⌝ }
+        ensures { λ r. ⌜ ((l : Latch) → afterWay m95512 (now (memory .entry)) (C false) r (whole self l core)
+            ≡ onC m95512 false (now (memory .entry)) (whole self l core)) ⌝ }
     {
         let counted = !(self.s == 1) & !(self.held == 1);
         let i = codes::decode(self.code);
@@ -202,10 +202,11 @@ impl Front {
         let shown = self.shown;
         if counted & drives {
             if (1 <= shown) & (shown < 8) {
+                let next = shown + 1;
                 return Way::Fall {
                     held: held,
                     out: self.out,
-                    shown: shown + 1,
+                    shown: next,
                     address: self.address,
                 };
             }
@@ -220,7 +221,13 @@ impl Front {
                 };
             }
             if polls(i) {
-                return Way::Status { held: held };
+                let status = core.status();
+                return Way::Fall {
+                    held: held,
+                    out: status,
+                    shown: 1,
+                    address: self.address,
+                };
             }
             return Way::Whole;
         }
@@ -232,9 +239,9 @@ impl Front {
         }
     }
 
-    fn clocked(self, level: bool, memory: &[u8]) -> Way
-        ensures { λ r. ⌜ ((l : Latch) (k : Core) → afterWay m95512 (now (memory .entry)) (C level) r (whole self l k)
-            ≡ onC m95512 level (now (memory .entry)) (whole self l k)) ⌝ }
+    fn clocked(self, level: bool, memory: &[u8], core: Core) -> Way
+        ensures { λ r. ⌜ ((l : Latch) → afterWay m95512 (now (memory .entry)) (C level) r (whole self l core)
+            ≡ onC m95512 level (now (memory .entry)) (whole self l core)) ⌝ }
     {
         if self.c == bit(level) {
             return Way::Whole;
@@ -242,7 +249,7 @@ impl Front {
         if level {
             return self.rising();
         }
-        self.falling(memory)
+        self.falling(memory, core)
     }
 }
 
@@ -351,7 +358,7 @@ impl Front {
     {
         match event {
             Event::S(level) => self.selecting(level, core),
-            Event::C(level) => self.clocked(level, memory),
+            Event::C(level) => self.clocked(level, memory, core),
             Event::D(level) => Way::Data(bit(level)),
             Event::W(level) => {
                 let w = bit(level);

@@ -25,8 +25,8 @@ outputs-requires c κs = search needs
 bit-requires : tie.Need-bit-requires
 bit-requires c κs = search needs
 
-add-t18 : tie.Need-add-t18
-add-t18 c =
+add-next : tie.Need-add-next
+add-next c =
     let s = c .before .before .before .before .before .before .before .before .before .before .before .args .self in
     let small : s .shown < 8 = ltb-true (s .shown) 8 (and-right (leb 1 (s .shown)) (ltb (s .shown) 8) (c .if2 .taken)) in
     omega arith
@@ -37,12 +37,13 @@ returns c =
     let at = b .before .before .before .before .before .before .before .before .before in
     let s = at .args .self in
     let m = at .args .memory .now in
+    let k = at .args .core in
     let drives = b .before .before .before .outputs .result in
     let o : outputs m95512 (decode m95512 (s .code)) (s .taken) (on (s .ran)) ≡ drives =
     sym (b .before .before .before .outputs .ensures ∙ ap (λ i. outputs m95512 i (s .taken) (on (s .ran))) (b .before .before .before .before .before .decode .ensures)) in
     let counted = not (on (s .s)) && not (on (s .held)) in
     let both = c .before .if1 .taken in
-    λ l k. down-counted m95512 m (whole s l k) _ _ (at .pre) (b .bit .ensures) (and-left counted drives both)
+    λ l. down-counted m95512 m (whole s l k) _ _ (at .pre) (b .bit .ensures) (and-left counted drives both)
     (next-bit m95512 m k (whole s l k .frame) (o ∙ and-right counted drives both) (c .if2 .taken))
 
 reads-requires : tie.Need-reads-requires
@@ -60,32 +61,38 @@ returns-2 c =
     let at = b .before .before .before .before .before .before .before .before .before in
     let s = at .args .self in
     let m = at .args .memory .now in
+    let k = at .args .core in
     let drives = b .before .before .before .outputs .result in
     let o : outputs m95512 (decode m95512 (s .code)) (s .taken) (on (s .ran)) ≡ drives =
     sym (b .before .before .before .outputs .ensures ∙ ap (λ i. outputs m95512 i (s .taken) (on (s .ran))) (b .before .before .before .before .before .decode .ensures)) in
     let counted = not (on (s .s)) && not (on (s .held)) in
     let both = c .before .before .before .before .before .if1 .taken in
     let read = sym (b .before .before .before .before .before .decode .ensures) ∙ c .before .before .before .reads .ensures (c .before .before .if3 .taken) in
-    λ l k. down-counted m95512 m (whole s l k) _ _ (at .pre) (b .bit .ensures) (and-left counted drives both)
+    λ l. down-counted m95512 m (whole s l k) _ _ (at .pre) (b .bit .ensures) (and-left counted drives both)
     (next-cell m95512 m k (whole s l k .frame) (o ∙ and-right counted drives both) _ _ (c .before .before .before .before .if2 .left) read (c .before .cell .ensures) (c .one-up .ensures))
 
 polls-requires : tie.Need-polls-requires
 polls-requires c κs = search needs
 
+status-requires : tie.Need-status-requires
+status-requires c κs = search needs
+
 returns-3 : tie.Need-returns-3
 returns-3 c =
-    let b = c .before .before .before .before .before .before in
+    let b = c .before .before .before .before .before .before .before in
     let at = b .before .before .before .before .before .before .before .before .before in
     let s = at .args .self in
     let m = at .args .memory .now in
+    let k = at .args .core in
     let drives = b .before .before .before .outputs .result in
     let o : outputs m95512 (decode m95512 (s .code)) (s .taken) (on (s .ran)) ≡ drives =
     sym (b .before .before .before .outputs .ensures ∙ ap (λ i. outputs m95512 i (s .taken) (on (s .ran))) (b .before .before .before .before .before .decode .ensures)) in
     let counted = not (on (s .s)) && not (on (s .held)) in
-    let both = c .before .before .before .before .before .if1 .taken in
-    let asks = sym (b .before .before .before .before .before .decode .ensures) ∙ c .before .polls .ensures (c .if4 .taken) in
-    λ l k. down-counted m95512 m (whole s l k) _ _ (at .pre) (b .bit .ensures) (and-left counted drives both)
-    (status-byte m95512 m k (whole s l k .frame) (o ∙ and-right counted drives both) (c .before .before .before .before .if2 .left) asks)
+    let both = c .before .before .before .before .before .before .if1 .taken in
+    let asks = sym (b .before .before .before .before .before .decode .ensures) ∙ c .before .before .polls .ensures (c .before .if4 .taken) in
+    let fresh = c .before .before .before .before .before .if2 .left in
+    λ l. down-counted m95512 m (whole s l k) _ _ (at .pre) (b .bit .ensures) (and-left counted drives both)
+    (status-byte m95512 m k (whole s l k .frame) (o ∙ and-right counted drives both) _ fresh asks (c .status .ensures))
 
 returns-4 : tie.Need-returns-4
 returns-4 c = search needs
@@ -96,10 +103,11 @@ returns-5 c =
     let at = b .before .before .before .before .before .before .before .before .before in
     let s = at .args .self in
     let m = at .args .memory .now in
+    let k = at .args .core in
     let drives = b .before .before .before .outputs .result in
     let o : outputs m95512 (decode m95512 (s .code)) (s .taken) (on (s .ran)) ≡ drives =
     sym (b .before .before .before .outputs .ensures ∙ ap (λ i. outputs m95512 i (s .taken) (on (s .ran))) (b .before .before .before .before .before .decode .ensures)) in
-    λ l k. down m95512 m (whole s l k) _ (whole s l k) (at .pre) (b .bit .ensures) (still m95512 m k (whole s l k) drives o (c .if1 .left))
+    λ l. down m95512 m (whole s l k) _ (whole s l k) (at .pre) (b .bit .ensures) (still m95512 m k (whole s l k) drives o (c .if1 .left))
 
 pub falling-spec : {M : Type 1} → statement M
 falling-spec =
@@ -108,13 +116,14 @@ falling-spec =
     decode-requires
     outputs-requires
     bit-requires
-    add-t18
+    add-next
     returns
     reads-requires
     cell-requires
     one-up-requires
     returns-2
     polls-requires
+    status-requires
     returns-3
     returns-4
     returns-5)

@@ -48,7 +48,7 @@ returns c =
 returns-2 : tie.Need-returns-2
 returns-2 c =
     let e = c .before .before .event2 .given .1 in
-    (λ l. rw e (c .clocked .ensures l _), λ l m. rw e (pick-same _ m))
+    (λ l. rw e (c .clocked .ensures l), λ l m. rw e (pick-same _ m))
 
 returns-3 : tie.Need-returns-3
 unfolding onD

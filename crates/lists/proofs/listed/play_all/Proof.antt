@@ -102,26 +102,17 @@ q-requires-3 c κs = search needs
 enum-known-way-8 : tie.Need-enum-known-way-8 Inv-loop μ-loop
 enum-known-way-8 c = search needs
 
-status-requires : tie.Need-status-requires Inv-loop μ-loop
-status-requires c κs = search needs
-
-q-requires-4 : tie.Need-q-requires-4 Inv-loop μ-loop
-q-requires-4 c κs = search needs
+without-frame-requires : tie.Need-without-frame-requires Inv-loop μ-loop
+without-frame-requires c κs = search needs
 
 enum-known-way-9 : tie.Need-enum-known-way-9 Inv-loop μ-loop
 enum-known-way-9 c = search needs
 
-without-frame-requires : tie.Need-without-frame-requires Inv-loop μ-loop
-without-frame-requires c κs = search needs
-
-enum-known-way-10 : tie.Need-enum-known-way-10 Inv-loop μ-loop
-enum-known-way-10 c = search needs
-
 without-frame-requires-2 : tie.Need-without-frame-requires-2 Inv-loop μ-loop
 without-frame-requires-2 c κs = search needs
 
-enum-known-way-11 : tie.Need-enum-known-way-11 Inv-loop μ-loop
-enum-known-way-11 c = search needs
+enum-known-way-10 : tie.Need-enum-known-way-10 Inv-loop μ-loop
+enum-known-way-10 c = search needs
 
 enum-told : tie.Need-enum-told Inv-loop μ-loop
 enum-told c = search needs
@@ -135,8 +126,8 @@ stepped-requires c κs = search needs
 front-of-requires-2 : tie.Need-front-of-requires-2 Inv-loop μ-loop
 front-of-requires-2 c κs = search needs
 
-q-requires-5 : tie.Need-q-requires-5 Inv-loop μ-loop
-q-requires-5 c κs = search needs
+q-requires-4 : tie.Need-q-requires-4 Inv-loop μ-loop
+q-requires-4 c κs = search needs
 
 -- the bench at the loop's head, and what was read there
 abbrev Head : tie.At-match-came Inv-loop μ-loop → PinBench
@@ -218,14 +209,6 @@ gone c =
       ap length (w .4),
     ))
     (⊎-elim
-    -- Status
-    (λ w. (
-      rw (w .6, w .7, w .8, w .9, w .3 .ensures, w .1 .given .1) refl,
-      w .5 ∙ no-so _ (ap isWhole (w .1 .given .1)) refl,
-      rw (w .10, w .6) (w .4 .ensures a (l .core)),
-      ap length (w .5),
-    ))
-    (⊎-elim
     -- Select
     (λ w. (
       rw (w .5, w .6, w .7, w .8, w .1 .given .1) (w .3 .ensures _),
@@ -255,7 +238,7 @@ gone c =
       rw (w .14, w .4 .ensures .1, w .2 .ensures) (yes-so _ (ap isWhole (w .1 .given .1)) refl),
       rw (w .19, w .15) (w .13 .ensures a (l .core)),
       rw (w .14) (omega (arith, w .5 .given)),
-    ))))))))))))
+    )))))))))))
     (c .match .came)
 
 slice-write-out : tie.Need-slice-write-out Inv-loop μ-loop
@@ -356,18 +339,15 @@ play-all-spec =
     enum-known-way-7
     q-requires-3
     enum-known-way-8
-    status-requires
-    q-requires-4
-    enum-known-way-9
     without-frame-requires
-    enum-known-way-10
+    enum-known-way-9
     without-frame-requires-2
-    enum-known-way-11
+    enum-known-way-10
     enum-told
     whole-requires
     stepped-requires
     front-of-requires-2
-    q-requires-5
+    q-requires-4
     slice-write-out
     add-i
     loop-less
