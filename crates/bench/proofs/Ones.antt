@@ -27,6 +27,8 @@ use Rattle.bench.proofs.device_calls.cartvesper_device_in_ranges.Kinds 
 use Rattle.bench.proofs.device_calls.cartvesper_device_in_ranges.Reads as device-in-ranges-reads
 use Rattle.bench.proofs.device_calls.cartvesper_device_q.Kinds as device-q
 use Rattle.bench.proofs.device_calls.cartvesper_device_q.Reads as device-q-reads
+use Rattle.bench.proofs.lay_call.cartvesper_lay.Kinds as lay
+use Rattle.bench.proofs.lay_call.cartvesper_lay.Reads as lay-reads
 use Rattle.bench.proofs.core_calls.cartvesper_core_touched.Kinds as core-touched
 use Rattle.bench.proofs.core_calls.cartvesper_core_touched.Reads as core-touched-reads
 use Rattle.bench.proofs.device_calls.cartvesper_device_touched.Kinds as device-touched
@@ -94,6 +96,9 @@ device-in-ranges-one κs a z z′ e e′ p q = same p q
 
 pub device-q-one : OneResult device-q.ps device-q.r device-q-reads.Post
 device-q-one κs a z z′ e e′ p q = same p q
+
+pub lay-one : OneResult lay.ps lay.r lay-reads.Post
+lay-one κs a z z′ e e′ p q = same p q
 
 pub core-touched-one : OneResult core-touched.ps core-touched.r core-touched-reads.Post
 core-touched-one κs a z z′ e e′ p q = same p q

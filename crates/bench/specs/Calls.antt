@@ -9,12 +9,15 @@ use Rattle.codes.specs.Part.{Part}
 use Rattle.codes.specs.Status.{on}
 use Rattle.chip.specs.Records.{status}
 use Rattle.chip.specs.Ranges.{inRanges}
+use Rattle.latch.specs.declared.Latch.{Latch}
+use Rattle.laying.specs.Laying.{laidOver, layNumber}
 use Rattle.chip.specs.Touched.{cellsMarked, touchedChoice}
 use Rattle.chip.specs.Questions.{lowestNumber, lowestValue, questionNumber, questionValue}
 use Rattle.chip.specs.Power.{delivered, poweredUp, powerUpNumber}
 use Rattle.chip.specs.Time.{readingNumber, clockReading}
 use Rattle.chip.specs.declared.Core.{Core}
 use Rattle.bench.specs.declared.CoreAnswer.{CoreAnswer}
+use Rattle.bench.specs.declared.LatchAnswer.{LatchAnswer}
 use Rattle.frames.specs.Answers.{framed, framedOutput, frameReplyNumber, frameReplyUndriven}
 use Rattle.pins.specs.declared.Device.{Device}
 use Rattle.pins.specs.Devices.{resting}
@@ -129,3 +132,8 @@ writeCall P c m a bytes interval limit =
 
 abbrev pub importCall : Part → Core → List ℕ → List ℕ → CoreAnswer
 importCall P c m t = coreAnswer (importNumber P c m t) (importAnswer P c m t .core)
+
+-- ---- one page write laid over another
+
+abbrev pub layCall : Part → Latch → Latch → LatchAnswer
+layCall P l k = record { number = layNumber P l k; latch = laidOver P l k .latch }

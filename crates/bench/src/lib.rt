@@ -1,4 +1,5 @@
-// Both models, the driver, the split and HEX texts for C programs: numbers, records of numbers and lent bytes in, the same out.
+// Both models, the driver, the split, laying and HEX texts for C programs: numbers, records of numbers and lent bytes in,
+// the same out.
 // bench/cartvesper.h documents each call.
 //
 // Each function takes the numbers that C hands over, calls the proved public call and puts its answer together: the
@@ -8,9 +9,11 @@ mod device_calls;
 mod driver_call;
 mod frame_call;
 mod hex_calls;
+mod lay_call;
 mod part_calls;
 
 use chip::Core;
+use latch::Latch;
 use pins::Device;
 
 // An answer's number and the record that it leaves.
@@ -33,6 +36,13 @@ pub struct FrameAnswer {
 pub struct DeviceAnswer {
     pub number: u32,
     pub device: Device,
+}
+
+// Of a page write laid over another.
+#[repr(C)]
+pub struct LatchAnswer {
+    pub number: u32,
+    pub latch: Latch,
 }
 
 // Of a run of the driver: also pages done and frames sent.

@@ -7,3 +7,4 @@ pub mod Stored
 pub mod Leaves
 pub mod Results
 pub mod Cases
+pub mod Twice

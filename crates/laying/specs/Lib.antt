@@ -1,0 +1,2 @@
+-- One page write laid over another.
+pub mod Laying
