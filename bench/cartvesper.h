@@ -1,6 +1,6 @@
-/* The bench library for C and C++: both models of the M95512, the driver, the split and images as Intel HEX, proved.
- * Build the archive with `rt staticlib bench` (x86-64). docs/LINKING.md says how to link it, and bench/example.c shows
- * each kind of call.
+/* The bench library for C and C++: both models of the M95512, the driver, the split, one page write laid over another
+ * and images as Intel HEX, proved. Build the archive with `rt staticlib bench` (x86-64). docs/LINKING.md says how to
+ * link it, and bench/example.c shows each kind of call.
  *
  * Every call answers every input. A caller must guarantee only that a pointer and the length beside it name bytes that
  * are there (a null pointer with length 0 is an empty slice), and that what is lent to be written overlaps nothing else
@@ -173,6 +173,11 @@ typedef struct {
 
 typedef struct {
     uint32_t number;
+    cartvesper_latch latch;
+} cartvesper_latch_answer;
+
+typedef struct {
+    uint32_t number;
     uint32_t pages;  /* done: written, and their cycle seen to end */
     uint32_t frames; /* sent, every poll among them */
     cartvesper_core core;
@@ -186,6 +191,7 @@ typedef struct {
 CARTVESPER_ASSERT(sizeof(cartvesper_core_answer) == 176 && offsetof(cartvesper_core_answer, core) == 8);
 CARTVESPER_ASSERT(sizeof(cartvesper_frame_answer) == 184 && offsetof(cartvesper_frame_answer, core) == 16);
 CARTVESPER_ASSERT(sizeof(cartvesper_device_answer) == 344 && offsetof(cartvesper_device_answer, device) == 8);
+CARTVESPER_ASSERT(sizeof(cartvesper_latch_answer) == 152 && offsetof(cartvesper_latch_answer, latch) == 8);
 CARTVESPER_ASSERT(sizeof(cartvesper_driver_answer) == 184 && offsetof(cartvesper_driver_answer, core) == 16);
 CARTVESPER_ASSERT(sizeof(cartvesper_value) == 8);
 
@@ -242,6 +248,17 @@ cartvesper_value cartvesper_device_in_ranges(cartvesper_device device);
 cartvesper_device_answer cartvesper_device_play(cartvesper_device device, uint8_t *memory, size_t size,
                                                 const uint64_t *events, size_t count, uint8_t *out, size_t room);
 
+/* ---- page writes */
+
+/* A later page write laid over an earlier one of the same page: a cell that the later one marks has the later one's
+ * byte, any other cell the earlier one's, and the marks are those of both. To store the result is to store the earlier
+ * one and then the later. So two retries in a row are one:
+ *   grouping does not matter; an empty one (no mark, every byte 0) changes nothing, over another or under it; one laid
+ *   twice is as once; order does not matter where no cell is marked in both.
+ * 2 where either is outside its ranges, an unmarked byte that is not 0: the latch is then the earlier one as it was
+ * given. */
+cartvesper_latch_answer cartvesper_lay(cartvesper_latch earlier, cartvesper_latch later);
+
 /* ---- the driver, over the frame model */
 
 /* Writes `length` bytes from an address on, as page writes: polls with RDSR until no cycle runs, reads BP1 and BP0 in
@@ -256,7 +273,8 @@ cartvesper_device_answer cartvesper_device_play(cartvesper_device device, uint8_
  *     or the first page's can run out
  *  13 the data touches the protected block of that status byte, as address + length is above the lowest protected
  *     address: nothing but the first wait's polls was sent. frames counts them, pages is 0. The record is that after
- *     the last of them, WEL as it is there, and no cell has changed but by a cycle that was already running */
+ *     the last of them, WEL as it is there, and no cell has changed but by a cycle that was already running
+ * The same run sent twice, both with 0, leaves the memory that the first left. */
 cartvesper_driver_answer cartvesper_write(cartvesper_core core, uint8_t *memory, size_t size, uint64_t address,
                                           const uint8_t *bytes, size_t length, uint32_t interval, uint32_t limit);
 

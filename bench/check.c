@@ -1,8 +1,8 @@
 /* check pages|heap [SEED] [ROUNDS]: every call that is lent bytes, on slices that are exactly as long as the call is
- * told; and of the records that come back, how many cells their cycles will touch. With `pages` a slice starts or ends
- * at a page of the machine that may not be touched, so that one byte read or written beside it stops the program; with
- * `heap` each is an allocation of its own, for a memory checker to watch. Results are compared by differ.c; here only
- * what is touched counts. */
+ * told; of the records that come back, how many cells their cycles will touch; and their page writes laid over each
+ * other. With `pages` a slice starts or ends at a page of the machine that may not be touched, so that one byte read or
+ * written beside it stops the program; with `heap` each is an allocation of its own, for a memory checker to watch.
+ * Results are compared by differ.c; here only what is touched counts. */
 #define _DEFAULT_SOURCE
 #include "cartvesper.h"
 #include <stdio.h>
@@ -149,6 +149,39 @@ static void check_cells(cartvesper_value touched)
     seen += touched.value;
 }
 
+/* of a record that came back, or random marks and bytes: most with the unmarked ones at 0 */
+static void fill_latch(cartvesper_latch *latch)
+{
+    if (below(2)) {
+        *latch = below(2) ? core.waits.latch : device.frame.latch;
+        return;
+    }
+    fill(latch->bytes, sizeof latch->bytes);
+    for (size_t k = 0; k < CARTVESPER_PAGE / 64; k++)
+        latch->marks[k] = (uint64_t)random32() << 32 | random32();
+    for (size_t i = 0; i < CARTVESPER_PAGE; i++)
+        if (!cartvesper_marked(latch, i) && below(1000))
+            latch->bytes[i] = 0;
+}
+
+/* no bytes are lent, but two records go in by value and one comes out: each where it just fits */
+static void check_lay(void)
+{
+    cartvesper_latch *earlier = lend(0, 1, sizeof *earlier), *later = lend(1, 1, sizeof *later);
+    cartvesper_latch_answer *answer = lend(2, 1, sizeof *answer);
+    fill_latch(earlier);
+    fill_latch(later);
+    *answer = cartvesper_lay(*earlier, *later);
+    if (answer->number != 0 && memcmp(&answer->latch, earlier, sizeof *earlier) != 0) {
+        fprintf(stderr, "check: a page write that was not laid over came back changed\n");
+        exit(1);
+    }
+    look((const uint8_t *)&answer->latch, sizeof answer->latch);
+    give_back(earlier);
+    give_back(later);
+    give_back(answer);
+}
+
 static void check_write(uint8_t *memory, size_t size)
 {
     size_t length = random_length();
@@ -182,6 +215,9 @@ static void check_hex(uint8_t *memory, size_t size)
 
 static void check_call(void)
 {
+    for (int i = 0; i < 8; i++)
+        check_lay();
+    calls += 8;
     size_t size = below(16) ? MEMORY : about(below(2) * MEMORY);
     uint8_t *memory = lend(0, size, 1);
     if (on_heap || below(64) == 0)

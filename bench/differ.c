@@ -69,6 +69,9 @@ static struct {
     uint64_t calls, frames, executed, events, readings, lists, listed, spoiled, cycles, cells, driven, drawn, unreached, damaged, damaged_calls, swept;
     uint64_t runs, moved, pages, sent, parts; /* of the driver and the split */
     uint64_t asked, some, marked;             /* cells touched: asked for, not 0; latches made cell by cell */
+    uint64_t lays, unlaid, laws, ordered;     /* page writes laid over, refused; laws; pairs whose order matters */
+    uint64_t bytewise, stored;                /* WRITEs laid byte by byte; pages stored by two writes and by one */
+    uint64_t twice, busy;                     /* runs sent twice, both done; a cycle ran at the first one's start */
     uint64_t numbers[14];                     /* answers by their number */
 } counts;
 
@@ -143,8 +146,10 @@ static void print_device(const cartvesper_device *device)
 typedef struct {
     char call[256];
     int has_core, has_device; /* the record given, one of the two or none */
+    int has_latches;          /* or two page writes */
     cartvesper_core core;
     cartvesper_device device;
+    cartvesper_latch earlier, later;
     const uint8_t *bytes;
     size_t length;
     const uint64_t *events;
@@ -162,6 +167,7 @@ static void begin_call(const cartvesper_core *core, const cartvesper_device *dev
         hand.core = *core;
     if (device)
         hand.device = *device;
+    hand.has_latches = 0;
     hand.bytes = NULL;
     hand.events = NULL;
     va_start(values, format);
@@ -178,6 +184,8 @@ static void print_hand(const char *what)
         printf("  record given:\n"), print_core(&hand.core);
     if (hand.has_device)
         printf("  record given:\n"), print_device(&hand.device);
+    if (hand.has_latches)
+        printf("  earlier:\n"), print_latch(&hand.earlier), printf("  later:\n"), print_latch(&hand.later);
     if (hand.bytes)
         printf("  bytes:\n      "), print_bytes(hand.bytes, hand.length);
     if (hand.events)
@@ -243,6 +251,16 @@ static void compare_devices(const char *what, const cartvesper_device *lib, cons
     print_hand(what);
     printf("  library:\n"), print_device(lib);
     printf("  plain:\n"), print_device(plain);
+    exit(1);
+}
+
+static void compare_latches(const char *what, const cartvesper_latch *lib, const cartvesper_latch *plain)
+{
+    if (latch_same(lib, plain))
+        return;
+    print_hand(what);
+    printf("  library:\n"), print_latch(lib);
+    printf("  plain:\n"), print_latch(plain);
     exit(1);
 }
 
@@ -571,6 +589,26 @@ static void try_part(uint64_t address, uint64_t length, uint64_t part)
     compare_numbers("the part's length", cartvesper_part_length(address, length, part), plain_part_length(address, length, part));
     counts.calls += 3;
     counts.parts++;
+}
+
+static cartvesper_latch_answer try_lay(const cartvesper_latch *earlier, const cartvesper_latch *later)
+{
+    begin_call(NULL, NULL, "lay");
+    hand.has_latches = 1;
+    hand.earlier = *earlier;
+    hand.later = *later;
+    cartvesper_latch_answer lib = cartvesper_lay(*earlier, *later);
+    cartvesper_latch_answer plain = plain_lay_call(*earlier, *later);
+    compare_numbers("the number", lib.number, plain.number);
+    compare_latches("the page write", &lib.latch, &plain.latch);
+    count_refusal(lib.number);
+    if (lib.number != 0 && !latch_same(earlier, &lib.latch))
+        fail("a refusal changed the earlier page write");
+    if (lib.number == 0 && !plain_latch_ok(&lib.latch))
+        printf("  library:\n"), print_latch(&lib.latch), fail("the page write handed back is outside the ranges");
+    counts.lays++;
+    counts.unlaid += lib.number != 0;
+    return lib;
 }
 
 /* ---- what is random: sizes, readings, frames */
@@ -1651,6 +1689,252 @@ static void sweep_marks(void)
     }
 }
 
+/* ---- one page write laid over another: 02, Item 10 */
+
+/* none, every cell, one cell, a few, most, each word by itself */
+static cartvesper_latch random_page_write(void)
+{
+    cartvesper_latch latch;
+    uint32_t kind = below(6), cell = percent(40) ? 127 * below(2) : below(PAGE);
+    memset(&latch, 0, sizeof latch);
+    for (int k = 0; k < WORDS; k++)
+        latch.marks[k] = kind == 1   ? UINT64_MAX
+                         : kind == 3 ? next64() & next64() & next64()
+                         : kind == 4 ? next64() | next64() | next64()
+                         : kind == 5 ? random_word()
+                                     : 0;
+    if (kind == 2)
+        latch.marks[cell / WORD] = 1ULL << cell % WORD;
+    fill_marked(&latch);
+    return latch;
+}
+
+static cartvesper_latch one_cell(size_t cell, uint8_t byte)
+{
+    cartvesper_latch latch;
+    memset(&latch, 0, sizeof latch);
+    latch.marks[cell / WORD] = 1ULL << cell % WORD;
+    latch.bytes[cell] = byte;
+    return latch;
+}
+
+/* the marks of another taken away, with their bytes */
+static cartvesper_latch apart_from(cartvesper_latch latch, const cartvesper_latch *other)
+{
+    for (int k = 0; k < WORDS; k++)
+        latch.marks[k] &= ~other->marks[k];
+    for (size_t i = 0; i < PAGE; i++)
+        latch.bytes[i] = cartvesper_marked(&latch, i) ? latch.bytes[i] : 0;
+    return latch;
+}
+
+/* a byte that is not 0 in a cell that is not marked */
+static void spoil_latch(cartvesper_latch *latch, size_t cell)
+{
+    latch->marks[cell / WORD] &= ~(1ULL << cell % WORD);
+    latch->bytes[cell] = (uint8_t)(percent(50) ? 1u << below(8) : 1 + below(255));
+}
+
+static cartvesper_latch laid(cartvesper_latch earlier, cartvesper_latch later)
+{
+    cartvesper_latch_answer answer = try_lay(&earlier, &later);
+    compare_numbers("the number of two inside their ranges (second: wanted)", answer.number, 0);
+    return answer.latch;
+}
+
+static void expect_refused(const cartvesper_latch *earlier, const cartvesper_latch *later)
+{
+    compare_numbers("the number of one outside its ranges (second: wanted)", try_lay(earlier, later).number, 2);
+}
+
+/* a cell marked in neither, in one, in the other, in both: what is to be answered is known; then it is spoiled */
+static void sweep_laid_cell(size_t cell)
+{
+    for (int marks = 0; marks < 4; marks++) {
+        const cartvesper_latch alone = one_cell(cell, (uint8_t)random32());
+        const cartvesper_latch over = one_cell(cell, (uint8_t)random32());
+        cartvesper_latch earlier = random_page_write(), later = random_page_write();
+        earlier = apart_from(earlier, &alone);
+        later = apart_from(later, &over);
+        if (marks & 1)
+            earlier.marks[cell / WORD] |= alone.marks[cell / WORD], earlier.bytes[cell] = alone.bytes[cell];
+        if (marks & 2)
+            later.marks[cell / WORD] |= over.marks[cell / WORD], later.bytes[cell] = over.bytes[cell];
+        cartvesper_latch both = laid(earlier, later);
+        compare_numbers("the cell's mark (second: wanted)", (uint64_t)cartvesper_marked(&both, cell), marks != 0);
+        compare_numbers("the cell's byte (second: wanted)", both.bytes[cell],
+                        marks & 2   ? over.bytes[cell]
+                        : marks & 1 ? alone.bytes[cell]
+                                    : 0);
+        cartvesper_latch bad = earlier, worse = later;
+        spoil_latch(&bad, cell);
+        spoil_latch(&worse, cell);
+        expect_refused(&bad, &later);
+        expect_refused(&earlier, &worse);
+        expect_refused(&bad, &worse);
+    }
+}
+
+/* now and then: one byte or some marks changed, outside the ranges, or random bytes throughout */
+static void maybe_damage(cartvesper_latch *latch)
+{
+    if (percent(10))
+        damage_latch(latch);
+    else if (percent(10))
+        spoil_latch(latch, below(PAGE));
+    else if (percent(2))
+        random_bytes(latch, sizeof *latch);
+}
+
+static void try_lays(int count)
+{
+    for (int i = 0; i < count; i++) {
+        cartvesper_latch earlier = random_page_write(), later = random_page_write();
+        if (percent(20))
+            later = apart_from(later, &earlier);
+        maybe_damage(&earlier);
+        maybe_damage(&later);
+        try_lay(&earlier, &later);
+    }
+}
+
+static void law(const char *what, cartvesper_latch first, cartvesper_latch second)
+{
+    compare_latches(what, &first, &second);
+    counts.laws++;
+}
+
+/* order matters exactly where a cell is marked in both, with two bytes */
+static void try_order(cartvesper_latch one, cartvesper_latch other)
+{
+    int matters = 0;
+    for (size_t i = 0; i < PAGE; i++)
+        matters |= cartvesper_marked(&one, i) && cartvesper_marked(&other, i) && one.bytes[i] != other.bytes[i];
+    cartvesper_latch first = laid(one, other), second = laid(other, one);
+    compare_numbers("that order matters (second: wanted)", !latch_same(&first, &second), (uint64_t)matters);
+    counts.ordered += (uint64_t)matters;
+}
+
+static void try_laws(int count)
+{
+    const cartvesper_latch none = {{0}, {0}};
+    for (int i = 0; i < count; i++) {
+        cartvesper_latch l = random_page_write(), k = random_page_write(), m = random_page_write();
+        law("grouping: from the left (first), from the right (second)", laid(laid(l, k), m), laid(l, laid(k, m)));
+        law("an empty one laid over another (first), the other (second)", laid(l, none), l);
+        law("one laid over an empty one (first), the one (second)", laid(none, l), l);
+        law("one laid over itself (first), the one (second)", laid(l, l), l);
+        law("one laid twice (first), once (second)", laid(laid(l, k), k), laid(l, k));
+        try_order(l, k);
+        k = apart_from(k, &l);
+        law("order where the marks share no cell: one (first), the other (second)", laid(l, k), laid(k, l));
+    }
+}
+
+/* WREN and a WRITE to the page: what waits is its bytes laid over each other, a page write of one cell for each; then
+ * its cycle ends */
+static cartvesper_latch send_write(cartvesper_core *core, uint32_t page)
+{
+    cartvesper_latch bytewise = {{0}, {0}};
+    size_t start = below(PAGE), length = 1 + (percent(70) ? below(12) : below(2 * PAGE));
+    frame_bytes[0] = WREN;
+    try_frame(core, MEMORY, 1, 1, 8, 1);
+    frame_bytes[0] = WRITE;
+    frame_bytes[1] = (uint8_t)(page * PAGE >> 8);
+    frame_bytes[2] = (uint8_t)(page * PAGE + start);
+    random_bytes(frame_bytes + 3, length);
+    try_frame(core, MEMORY, 1, 3 + length, 8 * (3 + length), 3 + length);
+    for (size_t i = 0; i < length; i++)
+        bytewise = laid(bytewise, one_cell((start + i) % PAGE, frame_bytes[3 + i]));
+    compare_latches("what waits (first), its bytes laid one by one (second)", &core->waits.latch, &bytewise);
+    counts.bytewise++;
+    try_reading(core, core->last + core->left, MEMORY);
+    return bytewise;
+}
+
+/* any page write, by the end of a cycle that it waits for */
+static void store_latch(const cartvesper_latch *latch, uint32_t page)
+{
+    cartvesper_core core = core_with(1);
+    core.waits.page = page;
+    core.waits.latch = *latch;
+    if (try_reading(&core, core.last + core.left, MEMORY) != 0)
+        fail("a page write inside its ranges, refused where it waits");
+}
+
+static void compare_kept(const char *what)
+{
+    compare_bytes(what, lib_memory.before, singles_memory.before, sizeof lib_memory, GUARD);
+}
+
+/* two page writes stored one after the other are the one laid over the other, stored: by two WRITEs, or any two */
+static void try_stored(int count)
+{
+    for (int i = 0; i < count; i++) {
+        uint32_t page = percent(30) ? below(2) * 511 : below(512);
+        cartvesper_latch earlier = random_page_write(), later = random_page_write();
+        start_memory = lib_memory;
+        if (percent(50)) {
+            cartvesper_core core;
+            try_power_up(&core, random_cycle(), 0, 0, 0, random_clock());
+            earlier = send_write(&core, page);
+            later = send_write(&core, page);
+        } else {
+            store_latch(&earlier, page);
+            store_latch(&later, page);
+        }
+        singles_memory = lib_memory;
+        lib_memory = plain_memory = start_memory;
+        cartvesper_latch both = laid(earlier, later);
+        store_latch(&both, page);
+        compare_kept("memory of the one laid over (first), of the two (second)");
+        counts.stored++;
+    }
+}
+
+static void lay_session(void)
+{
+    new_memory();
+    for (size_t cell = 0; cell < PAGE; cell++)
+        sweep_laid_cell(cell);
+    try_lays(500);
+    try_laws(150);
+    try_stored(20);
+}
+
+/* the same write sent twice, both done, leaves the memory of one; interval and limit may differ, and time may pass in
+ * between */
+static void try_twice(void)
+{
+    cartvesper_core core = random_core();
+    size_t length = random_run();
+    uint64_t address = random_run_address(length);
+    uint32_t interval = length > 1000 ? 1000 + below(4001) : 1 + below(5000);
+    int running = core.left > 0;
+    if (percent(70)) /* else half of the runs touch the block */
+        core.bp1 = core.bp0 = core.waits.status = 0;
+    random_bytes(run_bytes, length < 1000 ? length : 1000);
+    if (try_write(&core, MEMORY, address, length, interval, 5001) != 0)
+        return;
+    compare_bytes("the run's cells (first), its bytes (second)", lib_memory.bytes + address, run_bytes, length, 0);
+    singles_memory = lib_memory;
+    if (length > 0 && percent(30)) /* no cycle runs now; with no data one may */
+        try_reading(&core, random_reading(&core), MEMORY);
+    interval = length > 1000 ? interval : random_interval(&core);
+    if (try_write(&core, MEMORY, address, length, interval, random_limit(&core, interval)) != 0)
+        return;
+    compare_kept("memory of a write sent twice (first), once (second)");
+    counts.twice++;
+    counts.busy += (uint64_t)running;
+}
+
+static void twice_session(int count)
+{
+    new_memory();
+    for (int i = 0; i < count; i++)
+        try_twice();
+}
+
 /* ---- the two models against each other, through the library: 01 "Frames" */
 
 static uint64_t leading_z;
@@ -1960,6 +2244,8 @@ static void run_round(void)
     sweep_marks();
     try_power_ups(40);
     cross_session(12);
+    lay_session();
+    twice_session(100);
 }
 
 static void print_summary(uint64_t rounds)
@@ -1974,6 +2260,13 @@ static void print_summary(uint64_t rounds)
            counts.unreached, counts.damaged, counts.damaged_calls, counts.swept);
     printf("cells touched asked for %" PRIu64 ", not 0 %" PRIu64 ", latches made cell by cell %" PRIu64 "\n",
            counts.asked, counts.some, counts.marked);
+    printf("page writes laid over another %" PRIu64 ", refused %" PRIu64 ", laws %" PRIu64, counts.lays, counts.unlaid,
+           counts.laws);
+    printf(", pairs whose order matters %" PRIu64 "\n", counts.ordered);
+    printf("WRITEs laid byte by byte %" PRIu64 ", pages stored by two writes and by one %" PRIu64 "\n",
+           counts.bytewise, counts.stored);
+    printf("runs sent twice, both done %" PRIu64 ", a cycle at the first one's start %" PRIu64 "\n",
+           counts.twice, counts.busy);
     printf("runs of the driver %" PRIu64 ", a status cycle ended in the first wait %" PRIu64 ", pages done %" PRIu64 ", frames sent %" PRIu64 "\n",
            counts.runs, counts.moved, counts.pages, counts.sent);
     printf("parts asked for %" PRIu64 "\n", counts.parts);

@@ -110,6 +110,49 @@ static void write_by_driver(cartvesper_core *core)
     printf("and then: cell 03E8 %02X\n", memory[1000]);
 }
 
+/* ---- two retries in a row are one */
+
+/* A WRITE of two bytes, its cycle ended; gives the page write that waited for that end. */
+static cartvesper_latch write_two(cartvesper_core *core, uint8_t low, uint8_t first, uint8_t second)
+{
+    const uint8_t wren[1] = {CARTVESPER_WREN}, write[5] = {CARTVESPER_WRITE, 0x20, low, first, second};
+    uint8_t out[5];
+    send("WREN", core, wren, 1, out);
+    send("WRITE", core, write, 5, out);
+    cartvesper_latch latch = core->waits.latch;
+    pass_time(core, core->left);
+    return latch;
+}
+
+/* One page write laid over another, the later winning. A latch has no bytes between its fields, so two may be compared
+ * whole. */
+static cartvesper_latch lay(cartvesper_latch earlier, cartvesper_latch later)
+{
+    cartvesper_latch_answer laid = cartvesper_lay(earlier, later);
+    must_be_done("lay", laid.number);
+    return laid.latch;
+}
+
+static void retries(cartvesper_core *core)
+{
+    static uint8_t once[MEMORY];
+    const uint8_t bytes[4] = {0x51, 0x52, 0x53, 0x54};
+    cartvesper_latch earlier = write_two(core, 0x00, 0x0A, 0x0B), later = write_two(core, 0x01, 0x1B, 0x1C);
+    cartvesper_latch both = lay(earlier, later), again = lay(both, later);
+    printf("stored one after the other: %02X %02X %02X\n", memory[0x2000], memory[0x2001], memory[0x2002]);
+    printf("one laid over the other: %02X %02X %02X\n", both.bytes[0], both.bytes[1], both.bytes[2]);
+    printf("the later laid twice is as once: %s\n", memcmp(&again, &both, sizeof both) == 0 ? "yes" : "no");
+    /* the driver: the same run again, into the next page too */
+    for (int sent = 1; sent <= 2; sent++) {
+        cartvesper_driver_answer done = cartvesper_write(*core, memory, MEMORY, 0x20FE, bytes, sizeof bytes, 1000, 5001);
+        must_be_done("driver", done.number);
+        *core = done.core;
+        if (sent == 1)
+            memcpy(once, memory, MEMORY);
+    }
+    printf("a run sent twice leaves the memory of one: %s\n", memcmp(memory, once, MEMORY) == 0 ? "yes" : "no");
+}
+
 /* ---- images as Intel HEX */
 
 static void image(const cartvesper_core *core)
@@ -154,6 +197,7 @@ int main(void)
     cartvesper_core core = powered.core;
     write_by_hand(&core);
     write_by_driver(&core);
+    retries(&core);
     image(&core);
     refusals(&core);
     return 0;

@@ -1,6 +1,5 @@
-# The library from Python: the records as ctypes structures, a WRITE by frames and a run of the driver. Argument: the
-# shared object
-# (docs/LINKING.md says how to make it from the archive).
+# The library from Python: the records as ctypes structures, a WRITE by frames, a run of the driver, and two retries in
+# a row. Argument: the shared object (docs/LINKING.md says how to make it from the archive).
 import ctypes
 import sys
 from ctypes import POINTER, Structure, c_size_t, c_uint8, c_uint32, c_uint64
@@ -29,6 +28,10 @@ class FrameAnswer(Structure):
     _fields_ = [("number", c_uint32), ("undriven", c_uint64), ("core", Core)]
 
 
+class LatchAnswer(Structure):
+    _fields_ = [("number", c_uint32), ("latch", Latch)]
+
+
 class DriverAnswer(Structure):
     _fields_ = [("number", c_uint32), ("pages", c_uint32), ("frames", c_uint32), ("core", Core)]
 
@@ -38,18 +41,20 @@ class Value(Structure):
 
 
 # the sizes of version 2 of the records (docs/LINKING.md)
-RECORDS = [(Latch, 144), (Core, 168), (CoreAnswer, 176), (FrameAnswer, 184), (DriverAnswer, 184), (Value, 8)]
+RECORDS = [(Latch, 144), (Core, 168), (CoreAnswer, 176), (FrameAnswer, 184), (LatchAnswer, 152), (DriverAnswer, 184),
+           (Value, 8)]
 assert all(ctypes.sizeof(record) == size for record, size in RECORDS)
 
 BYTES = POINTER(c_uint8)
 library = ctypes.CDLL(sys.argv[1])
 power_up, reading, frame, write = (library.cartvesper_power_up, library.cartvesper_clock_reading, library.cartvesper_frame,
                                    library.cartvesper_write)
-touched = library.cartvesper_core_touched
+touched, lay = library.cartvesper_core_touched, library.cartvesper_lay
 power_up.restype, power_up.argtypes = CoreAnswer, [c_uint32, c_uint8, c_uint8, c_uint8, c_uint32]
 reading.restype, reading.argtypes = CoreAnswer, [Core, c_uint32, BYTES, c_size_t]
 frame.restype, frame.argtypes = FrameAnswer, [Core, BYTES, c_size_t, c_uint8, BYTES, c_size_t, c_size_t, BYTES, c_size_t]
 touched.restype, touched.argtypes = Value, [Core]
+lay.restype, lay.argtypes = LatchAnswer, [Latch, Latch]
 write.restype, write.argtypes = DriverAnswer, [Core, BYTES, c_size_t, c_uint64, BYTES, c_size_t, c_uint32, c_uint32]
 
 memory = (c_uint8 * MEMORY)(*[0xFF] * MEMORY)
@@ -69,6 +74,7 @@ core, _ = send(core, [0x02, 0x00, 0x7E, 0x11, 0x22, 0x33, 0x44])
 core, out = send(core, [0x05, 0x00])
 marked = [i for i in range(128) if core.waits.latch.marks[i // 64] >> i % 64 & 1]
 print("status", out[1:].hex(), "cells to be touched", touched(core).value, marked)
+page_write = Latch.from_buffer_copy(core.waits.latch)
 core = reading(core, 5000, memory, MEMORY).core
 core, out = send(core, [0x03, 0x00, 0x7E, 0, 0])
 print("READ at 007E", out[3:].hex(), "cells to be touched", touched(core).value)
@@ -76,9 +82,16 @@ print("READ at 007E", out[3:].hex(), "cells to be touched", touched(core).value)
 run = (c_uint8 * 300)(*[i % 251 for i in range(300)])
 done = write(core, memory, MEMORY, 100, run, 300, 1000, 5001)
 print("driver", done.number, done.pages, done.frames, bytes(memory[100:400]) == bytes(run))
+twice = lay(page_write, page_write)
+print("laid twice", twice.number, "as once", bytes(twice.latch) == bytes(page_write))
+once = bytes(memory)
+done = write(done.core, memory, MEMORY, 100, run, 300, 700, 5001)
+print("sent twice", done.number, done.pages, done.frames, "the memory of one", bytes(memory) == once)
 guarded = power_up(5000, 0, 0, 1, 0).core  # BP0: C000h and above is protected
 refused = write(guarded, memory, MEMORY, 0xBFFF, run, 2, 1000, 5001)
 print("into the protected block", refused.number, refused.pages, refused.frames)
 damaged = done.core
 damaged.wel = 2
-print("a record outside its ranges", reading(damaged, 0, memory, MEMORY).number, touched(damaged).number)
+page_write.bytes[2] = 1  # not marked
+print("a record outside its ranges", reading(damaged, 0, memory, MEMORY).number, touched(damaged).number,
+      lay(page_write, page_write).number)

@@ -1,4 +1,4 @@
-/* The plain model. "01" is document 01, "reading" its reading. */
+/* The plain model. "01" is document 01, "reading" its reading, "02" document 02. */
 #include "plain.h"
 #include <string.h>
 
@@ -56,6 +56,11 @@ static int latch_ok(const cartvesper_latch *latch)
     for (size_t i = 0; i < PAGE; i += 8)
         bad |= eight(latch->bytes + i) & ~eight_marked(latch, i);
     return bad == 0;
+}
+
+int plain_latch_ok(const cartvesper_latch *latch)
+{
+    return latch_ok(latch);
 }
 
 static int waiting_ok(const cartvesper_waiting *waits)
@@ -592,6 +597,20 @@ void plain_play(cartvesper_device *device, uint8_t *memory, const uint64_t *even
     }
 }
 
+/* ---- laying: 02, Item 10. Each cell is wholly the one's or wholly the other's, byte and mark */
+
+void plain_lay(cartvesper_latch *laid, const cartvesper_latch *earlier, const cartvesper_latch *later)
+{
+    memset(laid, 0, sizeof *laid);
+    for (size_t i = 0; i < PAGE; i++) {
+        const cartvesper_latch *winner = cartvesper_marked(later, i) ? later : earlier;
+        if (!cartvesper_marked(winner, i))
+            continue;
+        laid->bytes[i] = winner->bytes[i];
+        laid->marks[i / WORD] |= 1ULL << i % WORD;
+    }
+}
+
 /* ---- the driver: 01 "The driver", reading "Driver and split" */
 
 typedef struct {
@@ -918,6 +937,14 @@ cartvesper_device_answer plain_device_play_call(cartvesper_device device, uint8_
     cartvesper_device_answer answer = {plain_play_refusal(&device, size, events, count, room), device};
     if (answer.number == 0)
         plain_play(&answer.device, memory, events, count, out);
+    return answer;
+}
+
+cartvesper_latch_answer plain_lay_call(cartvesper_latch earlier, cartvesper_latch later)
+{
+    cartvesper_latch_answer answer = {plain_latch_ok(&earlier) && plain_latch_ok(&later) ? 0 : 2, earlier};
+    if (answer.number == 0)
+        plain_lay(&answer.latch, &earlier, &later);
     return answer;
 }
 

@@ -1,5 +1,5 @@
 /* A plain C model of the M95512 in the C record types of cartvesper.h, updated in place: the frame level and the pin
- * level, written from document 01 and its reading alone, and the driver and the split, written from the same text
+ * level, written from document 01 and its reading alone, and laying, the driver and the split, written from the papers
  * with the proved ones known. The functions without `_call` trust their caller (a record inside its ranges, 65,536
  * bytes of memory, levels 0 or 1); the `_call` functions answer every input as cartvesper.h says. */
 #ifndef PLAIN_H
@@ -8,6 +8,7 @@
 
 /* ---- both levels */
 
+int plain_latch_ok(const cartvesper_latch *latch);
 int plain_core_ok(const cartvesper_core *core);
 int plain_device_ok(const cartvesper_device *device);
 uint8_t plain_status(const cartvesper_core *core);
@@ -37,6 +38,11 @@ void plain_event(cartvesper_device *device, uint8_t *memory, uint64_t event);
 void plain_play(cartvesper_device *device, uint8_t *memory, const uint64_t *events, size_t count, uint8_t *out);
 /* what a list is refused by before anything is played: 1, 2, 5, or 0 */
 uint32_t plain_play_refusal(const cartvesper_device *device, size_t size, const uint64_t *events, size_t count, size_t room);
+
+/* ---- page writes */
+
+/* the later laid over the earlier, into a third */
+void plain_lay(cartvesper_latch *laid, const cartvesper_latch *earlier, const cartvesper_latch *later);
 
 /* ---- the driver and the split */
 
@@ -75,6 +81,7 @@ cartvesper_value plain_device_in_ranges_call(cartvesper_device device);
 cartvesper_device_answer plain_device_play_call(cartvesper_device device, uint8_t *memory, size_t size, const uint64_t *events, size_t count,
                                                 uint8_t *out, size_t room);
 
+cartvesper_latch_answer plain_lay_call(cartvesper_latch earlier, cartvesper_latch later);
 cartvesper_driver_answer plain_write_call(cartvesper_core core, uint8_t *memory, size_t size, uint64_t address, const uint8_t *bytes, size_t length,
                                           uint32_t interval, uint32_t limit);
 #endif
