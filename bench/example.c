@@ -144,7 +144,7 @@ static void retries(cartvesper_core *core)
     printf("the later laid twice is as once: %s\n", memcmp(&again, &both, sizeof both) == 0 ? "yes" : "no");
     /* the driver: the same run again, into the next page too */
     for (int sent = 1; sent <= 2; sent++) {
-        cartvesper_driver_answer done = cartvesper_write(*core, memory, MEMORY, 0x20FE, bytes, sizeof bytes, 1000, 5001);
+        cartvesper_driver_answer done = cartvesper_write(*core, memory, MEMORY, 0x20FE, bytes, 4, 1000, 5001);
         must_be_done("driver", done.number);
         *core = done.core;
         if (sent == 1)
