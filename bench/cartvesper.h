@@ -1,6 +1,10 @@
-/* The bench library for C and C++: both models of the M95512, the driver, the split, one page write laid over another
- * and images as Intel HEX, proved. Build the archive with `rt staticlib bench` (x86-64). docs/LINKING.md says how to
- * link it, and bench/example.c shows each kind of call.
+/* The bench library for C and C++: both models of the M95512 and the M95512-D, the driver, the split, one page write
+ * laid over another and images as Intel HEX, proved. Build the archive with `rt staticlib bench` (x86-64).
+ * docs/LINKING.md says how to link it, and bench/example.c shows each kind of call.
+ *
+ * The device is a record. Its cells are the caller's: the memory and, right after it in each call that may look at
+ * them, the 128 bytes of the identification page. The M95512 has no such page, but its calls are lent one too, and
+ * leave it as it was.
  *
  * Every call answers every input. A caller must guarantee only that a pointer and the length beside it name bytes that
  * are there (a null pointer with length 0 is an empty slice), and that what is lent to be written overlaps nothing else
@@ -27,8 +31,8 @@ extern "C" {
 /* The numbers given back. */
 enum {
     CARTVESPER_DONE = 0,
-    CARTVESPER_MEMORY_LENGTH = 1, /* memory is not 65,536 bytes */
-    CARTVESPER_RECORD_RANGE = 2,  /* record, level or flag outside its range, or no event */
+    CARTVESPER_MEMORY_LENGTH = 1, /* memory not 65,536 bytes, or identification page not 128 */
+    CARTVESPER_RECORD_RANGE = 2,  /* record, part, level or flag outside its range, or no event */
     CARTVESPER_FRAME_LENGTH = 3,  /* slice above 65,540 bytes */
     CARTVESPER_BIT_COUNT = 4,     /* bit count doesn't fit the slice */
     CARTVESPER_OUTPUT_LENGTH = 5, /* output length differs */
@@ -40,11 +44,16 @@ enum {
     CARTVESPER_PROTECTED = 13     /* the data touches the protected block */
 };
 
-/* The part's sizes: cells of the memory and of a page, bytes of the longest frame, microseconds of the longest cycle,
- * which is the longest poll interval too, and the highest poll limit. */
+/* The parts: the one without an identification page and its lock, and the one with them. */
+enum { CARTVESPER_M95512 = 0, CARTVESPER_M95512D = 1 };
+
+/* The sizes, the same for both parts: cells of the memory, of a page and of the identification page, bytes of the
+ * longest frame, microseconds of the longest cycle, which is the longest poll interval too, and the highest poll
+ * limit. */
 enum {
     CARTVESPER_MEMORY = 65536,
     CARTVESPER_PAGE = 128,
+    CARTVESPER_IDENTIFICATION = 128,
     CARTVESPER_LONGEST_FRAME = 65540,
     CARTVESPER_LONGEST_CYCLE = 5000,
     CARTVESPER_MOST_POLLS = 5001
@@ -52,8 +61,8 @@ enum {
 
 /* The version of the records. Each change of a record's fields, their places or their sizes raises it. Whoever keeps
  * records in a file, or builds them in another language, keeps this number beside them. 1 had a byte for each mark; 2
- * has a bit. */
-#define CARTVESPER_RECORDS 2
+ * had a bit; 3 has the part and its lock too, and whole bytes taken to 5. */
+#define CARTVESPER_RECORDS 3
 
 /* Bytes of an exported HEX text. */
 enum { CARTVESPER_HEX_TEXT = 180236 };
@@ -98,8 +107,9 @@ static inline int cartvesper_marked(const cartvesper_latch *latch, size_t cell) 
     return cell < CARTVESPER_PAGE && (latch->marks[cell / 64] >> cell % 64 & 1) != 0;
 }
 
-/* What waits for the end of the write cycle: kind 0 nothing, 1 a status value, 2 a page. What does not wait is 0, so no
- * cell is marked where no page waits. */
+/* What waits for the end of the write cycle: kind 0 nothing, 1 a status value, 2 a page; of the M95512-D also 3 the
+ * identification page (page number 0, bytes and marks as a page's) and 4 the lock. What does not wait is 0, so no cell
+ * is marked where neither page waits. */
 typedef struct {
     uint8_t kind;
     uint8_t status;
@@ -109,6 +119,8 @@ typedef struct {
 
 /* The device of the frame model. Flags are 0 or 1; times are microseconds. */
 typedef struct {
+    uint8_t part; /* CARTVESPER_M95512 or CARTVESPER_M95512D */
+    uint8_t lock; /* 1: the identification page is locked for good. The M95512 keeps it and never looks at it */
     uint8_t srwd, bp1, bp0, wel;
     uint32_t cycle; /* 1 to 5,000 */
     uint32_t left;  /* 0 to cycle; above 0 while a cycle runs */
@@ -123,14 +135,14 @@ typedef struct {
 
 /* The frame in hand; fields that it has not reached are 0, so no cell is marked where it has latched nothing. */
 typedef struct {
-    uint8_t taken; /* whole bytes, 0 to 4, staying at 4 */
-    uint8_t bits;  /* of the current byte, 0 to 7 */
-    uint8_t part;  /* their values */
-    uint8_t code;  /* the instruction byte */
-    uint8_t ran;   /* a cycle ran at the eighth edge */
-    uint8_t value; /* the WRSR data byte */
-    uint8_t out;   /* the output byte */
-    uint8_t shown; /* its bits shown, 0 to 8 */
+    uint8_t taken;   /* whole bytes, 0 to 5, staying at 5 */
+    uint8_t bits;    /* of the current byte, 0 to 7 */
+    uint8_t partial; /* their values */
+    uint8_t code;    /* the instruction byte */
+    uint8_t ran;     /* a cycle ran at the eighth edge */
+    uint8_t value;   /* the WRSR data byte */
+    uint8_t out;     /* the output byte */
+    uint8_t shown;   /* its bits shown, 0 to 8 */
     uint32_t address;
     cartvesper_latch latch;
 } cartvesper_frame_part;
@@ -147,12 +159,13 @@ typedef struct {
 CARTVESPER_ASSERT(sizeof(cartvesper_latch) == 144 && offsetof(cartvesper_latch, marks) == 128);
 CARTVESPER_ASSERT(sizeof(cartvesper_waiting) == 152 && offsetof(cartvesper_waiting, latch) == 8);
 CARTVESPER_ASSERT(offsetof(cartvesper_waiting, page) == 4);
-CARTVESPER_ASSERT(sizeof(cartvesper_core) == 168 && offsetof(cartvesper_core, waits) == 16);
-CARTVESPER_ASSERT(offsetof(cartvesper_core, cycle) == 4 && offsetof(cartvesper_core, last) == 12);
+CARTVESPER_ASSERT(sizeof(cartvesper_core) == 176 && offsetof(cartvesper_core, waits) == 24);
+CARTVESPER_ASSERT(offsetof(cartvesper_core, lock) == 1 && offsetof(cartvesper_core, srwd) == 2);
+CARTVESPER_ASSERT(offsetof(cartvesper_core, cycle) == 8 && offsetof(cartvesper_core, last) == 16);
 CARTVESPER_ASSERT(sizeof(cartvesper_pins) == 5);
 CARTVESPER_ASSERT(sizeof(cartvesper_frame_part) == 160 && offsetof(cartvesper_frame_part, latch) == 16);
 CARTVESPER_ASSERT(offsetof(cartvesper_frame_part, address) == 8);
-CARTVESPER_ASSERT(sizeof(cartvesper_device) == 336 && offsetof(cartvesper_device, frame) == 8);
+CARTVESPER_ASSERT(sizeof(cartvesper_device) == 344 && offsetof(cartvesper_device, frame) == 8);
 CARTVESPER_ASSERT(offsetof(cartvesper_device, core) == 168);
 
 typedef struct {
@@ -188,24 +201,30 @@ typedef struct {
     uint32_t value; /* 0 in a refusal */
 } cartvesper_value;
 
-CARTVESPER_ASSERT(sizeof(cartvesper_core_answer) == 176 && offsetof(cartvesper_core_answer, core) == 8);
-CARTVESPER_ASSERT(sizeof(cartvesper_frame_answer) == 184 && offsetof(cartvesper_frame_answer, core) == 16);
-CARTVESPER_ASSERT(sizeof(cartvesper_device_answer) == 344 && offsetof(cartvesper_device_answer, device) == 8);
+CARTVESPER_ASSERT(sizeof(cartvesper_core_answer) == 184 && offsetof(cartvesper_core_answer, core) == 8);
+CARTVESPER_ASSERT(sizeof(cartvesper_frame_answer) == 192 && offsetof(cartvesper_frame_answer, core) == 16);
+CARTVESPER_ASSERT(sizeof(cartvesper_device_answer) == 352 && offsetof(cartvesper_device_answer, device) == 8);
 CARTVESPER_ASSERT(sizeof(cartvesper_latch_answer) == 152 && offsetof(cartvesper_latch_answer, latch) == 8);
-CARTVESPER_ASSERT(sizeof(cartvesper_driver_answer) == 184 && offsetof(cartvesper_driver_answer, core) == 16);
+CARTVESPER_ASSERT(sizeof(cartvesper_driver_answer) == 192 && offsetof(cartvesper_driver_answer, core) == 16);
 CARTVESPER_ASSERT(sizeof(cartvesper_value) == 8);
 
 /* ---- the frame model */
 
-/* Power-up with the given status bits, cycle length and clock reading. 6 (or 2 for a flag that is not 0 or 1) leaves
- * the delivered record: status bits 0, cycle 5,000, reading 0. */
-cartvesper_core_answer cartvesper_power_up(uint32_t cycle, uint8_t srwd, uint8_t bp1, uint8_t bp0, uint32_t reading);
-/* A clock reading of the free-running 32-bit microsecond counter; the end of a cycle stores what waits. */
-cartvesper_core_answer cartvesper_clock_reading(cartvesper_core core, uint32_t reading, uint8_t *memory, size_t size);
+/* Power-up of a part with the given lock, status bits, cycle length and clock reading. 2 (a part that is none, a lock
+ * or a flag that is not 0 or 1) and then 6 leave the delivered record: the M95512, lock and status bits 0, cycle 5,000,
+ * reading 0. */
+cartvesper_core_answer cartvesper_power_up(uint8_t part, uint8_t lock, uint32_t cycle, uint8_t srwd, uint8_t bp1,
+                                           uint8_t bp0, uint32_t reading);
+/* A clock reading of the free-running 32-bit microsecond counter; the end of a cycle stores what waits: the marked
+ * bytes of a page into the memory, those of the identification page into its cells, a status value or the lock into
+ * the record. */
+cartvesper_core_answer cartvesper_clock_reading(cartvesper_core core, uint32_t reading, uint8_t *memory, size_t size,
+                                                uint8_t *identification, size_t cells);
 /* A whole frame of `bits` bits, with W at level w; out has the slice's length and gets Q as it stands just before each
  * counted clock, undriven bits and bits past the count as 1. */
-cartvesper_frame_answer cartvesper_frame(cartvesper_core core, const uint8_t *memory, size_t size, uint8_t w,
-                                         const uint8_t *bytes, size_t length, size_t bits, uint8_t *out, size_t room);
+cartvesper_frame_answer cartvesper_frame(cartvesper_core core, const uint8_t *memory, size_t size,
+                                         const uint8_t *identification, size_t cells, uint8_t w, const uint8_t *bytes,
+                                         size_t length, size_t bits, uint8_t *out, size_t room);
 /* number 0 and value 1 where the record is inside its ranges, else number 2 */
 cartvesper_value cartvesper_core_in_ranges(cartvesper_core core);
 /* the status byte */
@@ -214,26 +233,27 @@ cartvesper_value cartvesper_core_status(cartvesper_core core);
 cartvesper_value cartvesper_core_lowest_protected(cartvesper_core core);
 /* value 1 where the address is protected, which it is from that one on; 7 for an address above FFFFh */
 cartvesper_value cartvesper_core_protected(cartvesper_core core, uint32_t address);
-/* how many cells the running cycle will touch: the marked cells of the page that waits, 0 where no page waits */
+/* how many cells the running cycle will touch: the marked cells of the page or the identification page that waits, 0
+ * where neither waits */
 cartvesper_value cartvesper_core_touched(cartvesper_core core);
 
 /* ---- the pin model */
 
 /* Power-up, as in the frame model, with the pins at rest: S, W and HOLD high, C and D low. */
-cartvesper_device_answer cartvesper_device_power_up(uint32_t cycle, uint8_t srwd, uint8_t bp1, uint8_t bp0,
-                                                    uint32_t reading);
+cartvesper_device_answer cartvesper_device_power_up(uint8_t part, uint8_t lock, uint32_t cycle, uint8_t srwd,
+                                                    uint8_t bp1, uint8_t bp0, uint32_t reading);
 /* One pin to a level: S falling selects and S rising ends the frame; C rising takes the bit on D, C falling moves Q,
- * so it is lent the memory that a READ shows; HOLD pauses while C is low. S rising in a pause drops the frame,
+ * so it is lent the cells that a frame may show; HOLD pauses while C is low. S rising in a pause drops the frame,
  * unless it is a WRITE: that is executed where its count and its conditions allow, as it is outside a pause. */
 cartvesper_device_answer cartvesper_device_set_s(cartvesper_device device, uint8_t level);
 cartvesper_device_answer cartvesper_device_set_c(cartvesper_device device, uint8_t level, const uint8_t *memory,
-                                                 size_t size);
+                                                 size_t size, const uint8_t *identification, size_t cells);
 cartvesper_device_answer cartvesper_device_set_d(cartvesper_device device, uint8_t level);
 cartvesper_device_answer cartvesper_device_set_w(cartvesper_device device, uint8_t level);
 cartvesper_device_answer cartvesper_device_set_hold(cartvesper_device device, uint8_t level);
 /* A clock reading, selected or not; the end of a cycle stores what waits. */
 cartvesper_device_answer cartvesper_device_read_clock(cartvesper_device device, uint32_t reading, uint8_t *memory,
-                                                      size_t size);
+                                                      size_t size, uint8_t *identification, size_t cells);
 /* Q: value 0, 1, or CARTVESPER_Z */
 cartvesper_value cartvesper_device_q(cartvesper_device device);
 /* the status byte */
@@ -246,7 +266,8 @@ cartvesper_value cartvesper_device_in_ranges(cartvesper_device device);
  * are the level, 0 or 1, or the reading. Any other number in the list gets refusal 2, and nothing is played. out has
  * the list's length and gets Q after each event: 0, 1, or CARTVESPER_Z. */
 cartvesper_device_answer cartvesper_device_play(cartvesper_device device, uint8_t *memory, size_t size,
-                                                const uint64_t *events, size_t count, uint8_t *out, size_t room);
+                                                uint8_t *identification, size_t cells, const uint64_t *events,
+                                                size_t count, uint8_t *out, size_t room);
 
 /* ---- page writes */
 
@@ -274,9 +295,11 @@ cartvesper_latch_answer cartvesper_lay(cartvesper_latch earlier, cartvesper_latc
  *  13 the data touches the protected block of that status byte, as address + length is above the lowest protected
  *     address: nothing but the first wait's polls was sent. frames counts them, pages is 0. The record is that after
  *     the last of them, WEL as it is there, and no cell has changed but by a cycle that was already running
- * The same run sent twice, both with 0, leaves the memory that the first left. */
-cartvesper_driver_answer cartvesper_write(cartvesper_core core, uint8_t *memory, size_t size, uint64_t address,
-                                          const uint8_t *bytes, size_t length, uint32_t interval, uint32_t limit);
+ * The identification page changes only by a cycle that was already running: the first wait may end it. The same run
+ * sent twice, both with 0, leaves the memory that the first left. */
+cartvesper_driver_answer cartvesper_write(cartvesper_core core, uint8_t *memory, size_t size, uint8_t *identification,
+                                          size_t cells, uint64_t address, const uint8_t *bytes, size_t length,
+                                          uint32_t interval, uint32_t limit);
 
 /* ---- the split of a run of bytes into page parts, the numbers that the driver goes by: address, length and part are
  * any 64-bit numbers */

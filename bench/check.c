@@ -11,8 +11,8 @@
 #include <sys/mman.h>
 #include <unistd.h>
 
-enum { MEMORY = CARTVESPER_MEMORY, LONGEST = CARTVESPER_LONGEST_FRAME };
-enum { ROLES = 3, ROOM = 1 << 18 }; /* memory, input, output; room for the longest slice */
+enum { MEMORY = CARTVESPER_MEMORY, IDENTIFICATION = CARTVESPER_IDENTIFICATION, LONGEST = CARTVESPER_LONGEST_FRAME };
+enum { ROLES = 4, ROOM = 1 << 18 }; /* memory, input, output, identification page; room for the longest slice */
 
 static int on_heap;
 static uint8_t *areas[ROLES];
@@ -87,6 +87,14 @@ static size_t about(size_t n)
 static cartvesper_core core;
 static cartvesper_device device;
 
+/* the memory and the identification page, and the four arguments that they are */
+typedef struct {
+    uint8_t *memory, *identification;
+    size_t size, cells;
+} slices;
+
+#define LENT(lent) (lent).memory, (lent).size, (lent).identification, (lent).cells
+
 static size_t random_length(void)
 {
     switch (below(8)) {
@@ -99,7 +107,7 @@ static size_t random_length(void)
     }
 }
 
-static void check_frame(uint8_t *memory, size_t size)
+static void check_frame(slices lent)
 {
     static const uint8_t codes[] = {CARTVESPER_WREN, CARTVESPER_WRDI,  CARTVESPER_RDSR,  CARTVESPER_WRSR,
                                     CARTVESPER_READ, CARTVESPER_WRITE, CARTVESPER_WRITE, CARTVESPER_READ};
@@ -109,7 +117,8 @@ static void check_frame(uint8_t *memory, size_t size)
     if (length > 0)
         bytes[0] = codes[below(8)];
     size_t bits = length == 0 ? 0 : 8 * length - (below(4) ? 0 : below(9));
-    cartvesper_frame_answer answer = cartvesper_frame(core, memory, size, (uint8_t)below(2), bytes, length, bits, out, room);
+    cartvesper_frame_answer answer =
+        cartvesper_frame(core, LENT(lent), (uint8_t)below(2), bytes, length, bits, out, room);
     if (answer.number == 0)
         look(out, room);
     core = answer.core;
@@ -117,21 +126,21 @@ static void check_frame(uint8_t *memory, size_t size)
     give_back(out);
 }
 
-static void check_reading(uint8_t *memory, size_t size)
+static void check_reading(slices lent)
 {
-    core = cartvesper_clock_reading(core, core.last + below(6000), memory, size).core;
-    device = cartvesper_device_read_clock(device, device.core.last + below(6000), memory, size).device;
-    device = cartvesper_device_set_c(device, (uint8_t)below(2), memory, size).device;
+    core = cartvesper_clock_reading(core, core.last + below(6000), LENT(lent)).core;
+    device = cartvesper_device_read_clock(device, device.core.last + below(6000), LENT(lent)).device;
+    device = cartvesper_device_set_c(device, (uint8_t)below(2), LENT(lent)).device;
 }
 
-static void check_play(uint8_t *memory, size_t size)
+static void check_play(slices lent)
 {
     size_t count = below(400), room = about(count);
     uint64_t *events = lend(1, count, sizeof *events);
     uint8_t *out = lend(2, room, 1);
     for (size_t i = 0; i < count; i++) /* mostly clock edges, so that frames come about */
         events[i] = below(5000) ? cartvesper_event(below(3) ? CARTVESPER_EVENT_C : below(6), below(2)) : ~0ULL;
-    cartvesper_device_answer answer = cartvesper_device_play(device, memory, size, events, count, out, room);
+    cartvesper_device_answer answer = cartvesper_device_play(device, LENT(lent), events, count, out, room);
     if (answer.number == 0)
         look(out, room);
     device = answer.device;
@@ -182,21 +191,40 @@ static void check_lay(void)
     give_back(answer);
 }
 
-static void check_write(uint8_t *memory, size_t size)
+/* a cycle begun by hand: of the M95512-D its end stores the identification page, or the lock */
+static void begin_cycle(cartvesper_core *idle)
+{
+    if (idle->part != CARTVESPER_M95512D || idle->left != 0)
+        return;
+    idle->wel = 1;
+    idle->left = idle->cycle;
+    idle->waits.kind = (uint8_t)(below(8) ? 3 : 4);
+    if (idle->waits.kind == 4)
+        return;
+    fill(idle->waits.latch.bytes, sizeof idle->waits.latch.bytes);
+    for (size_t k = 0; k < CARTVESPER_PAGE / 64; k++)
+        idle->waits.latch.marks[k] = below(2) ? UINT64_MAX : (uint64_t)random32() << 32 | random32();
+    for (size_t i = 0; i < CARTVESPER_PAGE; i++)
+        if (!cartvesper_marked(&idle->waits.latch, i))
+            idle->waits.latch.bytes[i] = 0;
+}
+
+static void check_write(slices lent)
 {
     size_t length = random_length();
     uint64_t address = below(4) ? below(MEMORY + 1) : length <= MEMORY ? MEMORY - length + below(2) : 0 - (uint64_t)length;
     uint8_t *bytes = lend(1, length, 1);
     fill(bytes, length);
-    core = cartvesper_write(core, memory, size, address, bytes, length, 500 + below(4600), below(3) ? 5001 : below(12)).core;
+    uint32_t interval = 500 + below(4600), limit = below(3) ? 5001 : below(12);
+    core = cartvesper_write(core, LENT(lent), address, bytes, length, interval, limit).core;
     give_back(bytes);
 }
 
-static void check_hex(uint8_t *memory, size_t size)
+static void check_hex(slices lent)
 {
     size_t room = below(8) ? CARTVESPER_HEX_TEXT : about(below(2) * CARTVESPER_HEX_TEXT);
     uint8_t *out = lend(2, room, 1);
-    int done = cartvesper_hex_export(core, memory, size, out, room) == 0;
+    int done = cartvesper_hex_export(core, lent.memory, lent.size, out, room) == 0;
     if (done)
         look(out, room);
     /* what was exported, or its front, or one line and the end, or noise; sometimes with one byte changed */
@@ -208,7 +236,7 @@ static void check_hex(uint8_t *memory, size_t size)
         fill(text, length);
     if (length > 0 && below(2))
         text[below((uint32_t)length)] ^= (uint8_t)(1 << below(8));
-    core = cartvesper_hex_import(core, memory, size, text, length).core;
+    core = cartvesper_hex_import(core, lent.memory, lent.size, text, length).core;
     give_back(text);
     give_back(out);
 }
@@ -218,23 +246,33 @@ static void check_call(void)
     for (int i = 0; i < 8; i++)
         check_lay();
     calls += 8;
-    size_t size = below(16) ? MEMORY : about(below(2) * MEMORY);
-    uint8_t *memory = lend(0, size, 1);
+    slices lent;
+    lent.size = below(16) ? MEMORY : about(below(2) * MEMORY);
+    lent.cells = below(16) ? IDENTIFICATION : about(below(2) * IDENTIFICATION);
+    lent.memory = lend(0, lent.size, 1);
+    lent.identification = lend(3, lent.cells, 1);
     if (on_heap || below(64) == 0)
-        fill(memory, size);
+        fill(lent.memory, lent.size);
+    fill(lent.identification, lent.cells);
     for (int i = 0; i < 8; i++) {
-        check_frame(memory, size);
-        check_reading(memory, size);
-        check_play(memory, size);
-        check_write(memory, size);
+        if (below(4) == 0)
+            begin_cycle(&core);
+        if (below(4) == 0 && device.frame.taken == 0)
+            begin_cycle(&device.core);
+        check_frame(lent);
+        check_reading(lent);
+        check_play(lent);
+        check_write(lent);
         check_cells(cartvesper_core_touched(core));
         check_cells(cartvesper_device_touched(device));
         calls += 8;
     }
-    check_hex(memory, size);
+    check_hex(lent);
     calls += 2;
-    look(memory, size < 256 ? size : 256);
-    give_back(memory);
+    look(lent.memory, lent.size < 256 ? lent.size : 256);
+    look(lent.identification, lent.cells);
+    give_back(lent.memory);
+    give_back(lent.identification);
 }
 
 int main(int argc, char **argv)
@@ -249,8 +287,10 @@ int main(int argc, char **argv)
     map_areas();
     for (uint64_t i = 0; i < rounds; i++) {
         if (i % 8 == 0) {
-            core = cartvesper_power_up(1 + below(CARTVESPER_LONGEST_CYCLE), 0, 0, (uint8_t)(below(4) == 0), random32()).core;
-            device = cartvesper_device_power_up(1 + below(CARTVESPER_LONGEST_CYCLE), 0, 0, 0, random32()).device;
+            uint8_t part = (uint8_t)below(2), lock = (uint8_t)below(2), bp0 = (uint8_t)(below(4) == 0);
+            uint32_t cycle = 1 + below(CARTVESPER_LONGEST_CYCLE), reading = random32();
+            core = cartvesper_power_up(part, lock, cycle, 0, 0, bp0, reading).core;
+            device = cartvesper_device_power_up(part, lock, cycle, 0, 0, 0, reading).device;
         }
         check_call();
     }

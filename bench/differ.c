@@ -1,6 +1,6 @@
 /* differ [SEED] [ROUNDS]: the library of cartvesper.h and the plain model on the same inputs, compared in every byte
- * of records (field by field, without padding), memory, outputs and answers. The first difference is printed in full
- * (exit 1); else a summary of counts (exit 0). */
+ * of records (field by field, without padding), memory, identification page, outputs and answers. The first difference
+ * is printed in full (exit 1); else a summary of counts (exit 0). */
 #include "plain.h"
 #include <inttypes.h>
 #include <stdarg.h>
@@ -49,11 +49,18 @@ static void random_bytes(void *to, size_t length)
         bytes[i] = (uint8_t)random32();
 }
 
-/* ---- lent bytes, one set for each side, with guards around them */
+/* ---- lent bytes, one set for each side, with guards around them: the memory and the identification page */
 
 typedef struct {
-    uint8_t before[GUARD], bytes[MEMORY + 1], after[GUARD];
+    uint8_t before[GUARD], bytes[MEMORY + 1], between[GUARD], identification[PAGE + 1], after[GUARD];
 } lent_memory;
+
+/* how long both slices are said to be */
+typedef struct {
+    size_t size, cells;
+} lengths;
+
+static const lengths whole = {MEMORY, PAGE};
 
 typedef struct {
     uint8_t before[GUARD], bytes[LONGEST + 3], after[GUARD]; /* a list has at most 16,384 events */
@@ -72,6 +79,8 @@ static struct {
     uint64_t lays, unlaid, laws, ordered;     /* page writes laid over, refused; laws; pairs whose order matters */
     uint64_t bytewise, stored;                /* WRITEs laid byte by byte; pages stored by two writes and by one */
     uint64_t twice, busy;                     /* runs sent twice, both done; a cycle ran at the first one's start */
+    uint64_t identified, locked;              /* cycles that stored the identification page, the lock */
+    uint64_t kept, parts_swept;               /* its cells changed; records made of each part, lock and kind */
     uint64_t numbers[14];                     /* answers by their number */
 } counts;
 
@@ -79,28 +88,18 @@ static uint64_t seed, current_round;
 
 /* ---- equality and printing of records */
 
-static int latch_same(const cartvesper_latch *a, const cartvesper_latch *b)
-{
-    return memcmp(a->bytes, b->bytes, PAGE) == 0 && memcmp(a->marks, b->marks, sizeof a->marks) == 0;
-}
-
-static int core_same(const cartvesper_core *a, const cartvesper_core *b)
-{
-    return a->srwd == b->srwd && a->bp1 == b->bp1 && a->bp0 == b->bp0 && a->wel == b->wel && a->cycle == b->cycle && a->left == b->left &&
-           a->last == b->last && a->waits.kind == b->waits.kind && a->waits.status == b->waits.status && a->waits.page == b->waits.page &&
-           latch_same(&a->waits.latch, &b->waits.latch);
-}
-
 static int frame_same(const cartvesper_frame_part *a, const cartvesper_frame_part *b)
 {
-    return a->taken == b->taken && a->bits == b->bits && a->part == b->part && a->code == b->code && a->ran == b->ran && a->value == b->value &&
-           a->out == b->out && a->shown == b->shown && a->address == b->address && latch_same(&a->latch, &b->latch);
+    return a->taken == b->taken && a->bits == b->bits && a->partial == b->partial && a->code == b->code && a->ran == b->ran && a->value == b->value &&
+           a->out == b->out && a->shown == b->shown && a->address == b->address &&
+           plain_latch_same(&a->latch, &b->latch);
 }
 
 static int device_same(const cartvesper_device *a, const cartvesper_device *b)
 {
     return a->pins.s == b->pins.s && a->pins.c == b->pins.c && a->pins.d == b->pins.d && a->pins.w == b->pins.w &&
-           a->pins.hold == b->pins.hold && a->held == b->held && frame_same(&a->frame, &b->frame) && core_same(&a->core, &b->core);
+           a->pins.hold == b->pins.hold && a->held == b->held && frame_same(&a->frame, &b->frame) &&
+           plain_core_same(&a->core, &b->core);
 }
 
 static void print_bytes(const uint8_t *bytes, size_t length)
@@ -124,8 +123,9 @@ static void print_latch(const cartvesper_latch *latch)
 
 static void print_core(const cartvesper_core *core)
 {
-    printf("    srwd %d bp1 %d bp0 %d wel %d cycle %" PRIu32 " left %" PRIu32 " last %" PRIu32 "\n", core->srwd, core->bp1, core->bp0, core->wel,
-           core->cycle, core->left, core->last);
+    printf("    part %d lock %d srwd %d bp1 %d bp0 %d wel %d", core->part, core->lock, core->srwd, core->bp1, core->bp0,
+           core->wel);
+    printf(" cycle %" PRIu32 " left %" PRIu32 " last %" PRIu32 "\n", core->cycle, core->left, core->last);
     printf("    waits: kind %d status %02X page %" PRIu32 "\n", core->waits.kind, core->waits.status, core->waits.page);
     print_latch(&core->waits.latch);
 }
@@ -135,8 +135,9 @@ static void print_device(const cartvesper_device *device)
     const cartvesper_frame_part *frame = &device->frame;
     printf("    s %d c %d d %d w %d hold %d held %d\n", device->pins.s, device->pins.c, device->pins.d, device->pins.w, device->pins.hold,
            device->held);
-    printf("    frame: taken %d bits %d part %02X code %02X ran %d value %02X out %02X shown %d address %04" PRIX32 "\n", frame->taken, frame->bits,
-           frame->part, frame->code, frame->ran, frame->value, frame->out, frame->shown, frame->address);
+    printf("    frame: taken %d bits %d partial %02X code %02X ran %d value %02X", frame->taken, frame->bits,
+           frame->partial, frame->code, frame->ran, frame->value);
+    printf(" out %02X shown %d address %04" PRIX32 "\n", frame->out, frame->shown, frame->address);
     print_latch(&frame->latch);
     print_core(&device->core);
 }
@@ -229,14 +230,29 @@ static void compare_bytes(const char *what, const uint8_t *lib, const uint8_t *p
         fail_bytes(what, lib, plain, length, guard);
 }
 
+/* the memory and the identification page, and beside them; the places printed are the cells of the one that differs */
+static void compare_lent(const char *what, const lent_memory *lib, const lent_memory *plain)
+{
+    size_t page = offsetof(lent_memory, identification), at = 0;
+    const uint8_t *one = lib->before, *other = plain->before;
+    if (memcmp(lib, plain, sizeof *lib) == 0)
+        return;
+    while (at < sizeof *lib && one[at] == other[at])
+        at++;
+    if (at < page - GUARD / 2)
+        fail_bytes(what, one, other, sizeof *lib, GUARD);
+    printf("(places count from the identification page)\n");
+    fail_bytes(what, one, other, sizeof *lib, page);
+}
+
 static void compare_memory(void)
 {
-    compare_bytes("memory (or beside it)", lib_memory.before, plain_memory.before, sizeof lib_memory, GUARD);
+    compare_lent("memory or identification page (or beside it)", &lib_memory, &plain_memory);
 }
 
 static void compare_cores(const char *what, const cartvesper_core *lib, const cartvesper_core *plain)
 {
-    if (core_same(lib, plain))
+    if (plain_core_same(lib, plain))
         return;
     print_hand(what);
     printf("  library:\n"), print_core(lib);
@@ -256,7 +272,7 @@ static void compare_devices(const char *what, const cartvesper_device *lib, cons
 
 static void compare_latches(const char *what, const cartvesper_latch *lib, const cartvesper_latch *plain)
 {
-    if (latch_same(lib, plain))
+    if (plain_latch_same(lib, plain))
         return;
     print_hand(what);
     printf("  library:\n"), print_latch(lib);
@@ -274,7 +290,7 @@ static void count_refusal(uint32_t number)
 static void check_core(uint32_t number, const cartvesper_core *given, const cartvesper_core *lib)
 {
     count_refusal(number);
-    if (number != 0 && !core_same(given, lib))
+    if (number != 0 && !plain_core_same(given, lib))
         fail("a refusal changed the record");
     if (number == 0 && !plain_core_ok(lib))
         printf("  library:\n"), print_core(lib), fail("the record handed back is outside the ranges");
@@ -296,6 +312,10 @@ static void *or_null(void *bytes, size_t length)
     return length == 0 && percent(50) ? NULL : bytes;
 }
 
+/* both slices as four arguments */
+#define LENT(memory, lent)                                                                                             \
+    or_null((memory).bytes, (lent).size), (lent).size, or_null((memory).identification, (lent).cells), (lent).cells
+
 static void compare_values(cartvesper_value lib, cartvesper_value plain)
 {
     compare_numbers("the number", lib.number, plain.number);
@@ -303,11 +323,18 @@ static void compare_values(cartvesper_value lib, cartvesper_value plain)
     count_refusal(lib.number);
 }
 
-static uint32_t try_power_up(cartvesper_core *core, uint32_t cycle, uint8_t srwd, uint8_t bp1, uint8_t bp0, uint32_t reading)
+/* a part, and its lock */
+typedef struct {
+    uint8_t part, lock;
+} which;
+
+static uint32_t try_power_up(cartvesper_core *core, which one, uint32_t cycle, uint8_t srwd, uint8_t bp1, uint8_t bp0,
+                             uint32_t reading)
 {
-    begin_call(NULL, NULL, "power_up cycle %" PRIu32 " srwd %d bp1 %d bp0 %d reading %" PRIu32, cycle, srwd, bp1, bp0, reading);
-    cartvesper_core_answer lib = cartvesper_power_up(cycle, srwd, bp1, bp0, reading);
-    cartvesper_core_answer plain = plain_power_up_call(cycle, srwd, bp1, bp0, reading);
+    begin_call(NULL, NULL, "power_up part %d lock %d cycle %" PRIu32 " srwd %d bp1 %d bp0 %d reading %" PRIu32,
+               one.part, one.lock, cycle, srwd, bp1, bp0, reading);
+    cartvesper_core_answer lib = cartvesper_power_up(one.part, one.lock, cycle, srwd, bp1, bp0, reading);
+    cartvesper_core_answer plain = plain_power_up_call(one.part, one.lock, cycle, srwd, bp1, bp0, reading);
     compare_numbers("the number", lib.number, plain.number);
     compare_cores("the record", &lib.core, &plain.core);
     if (!plain_core_ok(&lib.core))
@@ -317,11 +344,13 @@ static uint32_t try_power_up(cartvesper_core *core, uint32_t cycle, uint8_t srwd
     return lib.number;
 }
 
-static uint32_t try_device_power_up(cartvesper_device *device, uint32_t cycle, uint8_t srwd, uint8_t bp1, uint8_t bp0, uint32_t reading)
+static uint32_t try_device_power_up(cartvesper_device *device, which one, uint32_t cycle, uint8_t srwd, uint8_t bp1,
+                                    uint8_t bp0, uint32_t reading)
 {
-    begin_call(NULL, NULL, "device_power_up cycle %" PRIu32 " srwd %d bp1 %d bp0 %d reading %" PRIu32, cycle, srwd, bp1, bp0, reading);
-    cartvesper_device_answer lib = cartvesper_device_power_up(cycle, srwd, bp1, bp0, reading);
-    cartvesper_device_answer plain = plain_device_power_up_call(cycle, srwd, bp1, bp0, reading);
+    begin_call(NULL, NULL, "device_power_up part %d lock %d cycle %" PRIu32 " srwd %d bp1 %d bp0 %d reading %" PRIu32,
+               one.part, one.lock, cycle, srwd, bp1, bp0, reading);
+    cartvesper_device_answer lib = cartvesper_device_power_up(one.part, one.lock, cycle, srwd, bp1, bp0, reading);
+    cartvesper_device_answer plain = plain_device_power_up_call(one.part, one.lock, cycle, srwd, bp1, bp0, reading);
     compare_numbers("the number", lib.number, plain.number);
     compare_devices("the record", &lib.device, &plain.device);
     if (!plain_device_ok(&lib.device))
@@ -331,19 +360,30 @@ static uint32_t try_device_power_up(cartvesper_device *device, uint32_t cycle, u
     return lib.number;
 }
 
+/* the cells that what waits is to be stored in */
+static const uint8_t *waiting_cells(const cartvesper_core *core)
+{
+    return core->waits.kind == 3 ? lib_memory.identification : lib_memory.bytes + core->waits.page % 512 * PAGE;
+}
+
 /* the cycle's end: cells changed, counted from the page that waited */
 static void count_cycle_end(const cartvesper_core *before, const cartvesper_core *after, const uint8_t *old_page)
 {
+    uint64_t changed = 0;
     if (before->left == 0 || after->left != 0)
         return;
     counts.cycles++;
-    for (size_t i = 0; before->waits.kind == 2 && i < PAGE; i++)
-        counts.cells += old_page[i] != lib_memory.bytes[before->waits.page * PAGE + i];
+    for (size_t i = 0; i < PAGE; i++)
+        changed += old_page[i] != waiting_cells(before)[i];
+    counts.cells += before->waits.kind == 2 ? changed : 0;
+    counts.kept += before->waits.kind == 3 ? changed : 0;
+    counts.identified += before->waits.kind == 3;
+    counts.locked += before->waits.kind == 4;
 }
 
 static void keep_page(uint8_t *page, const cartvesper_core *core)
 {
-    memcpy(page, lib_memory.bytes + core->waits.page % 512 * PAGE, PAGE);
+    memcpy(page, waiting_cells(core), PAGE);
 }
 
 static void count_touched(cartvesper_value touched)
@@ -368,14 +408,14 @@ static void try_device_touched(const cartvesper_device *device)
     count_touched(touched);
 }
 
-static uint32_t try_reading(cartvesper_core *core, uint32_t reading, size_t size)
+static uint32_t try_reading(cartvesper_core *core, uint32_t reading, lengths lent)
 {
     uint8_t page[PAGE];
     cartvesper_core given = *core;
-    begin_call(&given, NULL, "clock_reading %" PRIu32 ", memory %zu", reading, size);
+    begin_call(&given, NULL, "clock_reading %" PRIu32 ", memory %zu, page %zu", reading, lent.size, lent.cells);
     keep_page(page, &given);
-    cartvesper_core_answer lib = cartvesper_clock_reading(given, reading, or_null(lib_memory.bytes, size), size);
-    cartvesper_core_answer plain = plain_clock_reading_call(given, reading, or_null(plain_memory.bytes, size), size);
+    cartvesper_core_answer lib = cartvesper_clock_reading(given, reading, LENT(lib_memory, lent));
+    cartvesper_core_answer plain = plain_clock_reading_call(given, reading, LENT(plain_memory, lent));
     compare_numbers("the number", lib.number, plain.number);
     compare_cores("the record", &lib.core, &plain.core);
     compare_memory();
@@ -404,19 +444,20 @@ static size_t output_span(size_t length, size_t room)
 /* a library that wrote the frame's bytes would be seen here */
 static uint8_t frame_bytes_kept[LONGEST + 3];
 
-static uint32_t try_frame(cartvesper_core *core, size_t size, uint8_t w, size_t length, size_t bits, size_t room)
+static uint32_t try_frame(cartvesper_core *core, lengths lent, uint8_t w, size_t length, size_t bits, size_t room)
 {
     cartvesper_core given = *core;
     size_t span = output_span(length, room);
-    begin_call(&given, NULL, "frame of %zu bytes, %zu bits, w %d, room %zu, memory %zu", length, bits, w, room, size);
+    begin_call(&given, NULL, "frame of %zu bytes, %zu bits, w %d, room %zu, memory %zu, page %zu", length, bits, w,
+               room, lent.size, lent.cells);
     hand.bytes = frame_bytes;
     hand.length = length;
     stale_outputs(span);
     memcpy(frame_bytes_kept, frame_bytes, length);
-    cartvesper_frame_answer lib = cartvesper_frame(given, or_null(lib_memory.bytes, size), size, w, or_null(frame_bytes, length), length, bits,
-                                                   or_null(lib_out.bytes, room), room);
-    cartvesper_frame_answer plain = plain_frame_call(given, or_null(plain_memory.bytes, size), size, w, or_null(frame_bytes, length), length,
-                                                     bits, or_null(plain_out.bytes, room), room);
+    cartvesper_frame_answer lib = cartvesper_frame(given, LENT(lib_memory, lent), w, or_null(frame_bytes, length),
+                                                   length, bits, or_null(lib_out.bytes, room), room);
+    cartvesper_frame_answer plain = plain_frame_call(given, LENT(plain_memory, lent), w, or_null(frame_bytes, length),
+                                                     length, bits, or_null(plain_out.bytes, room), room);
     compare_numbers("the number", lib.number, plain.number);
     compare_numbers("the undriven count", lib.undriven, plain.undriven);
     compare_cores("the record", &lib.core, &plain.core);
@@ -460,13 +501,13 @@ static cartvesper_value try_device_queries(const cartvesper_device *device)
     return q;
 }
 
-static cartvesper_device_answer lib_event(const cartvesper_device *device, int kind, uint32_t value, size_t size)
+static cartvesper_device_answer lib_event(const cartvesper_device *device, int kind, uint32_t value, lengths lent)
 {
     switch (kind) {
     case SET_S:
         return cartvesper_device_set_s(*device, (uint8_t)value);
     case SET_C:
-        return cartvesper_device_set_c(*device, (uint8_t)value, or_null(lib_memory.bytes, size), size);
+        return cartvesper_device_set_c(*device, (uint8_t)value, LENT(lib_memory, lent));
     case SET_D:
         return cartvesper_device_set_d(*device, (uint8_t)value);
     case SET_W:
@@ -474,17 +515,18 @@ static cartvesper_device_answer lib_event(const cartvesper_device *device, int k
     case SET_HOLD:
         return cartvesper_device_set_hold(*device, (uint8_t)value);
     default:
-        return cartvesper_device_read_clock(*device, value, or_null(lib_memory.bytes, size), size);
+        return cartvesper_device_read_clock(*device, value, LENT(lib_memory, lent));
     }
 }
 
-static cartvesper_device_answer plain_event_call(const cartvesper_device *device, int kind, uint32_t value, size_t size)
+static cartvesper_device_answer plain_event_call(const cartvesper_device *device, int kind, uint32_t value,
+                                                 lengths lent)
 {
     switch (kind) {
     case SET_S:
         return plain_device_set_s_call(*device, (uint8_t)value);
     case SET_C:
-        return plain_device_set_c_call(*device, (uint8_t)value, or_null(plain_memory.bytes, size), size);
+        return plain_device_set_c_call(*device, (uint8_t)value, LENT(plain_memory, lent));
     case SET_D:
         return plain_device_set_d_call(*device, (uint8_t)value);
     case SET_W:
@@ -492,24 +534,24 @@ static cartvesper_device_answer plain_event_call(const cartvesper_device *device
     case SET_HOLD:
         return plain_device_set_hold_call(*device, (uint8_t)value);
     default:
-        return plain_device_read_clock_call(*device, value, or_null(plain_memory.bytes, size), size);
+        return plain_device_read_clock_call(*device, value, LENT(plain_memory, lent));
     }
 }
 
-static uint32_t try_event(cartvesper_device *device, int kind, uint32_t value, size_t size)
+static uint32_t try_event(cartvesper_device *device, int kind, uint32_t value, lengths lent)
 {
     static const char *const names[] = {"set_s", "set_c", "set_d", "set_w", "set_hold", "read_clock"};
     uint8_t page[PAGE];
     cartvesper_device given = *device;
-    begin_call(NULL, &given, "device_%s %" PRIu32 ", memory %zu", names[kind], value, size);
+    begin_call(NULL, &given, "device_%s %" PRIu32 ", memory %zu, page %zu", names[kind], value, lent.size, lent.cells);
     if (kind == CLOCK)
         keep_page(page, &given.core);
-    cartvesper_device_answer lib = lib_event(&given, kind, value, size);
-    cartvesper_device_answer plain = plain_event_call(&given, kind, value, size);
+    cartvesper_device_answer lib = lib_event(&given, kind, value, lent);
+    cartvesper_device_answer plain = plain_event_call(&given, kind, value, lent);
     compare_numbers("the number", lib.number, plain.number);
     compare_devices("the record", &lib.device, &plain.device);
     check_device(lib.number, &given, &lib.device);
-    if (kind == CLOCK || percent(5)) /* C is lent the memory to read only: seldom looked at, and at each list's end */
+    if (kind == CLOCK || percent(5)) /* C is lent the cells to read only: seldom looked at, and at each list's end */
         compare_memory();
     counts.events++;
     counts.readings += kind == CLOCK;
@@ -522,19 +564,20 @@ static uint32_t try_event(cartvesper_device *device, int kind, uint32_t value, s
     return lib.number;
 }
 
-static uint32_t try_play(cartvesper_device *device, const uint64_t *events, size_t count, size_t room, size_t size)
+static uint32_t try_play(cartvesper_device *device, const uint64_t *events, size_t count, size_t room, lengths lent)
 {
     cartvesper_device given = *device;
     size_t span = output_span(count, room);
-    begin_call(NULL, &given, "device_play of %zu events, room %zu, memory %zu", count, room, size);
+    begin_call(NULL, &given, "device_play of %zu events, room %zu, memory %zu, page %zu", count, room, lent.size,
+               lent.cells);
     hand.events = events;
     hand.count = count;
     stale_outputs(span);
     const uint64_t *list = count == 0 && percent(50) ? NULL : events;
     cartvesper_device_answer lib =
-        cartvesper_device_play(given, or_null(lib_memory.bytes, size), size, list, count, or_null(lib_out.bytes, room), room);
+        cartvesper_device_play(given, LENT(lib_memory, lent), list, count, or_null(lib_out.bytes, room), room);
     cartvesper_device_answer plain =
-        plain_device_play_call(given, or_null(plain_memory.bytes, size), size, list, count, or_null(plain_out.bytes, room), room);
+        plain_device_play_call(given, LENT(plain_memory, lent), list, count, or_null(plain_out.bytes, room), room);
     compare_numbers("the number", lib.number, plain.number);
     compare_devices("the record", &lib.device, &plain.device);
     compare_bytes("the output (or beside it)", lib_out.before, plain_out.before, span, GUARD);
@@ -550,18 +593,22 @@ static uint32_t try_play(cartvesper_device *device, const uint64_t *events, size
 /* the driver: 9 and 13 leave the state that they ended in, a refusal the one given */
 static uint8_t run_bytes[MEMORY + 2], run_bytes_kept[MEMORY + 2];
 
-static uint32_t try_write(cartvesper_core *core, size_t size, uint64_t address, size_t length, uint32_t interval, uint32_t limit)
+static uint32_t try_write(cartvesper_core *core, lengths lent, uint64_t address, size_t length, uint32_t interval,
+                          uint32_t limit)
 {
+    uint8_t page[PAGE];
     cartvesper_core given = *core;
-    begin_call(&given, NULL, "write of %zu bytes at %" PRIu64 ", interval %" PRIu32 ", limit %" PRIu32 ", memory %zu", length, address, interval, limit,
-               size);
+    begin_call(&given, NULL,
+               "write of %zu bytes at %" PRIu64 ", interval %" PRIu32 ", limit %" PRIu32 ", memory %zu, page %zu",
+               length, address, interval, limit, lent.size, lent.cells);
+    keep_page(page, &given);
     hand.bytes = run_bytes;
     hand.length = length;
     memcpy(run_bytes_kept, run_bytes, length);
     cartvesper_driver_answer lib =
-        cartvesper_write(given, or_null(lib_memory.bytes, size), size, address, or_null(run_bytes, length), length, interval, limit);
+        cartvesper_write(given, LENT(lib_memory, lent), address, or_null(run_bytes, length), length, interval, limit);
     cartvesper_driver_answer plain =
-        plain_write_call(given, or_null(plain_memory.bytes, size), size, address, or_null(run_bytes, length), length, interval, limit);
+        plain_write_call(given, LENT(plain_memory, lent), address, or_null(run_bytes, length), length, interval, limit);
     compare_numbers("the number", lib.number, plain.number);
     compare_numbers("pages done", lib.pages, plain.pages);
     compare_numbers("frames sent", lib.frames, plain.frames);
@@ -573,6 +620,8 @@ static uint32_t try_write(cartvesper_core *core, size_t size, uint64_t address, 
         count_refusal(lib.number);
     counts.runs++;
     counts.moved += given.waits.kind == 1 && given.left > 0 && lib.core.left == 0;
+    if (given.waits.kind == 3 || given.waits.kind == 4) /* a page of the memory may be one of the run's own too */
+        count_cycle_end(&given, &lib.core, page);
     counts.pages += lib.pages;
     counts.sent += lib.frames;
     *core = lib.core;
@@ -602,7 +651,7 @@ static cartvesper_latch_answer try_lay(const cartvesper_latch *earlier, const ca
     compare_numbers("the number", lib.number, plain.number);
     compare_latches("the page write", &lib.latch, &plain.latch);
     count_refusal(lib.number);
-    if (lib.number != 0 && !latch_same(earlier, &lib.latch))
+    if (lib.number != 0 && !plain_latch_same(earlier, &lib.latch))
         fail("a refusal changed the earlier page write");
     if (lib.number == 0 && !plain_latch_ok(&lib.latch))
         printf("  library:\n"), print_latch(&lib.latch), fail("the page write handed back is outside the ranges");
@@ -671,10 +720,29 @@ static uint32_t random_reading(const cartvesper_core *core)
     }
 }
 
-static size_t random_size(uint32_t damage)
+/* one of the two lengths, or both, are none that is taken */
+static lengths random_lengths(uint32_t damage)
 {
-    static const size_t sizes[] = {MEMORY - 1, MEMORY + 1, 0, 1};
-    return percent(damage) ? sizes[below(4)] : MEMORY;
+    static const size_t sizes[] = {MEMORY - 1, MEMORY + 1, 0, 1}, cells[] = {PAGE - 1, PAGE + 1, 0, 1};
+    lengths lent = whole;
+    uint32_t bad = percent(damage) ? 1 + below(3) : 0;
+    if (bad & 1)
+        lent.size = sizes[below(4)];
+    if (bad & 2)
+        lent.cells = cells[below(4)];
+    return lent;
+}
+
+/* a part and a lock, now and then outside their ranges */
+static which random_which(uint32_t damage)
+{
+    static const uint8_t none[] = {2, 3, 255};
+    which one = {(uint8_t)below(2), (uint8_t)below(2)};
+    if (percent(damage))
+        one.part = percent(70) ? none[below(3)] : (uint8_t)random32();
+    if (percent(damage))
+        one.lock = percent(70) ? 2 : (uint8_t)random32();
+    return one;
 }
 
 static size_t off_by_one(size_t n, uint32_t damage)
@@ -750,7 +818,7 @@ static void frame_step(cartvesper_core *core)
     size_t bits, length = random_frame(&bits, below(400) == 0);
     uint8_t w = percent(2) ? (uint8_t)random32() : percent(70);
     size_t count = percent(2) ? bits + 8 - below(17) : bits;
-    try_frame(core, random_size(2), w, length, percent(1) ? random32() : count, off_by_one(length, 2));
+    try_frame(core, random_lengths(2), w, length, percent(1) ? random32() : count, off_by_one(length, 2));
 }
 
 /* frames at the limits of the slice, several refusals at once */
@@ -759,12 +827,13 @@ static void try_limits(int count)
     static const size_t lengths[] = {0, 1, 2, 65539, 65540, 65541};
     for (int i = 0; i < count; i++) {
         cartvesper_core core;
-        try_power_up(&core, random_cycle(), 0, 0, 0, random_clock());
+        try_power_up(&core, random_which(0), random_cycle(), 0, 0, 0, random_clock());
         core.wel = percent(90) ? (uint8_t)below(2) : 2;
         size_t length = lengths[below(6)];
         size_t bits = percent(60) ? 8 * length - below(8) * (length > 0) : 8 * length + 2 - below(12);
         frame_bytes[0] = random_code();
-        try_frame(&core, random_size(10), (uint8_t)(percent(95) ? below(2) : 2), length, bits, off_by_one(length, 30));
+        try_frame(&core, random_lengths(10), (uint8_t)(percent(95) ? below(2) : 2), length, bits,
+                  off_by_one(length, 30));
     }
 }
 
@@ -772,14 +841,15 @@ static void frame_session(int steps)
 {
     cartvesper_core core;
     new_memory();
-    while (try_power_up(&core, percent(90) ? random_cycle() : random32() >> below(32), percent(2) ? 2 : percent(20), percent(2) ? 255 : percent(20),
-                        percent(2) ? 2 : percent(30), random_clock()) != 0) {
+    while (try_power_up(&core, random_which(2), percent(90) ? random_cycle() : random32() >> below(32),
+                        percent(2) ? 2 : percent(20), percent(2) ? 255 : percent(20), percent(2) ? 2 : percent(30),
+                        random_clock()) != 0) {
     }
     for (int i = 0; i < steps; i++) {
         if (percent(65))
             frame_step(&core);
         else
-            try_reading(&core, random_reading(&core), random_size(2));
+            try_reading(&core, random_reading(&core), random_lengths(2));
         if (percent(10))
             try_core_queries(&core, percent(80) ? random_address() : random32() >> below(32));
     }
@@ -888,7 +958,7 @@ static void random_write(cartvesper_core *core, uint32_t damage)
     if (length > 1000 && interval < core->cycle / 4) /* else some 2,000,000 polls */
         interval = 1000;
     random_bytes(run_bytes, length < 1000 ? length : 1000);
-    try_write(core, random_size(damage), random_run_address(length), length, interval, limit);
+    try_write(core, random_lengths(damage), random_run_address(length), length, interval, limit);
 }
 
 static uint64_t random_number(void)
@@ -920,7 +990,7 @@ static void try_parts(int count)
     }
 }
 
-/* ---- power-up at the edges of the cycle length, with flags that are not 0 or 1 */
+/* ---- power-up at the edges of the cycle length, with parts that are none, a lock and flags that are not 0 or 1 */
 
 static uint8_t random_flag(void)
 {
@@ -936,8 +1006,9 @@ static void try_power_ups(int count)
         uint32_t cycle = percent(70) ? cycles[below(7)] : random32() >> below(32);
         uint8_t srwd = random_flag(), bp1 = random_flag(), bp0 = random_flag();
         uint32_t reading = random_clock();
-        try_power_up(&core, cycle, srwd, bp1, bp0, reading);
-        try_device_power_up(&device, cycle, srwd, bp1, bp0, reading);
+        which one = random_which(15);
+        try_power_up(&core, one, cycle, srwd, bp1, bp0, reading);
+        try_device_power_up(&device, one, cycle, srwd, bp1, bp0, reading);
         compare_cores("the two power-ups: device (first), core (second)", &device.core, &core);
     }
 }
@@ -953,7 +1024,7 @@ static void emit(int kind, uint32_t value)
     if (script_count == EVENTS)
         return;
     uint64_t event = cartvesper_event(kind, value);
-    plain_event(&script_device, script_memory.bytes, event);
+    plain_event(&script_device, script_memory.bytes, script_memory.identification, event);
     script[script_count++] = event;
 }
 
@@ -1113,7 +1184,7 @@ static void spoil_script(const cartvesper_device *device)
     size_t i = percent(20) ? script_count - 1 : below((uint32_t)script_count);
     uint64_t event = script[i];
     script[i] = no_event(event);
-    if (try_play(&copy, script, script_count, off_by_one(script_count, 20), MEMORY) != 2)
+    if (try_play(&copy, script, script_count, off_by_one(script_count, 20), whole) != 2)
         fail("a number that is no event, played");
     if (memcmp(&lib_memory, &start_memory, sizeof lib_memory) != 0)
         fail("a list that was refused moved the memory");
@@ -1128,38 +1199,24 @@ static void run_script(cartvesper_device *device)
     cartvesper_device start = *device, refused = *device;
     start_memory = lib_memory;
     for (size_t i = 0; i < script_count; i++) {
-        try_event(device, (int)(script[i] >> 32), (uint32_t)script[i], MEMORY);
+        try_event(device, (int)(script[i] >> 32), (uint32_t)script[i], whole);
         q[i] = (uint8_t)try_device_queries(device).value;
         if (percent(1))
             /* refused, or S, D, W, HOLD at a level above 1 */
-            try_event(device, (int)below(6), percent(50) ? 2 : random32() | 2, 0);
+            try_event(device, (int)below(6), percent(50) ? 2 : random32() | 2, random_lengths(100));
     }
     singles_memory = lib_memory;
     lib_memory = plain_memory = start_memory;
     for (int i = 0; i < 5; i++)
         spoil_script(&start);
     if (percent(10))
-        try_play(&refused, script, script_count, off_by_one(script_count, 70), random_size(50));
+        try_play(&refused, script, script_count, off_by_one(script_count, 70), random_lengths(50));
     lib_memory = plain_memory = start_memory;
-    if (try_play(&start, script, script_count, script_count, MEMORY) != 0)
+    if (try_play(&start, script, script_count, script_count, whole) != 0)
         fail("the list refused");
     compare_devices("the list (library) and the single events (plain)", &start, device);
     compare_bytes("Q of the list (library) and of the single events (plain)", lib_out.bytes, q, script_count, 0);
-    compare_bytes("memory after the list (library) and the single events (plain)", lib_memory.before, singles_memory.before, sizeof lib_memory,
-                  GUARD);
-}
-
-static void pin_session(int scripts)
-{
-    cartvesper_device device;
-    new_memory();
-    while (try_device_power_up(&device, percent(90) ? random_cycle() : random32() >> below(32), percent(2) ? 2 : percent(20),
-                               percent(2) ? 255 : percent(20), percent(2) ? 2 : percent(30), random_clock()) != 0) {
-    }
-    for (int i = 0; i < scripts; i++) {
-        new_script(&device);
-        run_script(&device);
-    }
+    compare_lent("what is lent after the list (library) and the single events (plain)", &lib_memory, &singles_memory);
 }
 
 /* ---- records inside the ranges, also those that no events reach, field by field */
@@ -1197,32 +1254,40 @@ static void random_latch(cartvesper_latch *latch)
     fill_marked(latch);
 }
 
-static void random_waiting(cartvesper_waiting *waits)
+/* the last two only of the part that has them */
+static void random_waiting(cartvesper_waiting *waits, int part)
 {
-    waits->kind = (uint8_t)(1 + below(2));
-    if (waits->kind == 1) {
+    waits->kind = (uint8_t)(1 + below(part ? 4 : 2));
+    if (waits->kind == 1)
         waits->status = random32() & 0x8C;
-    } else {
+    if (waits->kind == 2)
         waits->page = percent(30) ? below(2) * 511 : below(512);
+    if (waits->kind == 2 || waits->kind == 3)
         random_latch(&waits->latch);
-    }
+}
+
+/* a cycle that no frame began: of the M95512-D also one that stores the identification page or the lock */
+static void begin_cycle(cartvesper_core *core)
+{
+    core->wel = 1;
+    core->left = percent(30) ? core->cycle : 1 + below(core->cycle);
+    random_waiting(&core->waits, core->part);
 }
 
 static cartvesper_core random_core(void)
 {
     cartvesper_core core;
     memset(&core, 0, sizeof core);
+    core.part = (uint8_t)percent(60);
+    core.lock = (uint8_t)percent(40);
     core.srwd = (uint8_t)percent(50);
     core.bp1 = (uint8_t)percent(30);
     core.bp0 = (uint8_t)percent(30);
     core.wel = (uint8_t)percent(60);
     core.cycle = random_cycle();
     core.last = random_clock();
-    if (percent(40)) {
-        core.wel = 1;
-        core.left = percent(30) ? core.cycle : 1 + below(core.cycle);
-        random_waiting(&core.waits);
-    }
+    if (percent(40))
+        begin_cycle(&core);
     return core;
 }
 
@@ -1233,9 +1298,9 @@ static int is_output(const cartvesper_frame_part *frame)
 
 static void random_frame_fields(cartvesper_frame_part *frame, int cycle_runs)
 {
-    frame->taken = (uint8_t)below(5);
+    frame->taken = (uint8_t)below(6);
     frame->bits = (uint8_t)(percent(60) ? 7 * below(2) : below(8));
-    frame->part = (uint8_t)below(1u << frame->bits);
+    frame->partial = (uint8_t)below(1u << frame->bits);
     if (frame->taken == 0)
         return;
     frame->code = random_code();
@@ -1244,7 +1309,7 @@ static void random_frame_fields(cartvesper_frame_part *frame, int cycle_runs)
         frame->value = (uint8_t)random32();
     if ((frame->code == READ || frame->code == WRITE) && frame->taken >= 2)
         frame->address = random_address() & (frame->taken == 2 ? 0xFF00 : 0xFFFF);
-    if (frame->code == WRITE && frame->taken == 4)
+    if (frame->code == WRITE && frame->taken >= 4)
         random_latch(&frame->latch);
     if (is_output(frame)) {
         frame->shown = (uint8_t)below(9);
@@ -1269,6 +1334,29 @@ static cartvesper_device random_device(void)
     return device;
 }
 
+/* before a script, where no frame is in hand: one that has a byte would have seen the cycle run */
+static void begin_idle_cycle(cartvesper_device *device)
+{
+    if (device->core.left == 0 && device->frame.taken == 0)
+        begin_cycle(&device->core);
+}
+
+static void pin_session(int scripts)
+{
+    cartvesper_device device;
+    new_memory();
+    while (try_device_power_up(&device, random_which(2), percent(90) ? random_cycle() : random32() >> below(32),
+                               percent(2) ? 2 : percent(20), percent(2) ? 255 : percent(20),
+                               percent(2) ? 2 : percent(30), random_clock()) != 0) {
+    }
+    for (int i = 0; i < scripts; i++) {
+        if (percent(30))
+            begin_idle_cycle(&device);
+        new_script(&device);
+        run_script(&device);
+    }
+}
+
 /* one random event; then, now and then, a few more */
 static void step_unreached(void)
 {
@@ -1282,9 +1370,9 @@ static void step_unreached(void)
         const cartvesper_pins *pins = &device.pins;
         const uint8_t levels[] = {pins->s, pins->c, pins->d, pins->w, pins->hold};
         if (kind == CLOCK)
-            try_event(&device, kind, random_reading(&device.core), MEMORY);
+            try_event(&device, kind, random_reading(&device.core), whole);
         else
-            try_event(&device, kind, percent(90) ? !levels[kind] : levels[kind], MEMORY);
+            try_event(&device, kind, percent(90) ? !levels[kind] : levels[kind], whole);
         try_device_queries(&device);
     } while (percent(60));
 }
@@ -1298,8 +1386,8 @@ static void step_unreached_core(void)
     if (!plain_core_ok(&core) || cartvesper_core_in_ranges(core).number != 0)
         fail("a record built inside the ranges is refused");
     counts.unreached++;
-    try_frame(&core, MEMORY, percent(50), length, bits, length);
-    try_reading(&core, random_reading(&core), MEMORY);
+    try_frame(&core, whole, percent(50), length, bits, length);
+    try_reading(&core, random_reading(&core), whole);
     try_core_queries(&core, random_address());
 }
 
@@ -1308,24 +1396,24 @@ static void step_unreached_core(void)
 static void begin_status_cycle(cartvesper_core *core)
 {
     frame_bytes[0] = WREN;
-    try_frame(core, MEMORY, 1, 1, 8, 1);
+    try_frame(core, whole, 1, 1, 8, 1);
     frame_bytes[0] = WRSR;
     frame_bytes[1] = (uint8_t)(below(4) << 2);
-    try_frame(core, MEMORY, 1, 2, 16, 2);
+    try_frame(core, whole, 1, 2, 16, 2);
 }
 
 static void driver_session(int runs)
 {
     cartvesper_core core;
     new_memory();
-    try_power_up(&core, random_cycle(), percent(20), percent(20), percent(30), random_clock());
+    try_power_up(&core, random_which(0), random_cycle(), percent(20), percent(20), percent(30), random_clock());
     for (int i = 0; i < runs; i++) {
         if (percent(20))
             core = random_core();
         if (percent(10))
             frame_step(&core);
         if (percent(10))
-            try_reading(&core, random_reading(&core), MEMORY);
+            try_reading(&core, random_reading(&core), whole);
         if (percent(15))
             begin_status_cycle(&core);
         random_write(&core, 2);
@@ -1342,14 +1430,15 @@ typedef struct {
 #define FIELDS(fields) (sizeof(fields) / sizeof *(fields))
 #define DEVICE_FIELD(name) {offsetof(cartvesper_device, name), sizeof(((cartvesper_device *)0)->name)}
 
-static const field core_fields[] = {CORE_FIELD(srwd),       CORE_FIELD(bp1),          CORE_FIELD(bp0),        CORE_FIELD(wel),
-                                    CORE_FIELD(cycle),      CORE_FIELD(left),         CORE_FIELD(last),       CORE_FIELD(waits.kind),
-                                    CORE_FIELD(waits.status), CORE_FIELD(waits.page),
+static const field core_fields[] = {CORE_FIELD(part),         CORE_FIELD(lock),       CORE_FIELD(srwd),
+                                    CORE_FIELD(bp1),          CORE_FIELD(bp0),        CORE_FIELD(wel),
+                                    CORE_FIELD(cycle),        CORE_FIELD(left),       CORE_FIELD(last),
+                                    CORE_FIELD(waits.kind),   CORE_FIELD(waits.status), CORE_FIELD(waits.page),
                                     CORE_FIELD(waits.latch.bytes[0]), CORE_FIELD(waits.latch.bytes[127]),
                                     CORE_FIELD(waits.latch.marks[0]), CORE_FIELD(waits.latch.marks[1])};
 static const field device_fields[] = {DEVICE_FIELD(pins.s),      DEVICE_FIELD(pins.c),     DEVICE_FIELD(pins.d),      DEVICE_FIELD(pins.w),
                                       DEVICE_FIELD(pins.hold),   DEVICE_FIELD(held),       DEVICE_FIELD(frame.taken), DEVICE_FIELD(frame.bits),
-                                      DEVICE_FIELD(frame.part),  DEVICE_FIELD(frame.code), DEVICE_FIELD(frame.ran),   DEVICE_FIELD(frame.value),
+                                      DEVICE_FIELD(frame.partial),  DEVICE_FIELD(frame.code), DEVICE_FIELD(frame.ran),   DEVICE_FIELD(frame.value),
                                       DEVICE_FIELD(frame.out),   DEVICE_FIELD(frame.shown), DEVICE_FIELD(frame.address),
                                       DEVICE_FIELD(frame.latch.bytes[0]), DEVICE_FIELD(frame.latch.bytes[127]),
                                       DEVICE_FIELD(frame.latch.marks[0]), DEVICE_FIELD(frame.latch.marks[1])};
@@ -1458,9 +1547,10 @@ static void try_core_calls(const cartvesper_core *core)
     try_core_queries(core, percent(50) ? random_address() : random32() >> below(32));
     length = random_frame(&bits, below(500) == 0);
     copy = *core;
-    try_frame(&copy, random_size(20), (uint8_t)(percent(10) ? random32() : below(2)), length, off_by_one(bits, 20), off_by_one(length, 20));
+    try_frame(&copy, random_lengths(20), (uint8_t)(percent(10) ? random32() : below(2)), length, off_by_one(bits, 20),
+              off_by_one(length, 20));
     copy = *core;
-    try_reading(&copy, random_reading(core), random_size(20));
+    try_reading(&copy, random_reading(core), random_lengths(20));
     copy = *core;
     random_write(&copy, 20);
 }
@@ -1472,14 +1562,15 @@ static void try_device_calls(const cartvesper_device *device)
     try_device_queries(device);
     for (int kind = SET_S; kind <= CLOCK; kind++) {
         copy = *device;
-        try_event(&copy, kind, kind == CLOCK ? random_reading(&device->core) : percent(15) ? random32() : (uint32_t)percent(50), random_size(15));
+        uint32_t level = percent(15) ? random32() : (uint32_t)percent(50);
+        try_event(&copy, kind, kind == CLOCK ? random_reading(&device->core) : level, random_lengths(15));
     }
     uint64_t events[4];
     for (int i = 0; i < 4; i++)
         events[i] = percent(10) ? next64() : cartvesper_event(below(CLOCK + 1), below(2));
     size_t count = below(4);
     copy = *device;
-    try_play(&copy, events, count, off_by_one(count, 20), random_size(20));
+    try_play(&copy, events, count, off_by_one(count, 20), random_lengths(20));
 }
 
 static void try_damaged_core(void)
@@ -1549,6 +1640,46 @@ static void sweep_device(void)
     counts.swept += (FIELDS(device_fields) + FIELDS(core_fields)) * EDGES;
 }
 
+/* each part with each kind that waits, and what may stand beside it: time left, WEL, a status value, a page number, a
+ * mark, a byte without one */
+static cartvesper_core core_of(uint8_t part, uint8_t kind, uint32_t beside)
+{
+    cartvesper_core core;
+    uint32_t cell = below(PAGE);
+    memset(&core, 0, sizeof core);
+    core.part = part;
+    core.lock = (uint8_t)(percent(70) ? below(2) : percent(70) ? 2 : 255);
+    core.cycle = random_cycle();
+    core.last = random_clock();
+    core.left = beside & 1 ? 1 + below(core.cycle) : 0;
+    core.wel = beside >> 1 & 1;
+    core.waits.kind = kind;
+    core.waits.status = beside & 4 ? 0x80 : 0;
+    core.waits.page = beside & 8 ? 1 + below(511) : 0;
+    if (beside & 16)
+        core.waits.latch.marks[cell / WORD] = 1ULL << cell % WORD;
+    if (beside & 32)
+        core.waits.latch.bytes[cell] = (uint8_t)(1 + below(255));
+    return core;
+}
+
+static void sweep_parts(void)
+{
+    static const uint8_t parts[] = {0, 1, 2, 3, 255};
+    for (size_t p = 0; p < sizeof parts; p++)
+        for (uint32_t beside = 0; beside < 6 * 64; beside++) {
+            cartvesper_core core = core_of(parts[p], (uint8_t)(beside / 64), beside % 64);
+            cartvesper_device device;
+            plain_device_power_up(&device, 0, 0, 1, 0, 0, 0, 0);
+            device.core = core;
+            try_core_queries(&core, random_address());
+            try_reading(&core, core.last + core.left, random_lengths(5));
+            try_device_queries(&device);
+            try_event(&device, CLOCK, device.core.last + device.core.left, random_lengths(5));
+            counts.parts_swept++;
+        }
+}
+
 /* ---- marks cell by cell, in the page that waits and in the frame in hand; what is to be answered is known */
 
 static void expect_touched(const cartvesper_device *device, uint32_t number, uint32_t cells)
@@ -1567,12 +1698,27 @@ static void expect_core_touched(const cartvesper_core *core, uint32_t number, ui
     compare_numbers("cells touched (second: wanted)", touched.value, cells);
 }
 
-static cartvesper_core core_with(int page_waits)
+/* latched bytes wait: of a page, or of the identification page */
+static int bytes_wait(const cartvesper_core *core)
+{
+    return core->waits.kind == 2 || core->waits.kind == 3;
+}
+
+static cartvesper_core core_with(uint8_t kind)
 {
     cartvesper_core core;
     do
         core = random_core();
-    while ((core.waits.kind == 2) != page_waits);
+    while (core.waits.kind != kind);
+    return core;
+}
+
+static cartvesper_core core_without_bytes(void)
+{
+    cartvesper_core core;
+    do
+        core = random_core();
+    while (bytes_wait(&core));
     return core;
 }
 
@@ -1580,28 +1726,28 @@ static cartvesper_core core_with(int page_waits)
 static cartvesper_device device_in_write(void)
 {
     cartvesper_device device;
-    plain_device_power_up(&device, random_cycle(), 0, 0, 0, random_clock());
+    plain_device_power_up(&device, percent(50), percent(50), random_cycle(), 0, 0, 0, random_clock());
     device.core.wel = 1;
     device.pins.s = 0;
-    device.frame.taken = 4;
+    device.frame.taken = (uint8_t)(4 + below(2));
     device.frame.code = WRITE;
     device.frame.address = random_address();
     return device;
 }
 
-/* the latch in a page that waits: asked, then its cycle ended */
-static void try_waiting(const cartvesper_latch *latch, uint32_t number, uint32_t cells)
+/* the latch in a page or an identification page that waits: asked, then its cycle ended */
+static void try_waiting(const cartvesper_latch *latch, uint8_t kind, uint32_t number, uint32_t cells)
 {
-    cartvesper_core core = core_with(1);
+    cartvesper_core core = core_with(kind);
     cartvesper_device device;
-    plain_device_power_up(&device, 1, 0, 0, 0, 0);
+    plain_device_power_up(&device, 0, 0, 1, 0, 0, 0, 0);
     core.waits.latch = *latch;
     device.core = core;
     expect_core_touched(&core, number, cells);
-    try_reading(&core, core.last + core.left, MEMORY);
+    try_reading(&core, core.last + core.left, whole);
     expect_core_touched(&core, number, 0);
     expect_touched(&device, number, cells);
-    try_event(&device, CLOCK, device.core.last + device.core.left, MEMORY);
+    try_event(&device, CLOCK, device.core.last + device.core.left, whole);
     expect_touched(&device, number, 0);
 }
 
@@ -1611,35 +1757,36 @@ static void try_latching(const cartvesper_latch *latch, uint32_t number, uint32_
     cartvesper_device device = device_in_write();
     device.frame.latch = *latch;
     expect_touched(&device, number, 0);
-    try_event(&device, SET_S, 1, MEMORY);
+    try_event(&device, SET_S, 1, whole);
     expect_touched(&device, number, cells);
-    try_event(&device, CLOCK, device.core.last + device.core.left, MEMORY);
+    try_event(&device, CLOCK, device.core.last + device.core.left, whole);
     expect_touched(&device, number, 0);
 }
 
 /* inside the ranges: so many cells; outside them: 2 */
 static void try_latch(const cartvesper_latch *latch, uint32_t number, uint32_t cells)
 {
-    try_waiting(latch, number, cells);
+    try_waiting(latch, 2, number, cells);
+    try_waiting(latch, 3, number, cells);
     try_latching(latch, number, cells);
     counts.marked++;
 }
 
-/* a latch that is not empty where no page waits, and where the frame has latched nothing: 2 */
+/* a latch that is not empty where neither page waits, and where the frame has latched nothing: 2 */
 static void try_stray(const cartvesper_latch *latch)
 {
-    cartvesper_core core = core_with(0);
+    cartvesper_core core = core_without_bytes();
     cartvesper_device device;
     core.waits.latch = *latch;
     expect_core_touched(&core, 2, 0);
     do
         device = random_device();
-    while (device.core.waits.kind == 2);
+    while (bytes_wait(&device.core));
     device.core.waits.latch = *latch;
     expect_touched(&device, 2, 0);
     do
         device = random_device();
-    while (device.frame.code == WRITE && device.frame.taken == 4);
+    while (device.frame.code == WRITE && device.frame.taken >= 4);
     device.frame.latch = *latch;
     expect_touched(&device, 2, 0);
     counts.marked++;
@@ -1811,7 +1958,7 @@ static void try_order(cartvesper_latch one, cartvesper_latch other)
     for (size_t i = 0; i < PAGE; i++)
         matters |= cartvesper_marked(&one, i) && cartvesper_marked(&other, i) && one.bytes[i] != other.bytes[i];
     cartvesper_latch first = laid(one, other), second = laid(other, one);
-    compare_numbers("that order matters (second: wanted)", !latch_same(&first, &second), (uint64_t)matters);
+    compare_numbers("that order matters (second: wanted)", !plain_latch_same(&first, &second), (uint64_t)matters);
     counts.ordered += (uint64_t)matters;
 }
 
@@ -1838,57 +1985,72 @@ static cartvesper_latch send_write(cartvesper_core *core, uint32_t page)
     cartvesper_latch bytewise = {{0}, {0}};
     size_t start = below(PAGE), length = 1 + (percent(70) ? below(12) : below(2 * PAGE));
     frame_bytes[0] = WREN;
-    try_frame(core, MEMORY, 1, 1, 8, 1);
+    try_frame(core, whole, 1, 1, 8, 1);
     frame_bytes[0] = WRITE;
     frame_bytes[1] = (uint8_t)(page * PAGE >> 8);
     frame_bytes[2] = (uint8_t)(page * PAGE + start);
     random_bytes(frame_bytes + 3, length);
-    try_frame(core, MEMORY, 1, 3 + length, 8 * (3 + length), 3 + length);
+    try_frame(core, whole, 1, 3 + length, 8 * (3 + length), 3 + length);
     for (size_t i = 0; i < length; i++)
         bytewise = laid(bytewise, one_cell((start + i) % PAGE, frame_bytes[3 + i]));
     compare_latches("what waits (first), its bytes laid one by one (second)", &core->waits.latch, &bytewise);
     counts.bytewise++;
-    try_reading(core, core->last + core->left, MEMORY);
+    try_reading(core, core->last + core->left, whole);
     return bytewise;
 }
 
-/* any page write, by the end of a cycle that it waits for */
-static void store_latch(const cartvesper_latch *latch, uint32_t page)
+/* any page write, by the end of a cycle that it waits for: into a page, or into the identification page, which is 0 */
+static void store_latch(const cartvesper_latch *latch, uint8_t kind, uint32_t page)
 {
-    cartvesper_core core = core_with(1);
+    cartvesper_core core = core_with(kind);
     core.waits.page = page;
     core.waits.latch = *latch;
-    if (try_reading(&core, core.last + core.left, MEMORY) != 0)
+    if (try_reading(&core, core.last + core.left, whole) != 0)
         fail("a page write inside its ranges, refused where it waits");
 }
 
 static void compare_kept(const char *what)
 {
-    compare_bytes(what, lib_memory.before, singles_memory.before, sizeof lib_memory, GUARD);
+    compare_lent(what, &lib_memory, &singles_memory);
 }
 
 /* two page writes stored one after the other are the one laid over the other, stored: by two WRITEs, or any two */
 static void try_stored(int count)
 {
     for (int i = 0; i < count; i++) {
-        uint32_t page = percent(30) ? below(2) * 511 : below(512);
+        uint8_t kind = percent(30) ? 3 : 2;
+        uint32_t page = kind == 3 ? 0 : percent(30) ? below(2) * 511 : below(512);
         cartvesper_latch earlier = random_page_write(), later = random_page_write();
         start_memory = lib_memory;
-        if (percent(50)) {
+        if (kind == 2 && percent(50)) {
             cartvesper_core core;
-            try_power_up(&core, random_cycle(), 0, 0, 0, random_clock());
+            try_power_up(&core, random_which(0), random_cycle(), 0, 0, 0, random_clock());
             earlier = send_write(&core, page);
             later = send_write(&core, page);
         } else {
-            store_latch(&earlier, page);
-            store_latch(&later, page);
+            store_latch(&earlier, kind, page);
+            store_latch(&later, kind, page);
         }
         singles_memory = lib_memory;
         lib_memory = plain_memory = start_memory;
         cartvesper_latch both = laid(earlier, later);
-        store_latch(&both, page);
-        compare_kept("memory of the one laid over (first), of the two (second)");
+        store_latch(&both, kind, page);
+        compare_kept("what the one laid over left (first), what the two left (second)");
         counts.stored++;
+    }
+}
+
+/* the identification page takes a page write as page 0 of the memory does */
+static void try_same_laying(int count)
+{
+    for (int i = 0; i < count; i++) {
+        cartvesper_latch latch = random_page_write();
+        memcpy(lib_memory.bytes, lib_memory.identification, PAGE);
+        plain_memory = lib_memory;
+        store_latch(&latch, 2, 0);
+        store_latch(&latch, 3, 0);
+        compare_bytes("the identification page (first), page 0 (second)", lib_memory.identification, lib_memory.bytes,
+                      PAGE, 0);
     }
 }
 
@@ -1900,6 +2062,7 @@ static void lay_session(void)
     try_lays(500);
     try_laws(150);
     try_stored(20);
+    try_same_laying(20);
 }
 
 /* the same write sent twice, both done, leaves the memory of one; interval and limit may differ, and time may pass in
@@ -1914,14 +2077,14 @@ static void try_twice(void)
     if (percent(70)) /* else half of the runs touch the block */
         core.bp1 = core.bp0 = core.waits.status = 0;
     random_bytes(run_bytes, length < 1000 ? length : 1000);
-    if (try_write(&core, MEMORY, address, length, interval, 5001) != 0)
+    if (try_write(&core, whole, address, length, interval, 5001) != 0)
         return;
     compare_bytes("the run's cells (first), its bytes (second)", lib_memory.bytes + address, run_bytes, length, 0);
     singles_memory = lib_memory;
     if (length > 0 && percent(30)) /* no cycle runs now; with no data one may */
-        try_reading(&core, random_reading(&core), MEMORY);
+        try_reading(&core, random_reading(&core), whole);
     interval = length > 1000 ? interval : random_interval(&core);
-    if (try_write(&core, MEMORY, address, length, interval, random_limit(&core, interval)) != 0)
+    if (try_write(&core, whole, address, length, interval, random_limit(&core, interval)) != 0)
         return;
     compare_kept("memory of a write sent twice (first), once (second)");
     counts.twice++;
@@ -1954,13 +2117,13 @@ static void cross_bit(const cartvesper_device *device, const uint8_t *expected, 
 /* a pause begins and ends while C is low; C and D move inside, S does not, W is set to the level it has */
 static void cross_pause(cartvesper_device *device)
 {
-    try_event(device, SET_HOLD, 0, MEMORY);
+    try_event(device, SET_HOLD, 0, whole);
     for (uint32_t moves = below(12); moves > 0; moves--) {
         int kind = (int)(SET_C + below(3));
-        try_event(device, kind, kind == SET_W ? device->pins.w : below(2), MEMORY);
+        try_event(device, kind, kind == SET_W ? device->pins.w : below(2), whole);
     }
-    try_event(device, SET_C, 0, MEMORY);
-    try_event(device, SET_HOLD, 1, MEMORY);
+    try_event(device, SET_C, 0, whole);
+    try_event(device, SET_HOLD, 1, whole);
 }
 
 static void maybe_pause(cartvesper_device *device, uint32_t pauses)
@@ -1976,22 +2139,22 @@ static void idle_moves(cartvesper_device *device, uint32_t pauses)
     const uint8_t levels[] = {pins->s, pins->c, pins->d, pins->w, pins->hold};
     while (percent(pauses)) {
         int kind = (int)below(5);
-        try_event(device, kind, kind == SET_D ? below(2) : levels[kind], MEMORY);
+        try_event(device, kind, kind == SET_D ? below(2) : levels[kind], whole);
     }
 }
 
 static void cross_edge(cartvesper_device *device, size_t bit, int mode, uint32_t pauses, const uint8_t *expected)
 {
     if (mode)
-        try_event(device, SET_C, 0, MEMORY);
+        try_event(device, SET_C, 0, whole);
     idle_moves(device, pauses);
     maybe_pause(device, pauses);
-    try_event(device, SET_D, frame_bytes[bit / 8] >> (7 - bit % 8) & 1, MEMORY);
+    try_event(device, SET_D, frame_bytes[bit / 8] >> (7 - bit % 8) & 1, whole);
     cross_bit(device, expected, bit);
-    try_event(device, SET_C, 1, MEMORY);
+    try_event(device, SET_C, 1, whole);
     idle_moves(device, pauses);
     if (!mode)
-        try_event(device, SET_C, 0, MEMORY);
+        try_event(device, SET_C, 0, whole);
 }
 
 /* the whole drawing of a frame, from an unselected device */
@@ -1999,13 +2162,13 @@ static void cross_draw(cartvesper_device *device, size_t bits, int mode, uint32_
 {
     leading_z = 0;
     driven_yet = 0;
-    try_event(device, SET_C, (uint32_t)mode, MEMORY);
-    try_event(device, SET_S, 0, MEMORY);
+    try_event(device, SET_C, (uint32_t)mode, whole);
+    try_event(device, SET_S, 0, whole);
     for (size_t bit = 0; bit < bits; bit++)
         cross_edge(device, bit, mode, pauses, expected);
     if (!mode)
         maybe_pause(device, pauses);
-    try_event(device, SET_S, 1, MEMORY);
+    try_event(device, SET_S, 1, whole);
     counts.drawn++;
 }
 
@@ -2014,11 +2177,11 @@ static void cross_memory(cartvesper_device *device, cartvesper_core *core)
 {
     uint32_t reading = random_reading(core);
     start_memory = lib_memory;
-    try_event(device, CLOCK, reading, MEMORY);
+    try_event(device, CLOCK, reading, whole);
     singles_memory = lib_memory;
     lib_memory = plain_memory = start_memory;
-    try_reading(core, reading, MEMORY);
-    compare_bytes("memory after frame (first) and pins (second)", lib_memory.before, singles_memory.before, sizeof lib_memory, GUARD);
+    try_reading(core, reading, whole);
+    compare_lent("what is lent after frame (first) and pins (second)", &lib_memory, &singles_memory);
     compare_cores("core after the reading: pins (first), frame (second)", &device->core, core);
 }
 
@@ -2041,11 +2204,12 @@ static void cross_frame(cartvesper_device *device, int longest)
     } while (length > LONGEST);
     if (longest && percent(70))
         frame_bytes[0] = percent(60) ? READ : WRITE;
-    cartvesper_frame_answer answer = cartvesper_frame(core, lib_memory.bytes, MEMORY, w, frame_bytes, length, bits, expected, length);
-    try_frame(&core, MEMORY, w, length, bits, length);
+    cartvesper_frame_answer answer =
+        cartvesper_frame(core, LENT(lib_memory, whole), w, frame_bytes, length, bits, expected, length);
+    try_frame(&core, whole, w, length, bits, length);
     compare_numbers("frame number", answer.number, 0);
     cross_tail(expected, length, bits);
-    try_event(device, SET_W, w, MEMORY);
+    try_event(device, SET_W, w, whole);
     cross_draw(device, bits, percent(50), longest ? 0 : percent(50) ? below(30) : 0, expected);
     begin_call(&core, NULL, "frame %02X of %zu bits drawn (record: after the frame)", length ? frame_bytes[0] : 0, bits);
     compare_numbers("leading Z (first: pins, second: frame's undriven)", leading_z, answer.undriven);
@@ -2061,7 +2225,8 @@ static void cross_session(int frames)
 {
     cartvesper_device device;
     new_memory();
-    try_device_power_up(&device, random_cycle(), percent(20), percent(20), percent(30), random_clock());
+    try_device_power_up(&device, random_which(0), random_cycle(), percent(20), percent(20), percent(30),
+                        random_clock());
     if (percent(30))
         device.core = random_core();
     for (int i = 0; i < frames; i++)
@@ -2075,14 +2240,15 @@ static void case_frame(cartvesper_core *core, const char *hex, size_t bits)
     size_t length = 0;
     for (char *end = (char *)hex; *end != 0; length++)
         frame_bytes[length] = (uint8_t)strtoul(end, &end, 16);
-    try_frame(core, MEMORY, 1, length, bits ? bits : 8 * length, length);
+    try_frame(core, whole, 1, length, bits ? bits : 8 * length, length);
 }
 
 static void case_start(cartvesper_core *core, int bits)
 {
     memset(&lib_memory, 0xFF, sizeof lib_memory);
     plain_memory = lib_memory;
-    try_power_up(core, 5000, (uint8_t)bits >> 2 & 1, (uint8_t)bits >> 1 & 1, (uint8_t)bits & 1, 4294967290);
+    try_power_up(core, (which){0, 0}, 5000, (uint8_t)bits >> 2 & 1, (uint8_t)bits >> 1 & 1, (uint8_t)bits & 1,
+                 4294967290);
     case_frame(core, "06", 0);
 }
 
@@ -2102,11 +2268,11 @@ static void cases_a_b(void)
     case_expect("case b: time left (second: wanted)", core.left, 0);
     case_frame(&core, "02 00 7E 11 22 33 44", 0);
     case_expect("case a: cells touched (second: wanted)", cartvesper_core_touched(core).value, 4);
-    try_reading(&core, 10, MEMORY); /* case i: 16 elapsed */
+    try_reading(&core, 10, whole); /* case i: 16 elapsed */
     case_expect("case i: time left (second: wanted)", core.left, 4984);
     case_frame(&core, "03 00 7E 00 00", 0);
     case_expect("case k: Q in a cycle (second: wanted)", lib_out.bytes[3], 0xFF);
-    try_reading(&core, 10 + 4984, MEMORY);
+    try_reading(&core, 10 + 4984, whole);
     case_expect("case a: cells touched after it (second: wanted)", cartvesper_core_touched(core).value, 0);
     case_expect("case a: 007Eh (second: wanted)", lib_memory.bytes[0x7E], 0x11);
     case_expect("case a: 007Fh (second: wanted)", lib_memory.bytes[0x7F], 0x22);
@@ -2129,9 +2295,9 @@ static void case_c(void)
     frame_bytes[0] = WRITE;
     for (int i = 0; i < 130; i++)
         frame_bytes[3 + i] = (uint8_t)i;
-    try_frame(&core, MEMORY, 1, 133, 8 * 133, 133);
+    try_frame(&core, whole, 1, 133, 8 * 133, 133);
     case_expect("case c: cells touched (second: wanted)", cartvesper_core_touched(core).value, 128);
-    try_reading(&core, core.last + 5000, MEMORY);
+    try_reading(&core, core.last + 5000, whole);
     case_expect("case c: cell 0 (second: wanted)", lib_memory.bytes[0], 0x80);
     case_expect("case c: cell 1 (second: wanted)", lib_memory.bytes[1], 0x81);
     case_expect("case c: cell 2 (second: wanted)", lib_memory.bytes[2], 0x02);
@@ -2150,7 +2316,7 @@ static void cases_d_e(void)
     case_frame(&core, "01 8C", 0);
     case_expect("case e: in a cycle (second: wanted)", cartvesper_core_status(core).value, 0x8F);
     case_expect("case e: cells touched by a status (second: wanted)", cartvesper_core_touched(core).value, 0);
-    try_reading(&core, core.last + 5000, MEMORY);
+    try_reading(&core, core.last + 5000, whole);
     case_expect("case e: idle (second: wanted)", cartvesper_core_status(core).value, 0x8C);
 }
 
@@ -2160,7 +2326,7 @@ static void case_run(cartvesper_core *core, const char *what, uint64_t address, 
 {
     memset(run_bytes, 0x5A, length);
     uint64_t pages_before = counts.pages, frames_before = counts.sent;
-    case_expect(what, try_write(core, MEMORY, address, length, interval, limit), number);
+    case_expect(what, try_write(core, whole, address, length, interval, limit), number);
     case_expect(what, (uint32_t)(counts.pages - pages_before), pages);
     case_expect(what, (uint32_t)(counts.sent - frames_before), frames);
 }
@@ -2220,6 +2386,88 @@ static void cases_h_l(void)
     case_write("a sum of 0 in 32 bits (second: wanted)", 0xFFFFFFFF, 1, 1, 1, 7, 0, 0);
 }
 
+/* what waits of the identification page and its lock, with a cycle begun by hand */
+static void case_wait(cartvesper_core *core, uint8_t kind, const cartvesper_latch *latch)
+{
+    core->wel = 1;
+    core->left = core->cycle;
+    core->waits.kind = kind;
+    core->waits.latch = *latch;
+}
+
+static void cases_identification(void)
+{
+    const cartvesper_latch none = {{0}, {0}};
+    cartvesper_latch three = laid(laid(one_cell(0, 0x20), one_cell(64, 0x21)), one_cell(127, 0x22));
+    cartvesper_core core;
+    memset(&lib_memory, 0xFF, sizeof lib_memory);
+    plain_memory = lib_memory;
+    try_power_up(&core, (which){1, 0}, 5000, 0, 0, 0, 4294967290);
+    case_expect("the part (second: wanted)", core.part, CARTVESPER_M95512D);
+    case_wait(&core, 3, &three);
+    case_expect("cells touched of the identification page (second: wanted)", cartvesper_core_touched(core).value, 3);
+    try_reading(&core, core.last + 4999, whole);
+    case_expect("its first cell before the end (second: wanted)", lib_memory.identification[0], 0xFF);
+    try_reading(&core, core.last + 1, whole);
+    case_expect("its cell 0 (second: wanted)", lib_memory.identification[0], 0x20);
+    case_expect("its cell 1 (second: wanted)", lib_memory.identification[1], 0xFF);
+    case_expect("its cell 64 (second: wanted)", lib_memory.identification[64], 0x21);
+    case_expect("its cell 127 (second: wanted)", lib_memory.identification[127], 0x22);
+    case_expect("the memory's cell 0 (second: wanted)", lib_memory.bytes[0], 0xFF);
+    case_expect("the lock after it (second: wanted)", core.lock, 0);
+    case_expect("the status after it (second: wanted)", cartvesper_core_status(core).value, 0x00);
+    case_wait(&core, 4, &none);
+    case_expect("cells touched by the lock (second: wanted)", cartvesper_core_touched(core).value, 0);
+    try_reading(&core, core.last + 4999, whole);
+    case_expect("the lock before the end (second: wanted)", core.lock, 0);
+    try_reading(&core, core.last + 1, whole);
+    case_expect("the lock (second: wanted)", core.lock, 1);
+    case_expect("the status after it (second: wanted)", cartvesper_core_status(core).value, 0x00);
+}
+
+/* one thing outside its range, alone; 1 before 2 */
+static void case_refused(const char *what, cartvesper_core core, lengths lent, uint32_t number)
+{
+    case_expect(what, try_reading(&core, core.last + core.left, lent), number);
+}
+
+static void cases_parts(void)
+{
+    const cartvesper_latch none = {{0}, {0}}, one = one_cell(5, 0x33);
+    cartvesper_core plain_part, other, core;
+    try_power_up(&plain_part, (which){0, 1}, 5000, 0, 0, 0, 0);
+    case_expect("the lock of the M95512 is kept (second: wanted)", plain_part.lock, 1);
+    try_power_up(&other, (which){1, 1}, 5000, 0, 0, 0, 0);
+    case_refused("a page of 127 (second: wanted)", other, (lengths){MEMORY, PAGE - 1}, 1);
+    case_refused("a page of 129 (second: wanted)", other, (lengths){MEMORY, PAGE + 1}, 1);
+    case_refused("no page, on the M95512 too (second: wanted)", plain_part, (lengths){MEMORY, 0}, 1);
+    core = other;
+    core.part = 2;
+    case_refused("part 2 (second: wanted)", core, whole, 2);
+    case_refused("part 2, a page of 127 (second: wanted)", core, (lengths){MEMORY, PAGE - 1}, 1);
+    core = plain_part;
+    core.lock = 2;
+    case_refused("lock 2, on the M95512 too (second: wanted)", core, whole, 2);
+    for (uint8_t kind = 3; kind <= 4; kind++) {
+        core = plain_part;
+        case_wait(&core, kind, &none);
+        case_refused("kinds 3 and 4 of the M95512 (second: wanted)", core, whole, 2);
+        core = other;
+        case_wait(&core, kind, &none);
+        case_refused("kinds 3 and 4 of the M95512-D (second: wanted)", core, whole, 0);
+        core.waits.page = 1;
+        case_refused("their page number (second: wanted)", core, whole, 2);
+        core.waits.page = 0;
+        core.waits.latch = one;
+        case_refused("a mark where they wait (second: wanted)", core, whole, kind == 3 ? 0 : 2);
+    }
+    case_expect("part 2 at power-up (second: wanted)", try_power_up(&core, (which){2, 0}, 0, 0, 0, 0, 9), 2);
+    case_expect("lock 2 at power-up (second: wanted)", try_power_up(&core, (which){1, 2}, 5000, 0, 0, 0, 9), 2);
+    case_expect("cycle 0 at power-up (second: wanted)", try_power_up(&core, (which){1, 1}, 0, 0, 0, 0, 9), 6);
+    case_expect("the part it leaves (second: wanted)", core.part, 0);
+    case_expect("the lock it leaves (second: wanted)", core.lock, 0);
+}
+
 /* ---- */
 
 static void run_round(void)
@@ -2242,6 +2490,7 @@ static void run_round(void)
     sweep_core();
     sweep_device();
     sweep_marks();
+    sweep_parts();
     try_power_ups(40);
     cross_session(12);
     lay_session();
@@ -2255,6 +2504,9 @@ static void print_summary(uint64_t rounds)
     printf("events %" PRIu64 ", in lists again %" PRIu64 " (%" PRIu64 " lists, %" PRIu64 " spoiled by a number), clock readings %" PRIu64 "\n", counts.events,
            counts.listed, counts.lists, counts.spoiled, counts.readings);
     printf("cycles ended %" PRIu64 ", cells changed %" PRIu64 "\n", counts.cycles, counts.cells);
+    printf("identification pages stored %" PRIu64 ", their cells changed %" PRIu64 ", locks set %" PRIu64,
+           counts.identified, counts.kept, counts.locked);
+    printf(", records made of each part and kind %" PRIu64 "\n", counts.parts_swept);
     printf("frames drawn at the pins against the frame call %" PRIu64 "\n", counts.drawn);
     printf("records inside the ranges built by hand %" PRIu64 ", damaged records %" PRIu64 " (%" PRIu64 " calls), fields set to an edge %" PRIu64 "\n",
            counts.unreached, counts.damaged, counts.damaged_calls, counts.swept);
@@ -2288,6 +2540,8 @@ int main(int argc, char **argv)
     cases_d_e();
     cases_h_l();
     cases_protected();
+    cases_identification();
+    cases_parts();
     for (current_round = 0; current_round < rounds; current_round++)
         run_round();
     print_summary(rounds);

@@ -1,17 +1,18 @@
-/* The library by example: one M95512 on a bench, from power-up to a run of the driver. Read it from the top;
- * example.sh builds and runs it.
+/* The library by example: one M95512 on a bench, from power-up to a run of the driver, and an M95512-D. Read it from
+ * the top; example.sh builds and runs it.
  *
- * The library keeps no state. The device is a record that goes in by value and comes back in the answer, and the
- * memory is 65,536 bytes of yours that you lend to each call. So a device is copied by copying both, and a call that
- * is refused has changed neither. */
+ * The library keeps no state. The device is a record that goes in by value and comes back in the answer, and its cells
+ * are yours, lent to each call: 65,536 bytes of memory and then 128 of the identification page, on the M95512 too,
+ * which has none and leaves them alone. So a device is copied by copying all three, and a call that is refused has
+ * changed none of them. */
 #include "cartvesper.h"
 #include <stdio.h>
 #include <stdlib.h>
 #include <string.h>
 
-enum { MEMORY = CARTVESPER_MEMORY };
+enum { MEMORY = CARTVESPER_MEMORY, IDENTIFICATION = CARTVESPER_IDENTIFICATION };
 
-static uint8_t memory[MEMORY];
+static uint8_t memory[MEMORY], identification[IDENTIFICATION];
 
 /* Every answer starts with a number: 0 is done, the others are in cartvesper.h. A bench that sends what it means to
  * send can stop at any other. */
@@ -28,7 +29,8 @@ static void must_be_done(const char *what, uint32_t number)
  * went in, FFh where the chip did not drive Q. */
 static void send(const char *what, cartvesper_core *core, const uint8_t *bytes, size_t length, uint8_t *out)
 {
-    cartvesper_frame_answer answer = cartvesper_frame(*core, memory, MEMORY, 1, bytes, length, 8 * length, out, length);
+    cartvesper_frame_answer answer = cartvesper_frame(*core, memory, MEMORY, identification, IDENTIFICATION, 1, bytes,
+                                                      length, 8 * length, out, length);
     must_be_done(what, answer.number);
     *core = answer.core; /* the device that follows */
 }
@@ -37,7 +39,8 @@ static void send(const char *what, cartvesper_core *core, const uint8_t *bytes, 
  * difference to the last one. */
 static void pass_time(cartvesper_core *core, uint32_t microseconds)
 {
-    cartvesper_core_answer answer = cartvesper_clock_reading(*core, core->last + microseconds, memory, MEMORY);
+    cartvesper_core_answer answer = cartvesper_clock_reading(*core, core->last + microseconds, memory, MEMORY,
+                                                             identification, IDENTIFICATION);
     must_be_done("clock reading", answer.number);
     *core = answer.core;
 }
@@ -88,6 +91,13 @@ static void write_by_hand(cartvesper_core *core)
 
 /* ---- the driver: any run of bytes, with a poll each 1,000 microseconds and at most 5,001 polls in a wait */
 
+static cartvesper_driver_answer drive(const cartvesper_core *core, uint64_t address, const uint8_t *bytes,
+                                      size_t length, uint32_t interval, uint32_t limit)
+{
+    return cartvesper_write(*core, memory, MEMORY, identification, IDENTIFICATION, address, bytes, length, interval,
+                            limit);
+}
+
 static void write_by_driver(cartvesper_core *core)
 {
     uint8_t bytes[300];
@@ -97,13 +107,13 @@ static void write_by_driver(cartvesper_core *core)
     for (uint64_t k = 0; cartvesper_part_refusal(100, 300, k) == 0; k++)
         printf("part %u of %u: %u bytes at %u\n", (unsigned)k + 1, (unsigned)cartvesper_part_count(100, 300, k),
                (unsigned)cartvesper_part_length(100, 300, k), (unsigned)cartvesper_part_address(100, 300, k));
-    cartvesper_driver_answer done = cartvesper_write(*core, memory, MEMORY, 100, bytes, sizeof bytes, 1000, 5001);
+    cartvesper_driver_answer done = drive(core, 100, bytes, sizeof bytes, 1000, 5001);
     must_be_done("driver", done.number);
     *core = done.core;
     printf("driver: %u pages, %u frames, all there: %s\n", done.pages, done.frames, memcmp(memory + 100, bytes, 300) == 0 ? "yes" : "no");
     /* Four polls of 1,000 microseconds do not see the end of a cycle of 5,000: 9. The page in hand waits on in the
      * record */
-    cartvesper_driver_answer early = cartvesper_write(*core, memory, MEMORY, 1000, bytes, 1, 1000, 4);
+    cartvesper_driver_answer early = drive(core, 1000, bytes, 1, 1000, 4);
     printf("limit 4: number %u, %u pages, %u frames, %u microseconds left\n", early.number, early.pages, early.frames, early.core.left);
     *core = early.core;
     pass_time(core, early.core.left);
@@ -144,7 +154,7 @@ static void retries(cartvesper_core *core)
     printf("the later laid twice is as once: %s\n", memcmp(&again, &both, sizeof both) == 0 ? "yes" : "no");
     /* the driver: the same run again, into the next page too */
     for (int sent = 1; sent <= 2; sent++) {
-        cartvesper_driver_answer done = cartvesper_write(*core, memory, MEMORY, 0x20FE, bytes, 4, 1000, 5001);
+        cartvesper_driver_answer done = drive(core, 0x20FE, bytes, 4, 1000, 5001);
         must_be_done("driver", done.number);
         *core = done.core;
         if (sent == 1)
@@ -167,32 +177,52 @@ static void image(const cartvesper_core *core)
 
 /* ---- what is not done says so, and changes nothing */
 
+static uint32_t read_clock(const cartvesper_core *core, size_t size, size_t cells)
+{
+    return cartvesper_clock_reading(*core, 0, memory, size, identification, cells).number;
+}
+
 static void refusals(const cartvesper_core *core)
 {
     const uint8_t bytes[4] = {1, 2, 3, 4};
     cartvesper_core damaged = *core;
     damaged.wel = 2; /* a flag is 0 or 1 */
-    printf("a record outside its ranges: %u\n", cartvesper_clock_reading(damaged, 0, memory, MEMORY).number);
-    printf("a memory one byte short: %u\n", cartvesper_clock_reading(*core, 0, memory, MEMORY - 1).number);
-    printf("one byte past the memory: %u\n", cartvesper_write(*core, memory, MEMORY, 65533, bytes, 4, 1000, 5001).number);
-    printf("interval 0: %u\n", cartvesper_write(*core, memory, MEMORY, 0, bytes, 4, 0, 5001).number);
+    printf("a record outside its ranges: %u\n", read_clock(&damaged, MEMORY, IDENTIFICATION));
+    printf("a memory one byte short: %u\n", read_clock(core, MEMORY - 1, IDENTIFICATION));
+    printf("one byte past the memory: %u\n", drive(core, 65533, bytes, 4, 1000, 5001).number);
+    printf("interval 0: %u\n", drive(core, 0, bytes, 4, 0, 5001).number);
     /* BP0 protects C000h to FFFFh: a write that ends below is done, one that touches the block is refused whole,
      * after the one poll that saw BP */
-    cartvesper_core_answer guarded = cartvesper_power_up(CARTVESPER_LONGEST_CYCLE, 0, 0, 1, 0);
+    cartvesper_core_answer guarded = cartvesper_power_up(CARTVESPER_M95512, 0, CARTVESPER_LONGEST_CYCLE, 0, 0, 1, 0);
     must_be_done("power-up", guarded.number);
     printf("protected from %04X\n", cartvesper_core_lowest_protected(guarded.core).value);
-    cartvesper_driver_answer stopped = cartvesper_write(guarded.core, memory, MEMORY, 0xBFFE, bytes, 4, 1000, 5001);
+    cartvesper_driver_answer stopped = drive(&guarded.core, 0xBFFE, bytes, 4, 1000, 5001);
     printf("into the protected quarter: %u, %u pages, %u frame; cells BFFE %02X, BFFF %02X, C000 %02X\n", stopped.number, stopped.pages, stopped.frames,
            memory[0xBFFE], memory[0xBFFF], memory[0xC000]);
-    cartvesper_driver_answer below = cartvesper_write(guarded.core, memory, MEMORY, 0xBFFE, bytes, 2, 1000, 5001);
+    cartvesper_driver_answer below = drive(&guarded.core, 0xBFFE, bytes, 2, 1000, 5001);
     printf("up to it: %u, %u page, %u frames; cells BFFE %02X, BFFF %02X\n", below.number, below.pages, below.frames, memory[0xBFFE], memory[0xBFFF]);
+}
+
+/* ---- the M95512-D: an identification page, and a lock that closes it for good */
+
+static void other_part(void)
+{
+    /* the lock is the second argument, kept from one power-up to the next as the status bits are */
+    cartvesper_core_answer powered = cartvesper_power_up(CARTVESPER_M95512D, 1, CARTVESPER_LONGEST_CYCLE, 0, 0, 0, 0);
+    must_be_done("power-up", powered.number);
+    printf("an M95512-D: part %u, lock %u, status %02X\n", powered.core.part, powered.core.lock, poll(&powered.core));
+    /* the page's length is judged as the memory's is, and by the same number */
+    printf("an identification page one byte short: %u\n", read_clock(&powered.core, MEMORY, IDENTIFICATION - 1));
+    printf("part 2: %u\n", cartvesper_power_up(2, 0, CARTVESPER_LONGEST_CYCLE, 0, 0, 0, 0).number);
 }
 
 int main(void)
 {
     memset(memory, 0xFF, MEMORY); /* as delivered */
-    /* cycle length 5,000 microseconds, SRWD, BP1 and BP0 0, the clock just about to wrap */
-    cartvesper_core_answer powered = cartvesper_power_up(CARTVESPER_LONGEST_CYCLE, 0, 0, 0, 4294967290u);
+    memset(identification, 0xFF, IDENTIFICATION);
+    /* the M95512, lock 0, cycle length 5,000 microseconds, SRWD, BP1 and BP0 0, the clock just about to wrap */
+    cartvesper_core_answer powered =
+        cartvesper_power_up(CARTVESPER_M95512, 0, CARTVESPER_LONGEST_CYCLE, 0, 0, 0, 4294967290u);
     must_be_done("power-up", powered.number);
     cartvesper_core core = powered.core;
     write_by_hand(&core);
@@ -200,5 +230,6 @@ int main(void)
     retries(&core);
     image(&core);
     refusals(&core);
+    other_part();
     return 0;
 }

@@ -4,7 +4,7 @@ import ctypes
 import sys
 from ctypes import POINTER, Structure, c_size_t, c_uint8, c_uint32, c_uint64
 
-MEMORY = 65536
+MEMORY, IDENTIFICATION, M95512 = 65536, 128, 0
 
 
 class Latch(Structure):
@@ -16,8 +16,8 @@ class Waiting(Structure):
 
 
 class Core(Structure):
-    _fields_ = [("srwd", c_uint8), ("bp1", c_uint8), ("bp0", c_uint8), ("wel", c_uint8),
-                ("cycle", c_uint32), ("left", c_uint32), ("last", c_uint32), ("waits", Waiting)]
+    _fields_ = [("part", c_uint8), ("lock", c_uint8), ("srwd", c_uint8), ("bp1", c_uint8), ("bp0", c_uint8),
+                ("wel", c_uint8), ("cycle", c_uint32), ("left", c_uint32), ("last", c_uint32), ("waits", Waiting)]
 
 
 class CoreAnswer(Structure):
@@ -40,8 +40,8 @@ class Value(Structure):
     _fields_ = [("number", c_uint32), ("value", c_uint32)]
 
 
-# the sizes of version 2 of the records (docs/LINKING.md)
-RECORDS = [(Latch, 144), (Core, 168), (CoreAnswer, 176), (FrameAnswer, 184), (LatchAnswer, 152), (DriverAnswer, 184),
+# the sizes of version 3 of the records (docs/LINKING.md)
+RECORDS = [(Latch, 144), (Core, 176), (CoreAnswer, 184), (FrameAnswer, 192), (LatchAnswer, 152), (DriverAnswer, 192),
            (Value, 8)]
 assert all(ctypes.sizeof(record) == size for record, size in RECORDS)
 
@@ -50,48 +50,52 @@ library = ctypes.CDLL(sys.argv[1])
 power_up, reading, frame, write = (library.cartvesper_power_up, library.cartvesper_clock_reading, library.cartvesper_frame,
                                    library.cartvesper_write)
 touched, lay = library.cartvesper_core_touched, library.cartvesper_lay
-power_up.restype, power_up.argtypes = CoreAnswer, [c_uint32, c_uint8, c_uint8, c_uint8, c_uint32]
-reading.restype, reading.argtypes = CoreAnswer, [Core, c_uint32, BYTES, c_size_t]
-frame.restype, frame.argtypes = FrameAnswer, [Core, BYTES, c_size_t, c_uint8, BYTES, c_size_t, c_size_t, BYTES, c_size_t]
+LENT = [BYTES, c_size_t, BYTES, c_size_t]  # the memory, the identification page
+power_up.restype = CoreAnswer
+power_up.argtypes = [c_uint8, c_uint8, c_uint32, c_uint8, c_uint8, c_uint8, c_uint32]
+reading.restype, reading.argtypes = CoreAnswer, [Core, c_uint32, *LENT]
+frame.restype = FrameAnswer
+frame.argtypes = [Core, *LENT, c_uint8, BYTES, c_size_t, c_size_t, BYTES, c_size_t]
 touched.restype, touched.argtypes = Value, [Core]
 lay.restype, lay.argtypes = LatchAnswer, [Latch, Latch]
-write.restype, write.argtypes = DriverAnswer, [Core, BYTES, c_size_t, c_uint64, BYTES, c_size_t, c_uint32, c_uint32]
+write.restype, write.argtypes = DriverAnswer, [Core, *LENT, c_uint64, BYTES, c_size_t, c_uint32, c_uint32]
 
-memory = (c_uint8 * MEMORY)(*[0xFF] * MEMORY)
+memory, identification = (c_uint8 * MEMORY)(*[0xFF] * MEMORY), (c_uint8 * IDENTIFICATION)(*[0xFF] * IDENTIFICATION)
+lent = memory, MEMORY, identification, IDENTIFICATION
 
 
 def send(core, values):
     """A whole frame with W high; the device that follows, and what Q showed."""
     sent, out = (c_uint8 * len(values))(*values), (c_uint8 * len(values))()
-    answer = frame(core, memory, MEMORY, 1, sent, len(values), 8 * len(values), out, len(values))
+    answer = frame(core, *lent, 1, sent, len(values), 8 * len(values), out, len(values))
     assert answer.number == 0, answer.number
     return answer.core, bytes(out)
 
 
-core = power_up(5000, 0, 0, 0, 0).core
+core = power_up(M95512, 0, 5000, 0, 0, 0, 0).core
 core, _ = send(core, [0x06])
 core, _ = send(core, [0x02, 0x00, 0x7E, 0x11, 0x22, 0x33, 0x44])
 core, out = send(core, [0x05, 0x00])
 marked = [i for i in range(128) if core.waits.latch.marks[i // 64] >> i % 64 & 1]
 print("status", out[1:].hex(), "cells to be touched", touched(core).value, marked)
 page_write = Latch.from_buffer_copy(core.waits.latch)
-core = reading(core, 5000, memory, MEMORY).core
+core = reading(core, 5000, *lent).core
 core, out = send(core, [0x03, 0x00, 0x7E, 0, 0])
 print("READ at 007E", out[3:].hex(), "cells to be touched", touched(core).value)
 
 run = (c_uint8 * 300)(*[i % 251 for i in range(300)])
-done = write(core, memory, MEMORY, 100, run, 300, 1000, 5001)
+done = write(core, *lent, 100, run, 300, 1000, 5001)
 print("driver", done.number, done.pages, done.frames, bytes(memory[100:400]) == bytes(run))
 twice = lay(page_write, page_write)
 print("laid twice", twice.number, "as once", bytes(twice.latch) == bytes(page_write))
 once = bytes(memory)
-done = write(done.core, memory, MEMORY, 100, run, 300, 700, 5001)
+done = write(done.core, *lent, 100, run, 300, 700, 5001)
 print("sent twice", done.number, done.pages, done.frames, "the memory of one", bytes(memory) == once)
-guarded = power_up(5000, 0, 0, 1, 0).core  # BP0: C000h and above is protected
-refused = write(guarded, memory, MEMORY, 0xBFFF, run, 2, 1000, 5001)
+guarded = power_up(M95512, 0, 5000, 0, 0, 1, 0).core  # BP0: C000h and above is protected
+refused = write(guarded, *lent, 0xBFFF, run, 2, 1000, 5001)
 print("into the protected block", refused.number, refused.pages, refused.frames)
 damaged = done.core
 damaged.wel = 2
 page_write.bytes[2] = 1  # not marked
-print("a record outside its ranges", reading(damaged, 0, memory, MEMORY).number, touched(damaged).number,
+print("a record outside its ranges", reading(damaged, 0, *lent).number, touched(damaged).number,
       lay(page_write, page_write).number)

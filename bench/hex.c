@@ -51,7 +51,7 @@ static uint32_t both_import(cartvesper_core given, size_t size, size_t length)
     calls++;
     if (a.number != b.number)
         fail("import's number");
-    if (memcmp(&a.core, &b.core, sizeof a.core) || memcmp(&a.core, &given, sizeof given))
+    if (!plain_core_same(&a.core, &b.core) || !plain_core_same(&a.core, &given))
         fail("import's record");
     if (memcmp(lib_memory, plain_memory, MEMORY))
         fail("import's memory");
@@ -187,7 +187,10 @@ static void import_of(const char *what, const char *s, uint32_t want)
 
 static void each_alone(void)
 {
-    cartvesper_core running = core, outside = core;
+    cartvesper_core running = core, outside = core, other = core, none = core;
+    other.part = CARTVESPER_M95512D;
+    other.lock = 1;
+    none.part = 2;
     running.wel = 1;
     running.left = running.cycle;
     running.waits.kind = 1;
@@ -224,6 +227,8 @@ static void each_alone(void)
     size_t n = say(":0300300002337A1E\n" END);
     expect("a cycle runs", both_import(running, MEMORY, n), 12);
     expect("a cycle runs, and the text is bad", both_import(running, MEMORY, 5), 12);
+    expect("an M95512-D, locked", both_import(other, MEMORY, n), 0);
+    expect("a part that is none", both_import(none, MEMORY, n), 2);
     expect("a memory one byte short", both_import(core, MEMORY - 1, n), 1);
     expect("a record outside its ranges", both_import(outside, MEMORY, n), 2);
     expect("a short memory and such a record and a bad text", both_import(outside, MEMORY - 1, 5), 1);
@@ -239,6 +244,8 @@ static void each_alone(void)
     expect("300,000 records, one bad", both_import(core, MEMORY, n), 12);
     expect("export", both_export(core, MEMORY, ROOM), 0);
     expect("export in a cycle", both_export(running, MEMORY, ROOM), 0);
+    expect("export of an M95512-D, locked", both_export(other, MEMORY, ROOM), 0);
+    expect("export of a part that is none", both_export(none, MEMORY, ROOM), 2);
     expect("export to one byte fewer", both_export(core, MEMORY, ROOM - 1), 5);
     expect("export to one byte more", both_export(core, MEMORY, ROOM + 1), 5);
     expect("export to nothing", both_export(core, MEMORY, 0), 5);
@@ -305,7 +312,7 @@ int main(int argc, char **argv)
     unsigned rounds = argc > 2 ? (unsigned)strtoul(argv[2], 0, 10) : 20000;
     if (argc > 1)
         state = strtoull(argv[1], 0, 10) | 1;
-    plain_core_power_up(&core, 5000, 0, 0, 0, 0);
+    plain_core_power_up(&core, CARTVESPER_M95512, 0, 5000, 0, 0, 0, 0);
     draw_memory(memory);
     each_alone();
     for (unsigned k = 0; k < rounds; k++) {

@@ -3,11 +3,33 @@
 #include <string.h>
 
 enum { WREN = 0x06, WRDI = 0x04, RDSR = 0x05, WRSR = 0x01, READ = 0x03, WRITE = 0x02 };
+enum { M95512 = 0, M95512D = 1 }; /* the parts: the second has an identification page and a lock */
 enum { MEMORY = 65536, PAGE = 128, PAGES = 512, LONGEST_FRAME = 65540, LONGEST_CYCLE = 5000 };
+enum { MOST = 5 };                       /* whole bytes counted of a frame */
 enum { WORD = 64, WORDS = PAGE / WORD }; /* a word of marks has a bit for each of 64 cells */
-enum { NOTHING = 0, STATUS = 1, LATCHED = 2 }; /* what waits */
-enum { WRITABLE = 0x8C };                      /* SRWD, BP1, BP0 in the status byte */
+enum { NOTHING = 0, STATUS = 1, LATCHED = 2, IDENTIFICATION = 3, LOCK = 4 }; /* what waits */
+enum { WRITABLE = 0x8C };                /* SRWD, BP1, BP0 in the status byte */
 enum { Z = 2 };
+
+/* ---- equality, without the bytes between fields */
+
+int plain_latch_same(const cartvesper_latch *one, const cartvesper_latch *other)
+{
+    return memcmp(one->bytes, other->bytes, PAGE) == 0 && memcmp(one->marks, other->marks, sizeof one->marks) == 0;
+}
+
+static int waiting_same(const cartvesper_waiting *one, const cartvesper_waiting *other)
+{
+    return one->kind == other->kind && one->status == other->status && one->page == other->page &&
+           plain_latch_same(&one->latch, &other->latch);
+}
+
+int plain_core_same(const cartvesper_core *one, const cartvesper_core *other)
+{
+    return one->part == other->part && one->lock == other->lock && one->srwd == other->srwd && one->bp1 == other->bp1 &&
+           one->bp0 == other->bp0 && one->wel == other->wel && one->cycle == other->cycle && one->left == other->left &&
+           one->last == other->last && waiting_same(&one->waits, &other->waits);
+}
 
 /* ---- ranges: 01 "What the device holds", reading "The record" */
 
@@ -63,7 +85,8 @@ int plain_latch_ok(const cartvesper_latch *latch)
     return latch_ok(latch);
 }
 
-static int waiting_ok(const cartvesper_waiting *waits)
+/* the identification page and the lock wait only on the part that has them; the page's number is 0 */
+static int waiting_ok(const cartvesper_waiting *waits, int part)
 {
     switch (waits->kind) {
     case NOTHING:
@@ -72,6 +95,10 @@ static int waiting_ok(const cartvesper_waiting *waits)
         return (waits->status & ~WRITABLE) == 0 && waits->page == 0 && latch_empty(&waits->latch);
     case LATCHED:
         return waits->status == 0 && waits->page < PAGES && latch_ok(&waits->latch);
+    case IDENTIFICATION:
+        return part == M95512D && waits->status == 0 && waits->page == 0 && latch_ok(&waits->latch);
+    case LOCK:
+        return part == M95512D && waits->status == 0 && waits->page == 0 && latch_empty(&waits->latch);
     default:
         return 0;
     }
@@ -79,6 +106,8 @@ static int waiting_ok(const cartvesper_waiting *waits)
 
 int plain_core_ok(const cartvesper_core *core)
 {
+    if (core->part > M95512D || core->lock > 1)
+        return 0;
     if (core->srwd > 1 || core->bp1 > 1 || core->bp0 > 1 || core->wel > 1)
         return 0;
     if (core->cycle < 1 || core->cycle > LONGEST_CYCLE || core->left > core->cycle)
@@ -86,12 +115,12 @@ int plain_core_ok(const cartvesper_core *core)
     /* 01: time left has WEL 1 and one thing waiting; with none left, nothing waits */
     if (core->left > 0 ? !core->wel || core->waits.kind == NOTHING : core->waits.kind != NOTHING)
         return 0;
-    return waiting_ok(&core->waits);
+    return waiting_ok(&core->waits, core->part);
 }
 
 static int frame_empty(const cartvesper_frame_part *frame)
 {
-    return frame->taken == 0 && frame->bits == 0 && frame->part == 0 && frame->code == 0 && frame->ran == 0 && frame->value == 0 &&
+    return frame->taken == 0 && frame->bits == 0 && frame->partial == 0 && frame->code == 0 && frame->ran == 0 && frame->value == 0 &&
            frame->out == 0 && frame->shown == 0 && frame->address == 0 && latch_empty(&frame->latch);
 }
 
@@ -122,7 +151,7 @@ static int output_ok(const cartvesper_frame_part *frame)
 
 static int frame_ok(const cartvesper_frame_part *frame, int cycle_runs)
 {
-    if (frame->taken > 4 || frame->bits > 7 || frame->part >> frame->bits != 0 || frame->ran > 1)
+    if (frame->taken > MOST || frame->bits > 7 || frame->partial >> frame->bits != 0 || frame->ran > 1)
         return 0;
     if (frame->taken == 0 && (frame->code != 0 || frame->ran != 0))
         return 0;
@@ -132,7 +161,7 @@ static int frame_ok(const cartvesper_frame_part *frame, int cycle_runs)
         return 0;
     if (!address_ok(frame) || !output_ok(frame))
         return 0;
-    return frame->code == WRITE && frame->taken == 4 ? latch_ok(&frame->latch) : latch_empty(&frame->latch);
+    return frame->code == WRITE && frame->taken >= 4 ? latch_ok(&frame->latch) : latch_empty(&frame->latch);
 }
 
 int plain_device_ok(const cartvesper_device *device)
@@ -173,11 +202,11 @@ int plain_protected(const cartvesper_core *core, uint32_t address)
     return address >= plain_lowest_protected(core);
 }
 
-/* the marked cells of the page that waits, one by one */
+/* the marked cells of the page that waits, the identification page too, one by one */
 uint32_t plain_touched(const cartvesper_core *core)
 {
     uint32_t cells = 0;
-    if (core->waits.kind != LATCHED)
+    if (core->waits.kind != LATCHED && core->waits.kind != IDENTIFICATION)
         return 0;
     for (size_t i = 0; i < PAGE; i++)
         if (cartvesper_marked(&core->waits.latch, i))
@@ -185,9 +214,12 @@ uint32_t plain_touched(const cartvesper_core *core)
     return cells;
 }
 
-void plain_core_power_up(cartvesper_core *core, uint32_t cycle, int srwd, int bp1, int bp0, uint32_t reading)
+void plain_core_power_up(cartvesper_core *core, int part, int lock, uint32_t cycle, int srwd, int bp1, int bp0,
+                         uint32_t reading)
 {
     memset(core, 0, sizeof *core);
+    core->part = (uint8_t)part;
+    core->lock = (uint8_t)lock;
     core->srwd = (uint8_t)srwd;
     core->bp1 = (uint8_t)bp1;
     core->bp0 = (uint8_t)bp0;
@@ -216,25 +248,35 @@ static void store_status(cartvesper_core *core, uint8_t status)
     core->bp0 = status >> 2 & 1;
 }
 
-static void end_cycle(cartvesper_core *core, uint8_t *memory)
+static void end_cycle(cartvesper_core *core, uint8_t *memory, uint8_t *identification)
 {
-    if (core->waits.kind == STATUS)
+    switch (core->waits.kind) {
+    case STATUS:
         store_status(core, core->waits.status);
-    else
+        break;
+    case LATCHED:
         store_page(memory + PAGE * core->waits.page, &core->waits.latch);
+        break;
+    case IDENTIFICATION:
+        store_page(identification, &core->waits.latch);
+        break;
+    case LOCK:
+        core->lock = 1;
+        break;
+    }
     memset(&core->waits, 0, sizeof core->waits);
     core->left = 0;
     core->wel = 0;
 }
 
-void plain_time(cartvesper_core *core, uint8_t *memory, uint32_t reading)
+void plain_time(cartvesper_core *core, uint8_t *memory, uint8_t *identification, uint32_t reading)
 {
     uint32_t elapsed = reading - core->last; /* modulo 2^32 */
     core->last = reading;
     if (core->left == 0)
         return;
     if (elapsed >= core->left)
-        end_cycle(core, memory);
+        end_cycle(core, memory, identification);
     else
         core->left -= elapsed;
 }
@@ -379,13 +421,14 @@ uint64_t plain_frame(cartvesper_core *core, const uint8_t *memory, int w, const 
 
 /* ---- the pin level */
 
-void plain_device_power_up(cartvesper_device *device, uint32_t cycle, int srwd, int bp1, int bp0, uint32_t reading)
+void plain_device_power_up(cartvesper_device *device, int part, int lock, uint32_t cycle, int srwd, int bp1, int bp0,
+                           uint32_t reading)
 {
     memset(device, 0, sizeof *device);
     device->pins.s = 1;
     device->pins.w = 1;
     device->pins.hold = 1;
-    plain_core_power_up(&device->core, cycle, srwd, bp1, bp0, reading);
+    plain_core_power_up(&device->core, part, lock, cycle, srwd, bp1, bp0, reading);
 }
 
 /* the page's next cell: back to its start, not into the next page */
@@ -427,7 +470,7 @@ static void whole_byte(cartvesper_device *device, uint8_t byte)
             latch_byte(frame, byte);
         break;
     }
-    if (frame->taken < 4)
+    if (frame->taken < MOST)
         frame->taken++;
 }
 
@@ -435,15 +478,15 @@ static void whole_byte(cartvesper_device *device, uint8_t byte)
 static void take_bit(cartvesper_device *device)
 {
     cartvesper_frame_part *frame = &device->frame;
-    uint8_t part = (uint8_t)(frame->part << 1 | device->pins.d);
+    uint8_t partial = (uint8_t)(frame->partial << 1 | device->pins.d);
     if (frame->bits < 7) {
-        frame->part = part;
+        frame->partial = partial;
         frame->bits++;
         return;
     }
-    frame->part = 0;
+    frame->partial = 0;
     frame->bits = 0;
-    whole_byte(device, part);
+    whole_byte(device, partial);
 }
 
 /* an unheld falling edge: bits shown 1 to 7 step, 0 and 8 load the next byte */
@@ -465,7 +508,7 @@ static void move_q(cartvesper_device *device, const uint8_t *memory)
     }
 }
 
-/* the frame's bits are `taken` whole bytes (4: four or more) and no part of one; `ran` 0 means that no cycle runs
+/* the frame's bits are `taken` whole bytes (5: five or more) and no part of one; `ran` 0 means that no cycle runs
  * now either */
 static void execute(cartvesper_device *device)
 {
@@ -487,7 +530,7 @@ static void execute(cartvesper_device *device)
             start_status_cycle(core, frame->value);
         break;
     case WRITE:
-        if (frame->taken == 4 && core->wel && !plain_protected(core, frame->address)) {
+        if (frame->taken >= 4 && core->wel && !plain_protected(core, frame->address)) {
             core->waits.latch = frame->latch;
             start_page_cycle(core, frame->address);
         }
@@ -497,7 +540,7 @@ static void execute(cartvesper_device *device)
 
 static void empty_frame(cartvesper_frame_part *frame)
 {
-    if (frame->code == WRITE && frame->taken == 4) /* else the latch is empty */
+    if (frame->code == WRITE && frame->taken >= 4) /* else the latch is empty */
         memset(&frame->latch, 0, sizeof frame->latch);
     memset(frame, 0, offsetof(cartvesper_frame_part, latch));
 }
@@ -551,9 +594,9 @@ void plain_hold(cartvesper_device *device, int level)
         device->held = !level;
 }
 
-void plain_device_time(cartvesper_device *device, uint8_t *memory, uint32_t reading)
+void plain_device_time(cartvesper_device *device, uint8_t *memory, uint8_t *identification, uint32_t reading)
 {
-    plain_time(&device->core, memory, reading);
+    plain_time(&device->core, memory, identification, reading);
 }
 
 int plain_q(const cartvesper_device *device)
@@ -564,7 +607,7 @@ int plain_q(const cartvesper_device *device)
     return device->frame.out >> (8 - device->frame.shown) & 1;
 }
 
-void plain_event(cartvesper_device *device, uint8_t *memory, uint64_t event)
+void plain_event(cartvesper_device *device, uint8_t *memory, uint8_t *identification, uint64_t event)
 {
     int level = event & 1;
     switch (event >> 32 & 7) {
@@ -584,15 +627,16 @@ void plain_event(cartvesper_device *device, uint8_t *memory, uint64_t event)
         plain_hold(device, level);
         break;
     default:
-        plain_device_time(device, memory, (uint32_t)event);
+        plain_device_time(device, memory, identification, (uint32_t)event);
         break;
     }
 }
 
-void plain_play(cartvesper_device *device, uint8_t *memory, const uint64_t *events, size_t count, uint8_t *out)
+void plain_play(cartvesper_device *device, uint8_t *memory, uint8_t *identification, const uint64_t *events,
+                size_t count, uint8_t *out)
 {
     for (size_t i = 0; i < count; i++) {
-        plain_event(device, memory, events[i]);
+        plain_event(device, memory, identification, events[i]);
         out[i] = (uint8_t)plain_q(device);
     }
 }
@@ -615,7 +659,7 @@ void plain_lay(cartvesper_latch *laid, const cartvesper_latch *earlier, const ca
 
 typedef struct {
     cartvesper_core *core;
-    uint8_t *memory;
+    uint8_t *memory, *identification;
     uint32_t interval, limit, frames;
 } driver_run;
 
@@ -640,7 +684,7 @@ static uint8_t wait_for_wip(driver_run *run, int first_wait)
     uint8_t status = 0;
     for (uint32_t polls = 0; polls < run->limit; polls++) {
         if (!first_wait || polls > 0)
-            plain_time(run->core, run->memory, run->core->last + run->interval);
+            plain_time(run->core, run->memory, run->identification, run->core->last + run->interval);
         status = poll(run);
         if (!(status & 0x01))
             break;
@@ -661,10 +705,11 @@ static uint8_t write_page(driver_run *run, uint32_t address, const uint8_t *byte
     return wait_for_wip(run, 0);
 }
 
-uint32_t plain_write(cartvesper_core *core, uint8_t *memory, uint32_t address, const uint8_t *bytes, size_t length, uint32_t interval, uint32_t limit,
-                     uint32_t *pages, uint32_t *frames)
+uint32_t plain_write(cartvesper_core *core, uint8_t *memory, uint8_t *identification, uint32_t address,
+                     const uint8_t *bytes, size_t length, uint32_t interval, uint32_t limit, uint32_t *pages,
+                     uint32_t *frames)
 {
-    driver_run run = {core, memory, interval, limit, 0};
+    driver_run run = {core, memory, identification, interval, limit, 0};
     uint32_t number = 0;
     *pages = 0;
     if (length > 0) {
@@ -742,35 +787,44 @@ uint64_t plain_part_length(uint64_t address, uint64_t length, uint64_t part)
 
 /* ---- every input answered */
 
-static uint32_t power_up_refusal(uint32_t cycle, uint8_t srwd, uint8_t bp1, uint8_t bp0)
+/* both parts are lent an identification page, and its length shares the memory's refusal */
+static int lent_ok(size_t size, size_t cells)
 {
-    if (srwd > 1 || bp1 > 1 || bp0 > 1)
+    return size == MEMORY && cells == PAGE;
+}
+
+static uint32_t power_up_refusal(uint8_t part, uint8_t lock, uint32_t cycle, uint8_t srwd, uint8_t bp1, uint8_t bp0)
+{
+    if (part > M95512D || lock > 1 || srwd > 1 || bp1 > 1 || bp0 > 1)
         return 2;
     return cycle < 1 || cycle > LONGEST_CYCLE ? 6 : 0;
 }
 
-cartvesper_core_answer plain_power_up_call(uint32_t cycle, uint8_t srwd, uint8_t bp1, uint8_t bp0, uint32_t reading)
+cartvesper_core_answer plain_power_up_call(uint8_t part, uint8_t lock, uint32_t cycle, uint8_t srwd, uint8_t bp1,
+                                           uint8_t bp0, uint32_t reading)
 {
     cartvesper_core_answer answer;
-    answer.number = power_up_refusal(cycle, srwd, bp1, bp0);
+    answer.number = power_up_refusal(part, lock, cycle, srwd, bp1, bp0);
     if (answer.number)
-        plain_core_power_up(&answer.core, LONGEST_CYCLE, 0, 0, 0, 0); /* as delivered */
+        plain_core_power_up(&answer.core, M95512, 0, LONGEST_CYCLE, 0, 0, 0, 0); /* as delivered */
     else
-        plain_core_power_up(&answer.core, cycle, srwd, bp1, bp0, reading);
+        plain_core_power_up(&answer.core, part, lock, cycle, srwd, bp1, bp0, reading);
     return answer;
 }
 
-cartvesper_core_answer plain_clock_reading_call(cartvesper_core core, uint32_t reading, uint8_t *memory, size_t size)
+cartvesper_core_answer plain_clock_reading_call(cartvesper_core core, uint32_t reading, uint8_t *memory, size_t size,
+                                                uint8_t *identification, size_t cells)
 {
-    cartvesper_core_answer answer = {size != MEMORY ? 1 : !plain_core_ok(&core) ? 2 : 0, core};
+    cartvesper_core_answer answer = {!lent_ok(size, cells) ? 1 : !plain_core_ok(&core) ? 2 : 0, core};
     if (answer.number == 0)
-        plain_time(&answer.core, memory, reading);
+        plain_time(&answer.core, memory, identification, reading);
     return answer;
 }
 
-static uint32_t frame_refusal(const cartvesper_core *core, size_t size, uint8_t w, size_t length, size_t bits, size_t room)
+static uint32_t frame_refusal(const cartvesper_core *core, size_t size, size_t cells, uint8_t w, size_t length,
+                              size_t bits, size_t room)
 {
-    if (size != MEMORY)
+    if (!lent_ok(size, cells))
         return 1;
     if (!plain_core_ok(core) || w > 1)
         return 2;
@@ -781,10 +835,12 @@ static uint32_t frame_refusal(const cartvesper_core *core, size_t size, uint8_t 
     return room != length ? 5 : 0;
 }
 
-cartvesper_frame_answer plain_frame_call(cartvesper_core core, const uint8_t *memory, size_t size, uint8_t w, const uint8_t *bytes,
+cartvesper_frame_answer plain_frame_call(cartvesper_core core, const uint8_t *memory, size_t size,
+                                         const uint8_t *identification, size_t cells, uint8_t w, const uint8_t *bytes,
                                          size_t length, size_t bits, uint8_t *out, size_t room)
 {
-    cartvesper_frame_answer answer = {frame_refusal(&core, size, w, length, bits, room), 0, core};
+    cartvesper_frame_answer answer = {frame_refusal(&core, size, cells, w, length, bits, room), 0, core};
+    (void)identification; /* no frame looks at it */
     if (answer.number == 0)
         answer.undriven = plain_frame(&answer.core, memory, w, bytes, length, bits, out);
     return answer;
@@ -824,14 +880,15 @@ cartvesper_value plain_core_touched_call(cartvesper_core core)
     return value_or_2(plain_core_ok(&core), plain_touched(&core));
 }
 
-cartvesper_device_answer plain_device_power_up_call(uint32_t cycle, uint8_t srwd, uint8_t bp1, uint8_t bp0, uint32_t reading)
+cartvesper_device_answer plain_device_power_up_call(uint8_t part, uint8_t lock, uint32_t cycle, uint8_t srwd,
+                                                    uint8_t bp1, uint8_t bp0, uint32_t reading)
 {
     cartvesper_device_answer answer;
-    answer.number = power_up_refusal(cycle, srwd, bp1, bp0);
+    answer.number = power_up_refusal(part, lock, cycle, srwd, bp1, bp0);
     if (answer.number)
-        plain_device_power_up(&answer.device, LONGEST_CYCLE, 0, 0, 0, 0);
+        plain_device_power_up(&answer.device, M95512, 0, LONGEST_CYCLE, 0, 0, 0, 0);
     else
-        plain_device_power_up(&answer.device, cycle, srwd, bp1, bp0, reading);
+        plain_device_power_up(&answer.device, part, lock, cycle, srwd, bp1, bp0, reading);
     return answer;
 }
 
@@ -848,9 +905,11 @@ cartvesper_device_answer plain_device_set_s_call(cartvesper_device device, uint8
     return answer;
 }
 
-cartvesper_device_answer plain_device_set_c_call(cartvesper_device device, uint8_t level, const uint8_t *memory, size_t size)
+cartvesper_device_answer plain_device_set_c_call(cartvesper_device device, uint8_t level, const uint8_t *memory,
+                                                 size_t size, const uint8_t *identification, size_t cells)
 {
-    cartvesper_device_answer answer = {size != MEMORY ? 1 : level_refusal(&device, level), device};
+    cartvesper_device_answer answer = {!lent_ok(size, cells) ? 1 : level_refusal(&device, level), device};
+    (void)identification;
     if (answer.number == 0)
         plain_c(&answer.device, level, memory);
     return answer;
@@ -880,11 +939,12 @@ cartvesper_device_answer plain_device_set_hold_call(cartvesper_device device, ui
     return answer;
 }
 
-cartvesper_device_answer plain_device_read_clock_call(cartvesper_device device, uint32_t reading, uint8_t *memory, size_t size)
+cartvesper_device_answer plain_device_read_clock_call(cartvesper_device device, uint32_t reading, uint8_t *memory,
+                                                      size_t size, uint8_t *identification, size_t cells)
 {
-    cartvesper_device_answer answer = {size != MEMORY ? 1 : !plain_device_ok(&device) ? 2 : 0, device};
+    cartvesper_device_answer answer = {!lent_ok(size, cells) ? 1 : !plain_device_ok(&device) ? 2 : 0, device};
     if (answer.number == 0)
-        plain_device_time(&answer.device, memory, reading);
+        plain_device_time(&answer.device, memory, identification, reading);
     return answer;
 }
 
@@ -919,9 +979,10 @@ static int is_event(uint64_t event)
     return kind == 5 || value <= 1;
 }
 
-uint32_t plain_play_refusal(const cartvesper_device *device, size_t size, const uint64_t *events, size_t count, size_t room)
+uint32_t plain_play_refusal(const cartvesper_device *device, size_t size, size_t cells, const uint64_t *events,
+                            size_t count, size_t room)
 {
-    if (size != MEMORY)
+    if (!lent_ok(size, cells))
         return 1;
     if (!plain_device_ok(device))
         return 2;
@@ -931,12 +992,13 @@ uint32_t plain_play_refusal(const cartvesper_device *device, size_t size, const 
     return room != count ? 5 : 0;
 }
 
-cartvesper_device_answer plain_device_play_call(cartvesper_device device, uint8_t *memory, size_t size, const uint64_t *events, size_t count,
-                                                uint8_t *out, size_t room)
+cartvesper_device_answer plain_device_play_call(cartvesper_device device, uint8_t *memory, size_t size,
+                                                uint8_t *identification, size_t cells, const uint64_t *events,
+                                                size_t count, uint8_t *out, size_t room)
 {
-    cartvesper_device_answer answer = {plain_play_refusal(&device, size, events, count, room), device};
+    cartvesper_device_answer answer = {plain_play_refusal(&device, size, cells, events, count, room), device};
     if (answer.number == 0)
-        plain_play(&answer.device, memory, events, count, out);
+        plain_play(&answer.device, memory, identification, events, count, out);
     return answer;
 }
 
@@ -948,9 +1010,10 @@ cartvesper_latch_answer plain_lay_call(cartvesper_latch earlier, cartvesper_latc
     return answer;
 }
 
-static uint32_t write_refusal(const cartvesper_core *core, size_t size, uint64_t address, size_t length, uint32_t interval, uint32_t limit)
+static uint32_t write_refusal(const cartvesper_core *core, size_t size, size_t cells, uint64_t address, size_t length,
+                              uint32_t interval, uint32_t limit)
 {
-    if (size != MEMORY)
+    if (!lent_ok(size, cells))
         return 1;
     if (!plain_core_ok(core))
         return 2;
@@ -959,11 +1022,13 @@ static uint32_t write_refusal(const cartvesper_core *core, size_t size, uint64_t
     return interval < 1 || interval > LONGEST_CYCLE || limit < 1 || limit > LONGEST_CYCLE + 1 ? 8 : 0;
 }
 
-cartvesper_driver_answer plain_write_call(cartvesper_core core, uint8_t *memory, size_t size, uint64_t address, const uint8_t *bytes, size_t length,
+cartvesper_driver_answer plain_write_call(cartvesper_core core, uint8_t *memory, size_t size, uint8_t *identification,
+                                          size_t cells, uint64_t address, const uint8_t *bytes, size_t length,
                                           uint32_t interval, uint32_t limit)
 {
-    cartvesper_driver_answer answer = {write_refusal(&core, size, address, length, interval, limit), 0, 0, core};
+    cartvesper_driver_answer answer = {write_refusal(&core, size, cells, address, length, interval, limit), 0, 0, core};
     if (answer.number == 0)
-        answer.number = plain_write(&answer.core, memory, (uint32_t)address, bytes, length, interval, limit, &answer.pages, &answer.frames);
+        answer.number = plain_write(&answer.core, memory, identification, (uint32_t)address, bytes, length, interval,
+                                    limit, &answer.pages, &answer.frames);
     return answer;
 }

@@ -1,13 +1,16 @@
-/* A plain C model of the M95512 in the C record types of cartvesper.h, updated in place: the frame level and the pin
- * level, written from document 01 and its reading alone, and laying, the driver and the split, written from the papers
- * with the proved ones known. The functions without `_call` trust their caller (a record inside its ranges, 65,536
- * bytes of memory, levels 0 or 1); the `_call` functions answer every input as cartvesper.h says. */
+/* A plain C model of the M95512 and the M95512-D in the C record types of cartvesper.h, updated in place: the frame
+ * level and the pin level, written from the papers and their reading alone, and laying, the driver and the split,
+ * written from the papers with the proved ones known. The functions without `_call` trust their caller (a record inside
+ * its ranges, 65,536 bytes of memory, 128 of the identification page, levels 0 or 1); the `_call` functions answer
+ * every input as cartvesper.h says. */
 #ifndef PLAIN_H
 #define PLAIN_H
 #include "cartvesper.h"
 
 /* ---- both levels */
 
+int plain_latch_same(const cartvesper_latch *one, const cartvesper_latch *other);
+int plain_core_same(const cartvesper_core *one, const cartvesper_core *other); /* in every field */
 int plain_latch_ok(const cartvesper_latch *latch);
 int plain_core_ok(const cartvesper_core *core);
 int plain_device_ok(const cartvesper_device *device);
@@ -18,26 +21,30 @@ uint32_t plain_touched(const cartvesper_core *core); /* cells that the running c
 
 /* ---- the frame level */
 
-void plain_core_power_up(cartvesper_core *core, uint32_t cycle, int srwd, int bp1, int bp0, uint32_t reading);
-void plain_time(cartvesper_core *core, uint8_t *memory, uint32_t reading);
+void plain_core_power_up(cartvesper_core *core, int part, int lock, uint32_t cycle, int srwd, int bp1, int bp0,
+                         uint32_t reading);
+void plain_time(cartvesper_core *core, uint8_t *memory, uint8_t *identification, uint32_t reading);
 /* a whole frame; out has the slice's length; gives back how many leading bits were undriven */
 uint64_t plain_frame(cartvesper_core *core, const uint8_t *memory, int w, const uint8_t *bytes, size_t length, size_t bits, uint8_t *out);
 
 /* ---- the pin level */
 
-void plain_device_power_up(cartvesper_device *device, uint32_t cycle, int srwd, int bp1, int bp0, uint32_t reading);
+void plain_device_power_up(cartvesper_device *device, int part, int lock, uint32_t cycle, int srwd, int bp1, int bp0,
+                           uint32_t reading);
 void plain_s(cartvesper_device *device, int level);
 void plain_c(cartvesper_device *device, int level, const uint8_t *memory);
 void plain_d(cartvesper_device *device, int level);
 void plain_w(cartvesper_device *device, int level);
 void plain_hold(cartvesper_device *device, int level);
-void plain_device_time(cartvesper_device *device, uint8_t *memory, uint32_t reading);
+void plain_device_time(cartvesper_device *device, uint8_t *memory, uint8_t *identification, uint32_t reading);
 int plain_q(const cartvesper_device *device); /* 0, 1, or 2 for Z */
 /* one event, or a list of them, as cartvesper_device_play writes them; out gets Q after each */
-void plain_event(cartvesper_device *device, uint8_t *memory, uint64_t event);
-void plain_play(cartvesper_device *device, uint8_t *memory, const uint64_t *events, size_t count, uint8_t *out);
+void plain_event(cartvesper_device *device, uint8_t *memory, uint8_t *identification, uint64_t event);
+void plain_play(cartvesper_device *device, uint8_t *memory, uint8_t *identification, const uint64_t *events,
+                size_t count, uint8_t *out);
 /* what a list is refused by before anything is played: 1, 2, 5, or 0 */
-uint32_t plain_play_refusal(const cartvesper_device *device, size_t size, const uint64_t *events, size_t count, size_t room);
+uint32_t plain_play_refusal(const cartvesper_device *device, size_t size, size_t cells, const uint64_t *events,
+                            size_t count, size_t room);
 
 /* ---- page writes */
 
@@ -47,8 +54,9 @@ void plain_lay(cartvesper_latch *laid, const cartvesper_latch *earlier, const ca
 /* ---- the driver and the split */
 
 /* a run that lies in the memory, with interval and limit in range; gives back 0, 9 or 13 */
-uint32_t plain_write(cartvesper_core *core, uint8_t *memory, uint32_t address, const uint8_t *bytes, size_t length, uint32_t interval, uint32_t limit,
-                     uint32_t *pages, uint32_t *frames);
+uint32_t plain_write(cartvesper_core *core, uint8_t *memory, uint8_t *identification, uint32_t address,
+                     const uint8_t *bytes, size_t length, uint32_t interval, uint32_t limit, uint32_t *pages,
+                     uint32_t *frames);
 /* the four numbers, for any address, length and part */
 uint64_t plain_part_refusal(uint64_t address, uint64_t length, uint64_t part);
 uint64_t plain_part_count(uint64_t address, uint64_t length, uint64_t part);
@@ -57,9 +65,12 @@ uint64_t plain_part_length(uint64_t address, uint64_t length, uint64_t part);
 
 /* ---- every input answered, call by call as cartvesper.h */
 
-cartvesper_core_answer plain_power_up_call(uint32_t cycle, uint8_t srwd, uint8_t bp1, uint8_t bp0, uint32_t reading);
-cartvesper_core_answer plain_clock_reading_call(cartvesper_core core, uint32_t reading, uint8_t *memory, size_t size);
-cartvesper_frame_answer plain_frame_call(cartvesper_core core, const uint8_t *memory, size_t size, uint8_t w, const uint8_t *bytes,
+cartvesper_core_answer plain_power_up_call(uint8_t part, uint8_t lock, uint32_t cycle, uint8_t srwd, uint8_t bp1,
+                                           uint8_t bp0, uint32_t reading);
+cartvesper_core_answer plain_clock_reading_call(cartvesper_core core, uint32_t reading, uint8_t *memory, size_t size,
+                                                uint8_t *identification, size_t cells);
+cartvesper_frame_answer plain_frame_call(cartvesper_core core, const uint8_t *memory, size_t size,
+                                         const uint8_t *identification, size_t cells, uint8_t w, const uint8_t *bytes,
                                          size_t length, size_t bits, uint8_t *out, size_t room);
 cartvesper_value plain_core_in_ranges_call(cartvesper_core core);
 cartvesper_value plain_core_status_call(cartvesper_core core);
@@ -67,21 +78,26 @@ cartvesper_value plain_core_lowest_protected_call(cartvesper_core core);
 cartvesper_value plain_core_protected_call(cartvesper_core core, uint32_t address);
 cartvesper_value plain_core_touched_call(cartvesper_core core);
 
-cartvesper_device_answer plain_device_power_up_call(uint32_t cycle, uint8_t srwd, uint8_t bp1, uint8_t bp0, uint32_t reading);
+cartvesper_device_answer plain_device_power_up_call(uint8_t part, uint8_t lock, uint32_t cycle, uint8_t srwd,
+                                                    uint8_t bp1, uint8_t bp0, uint32_t reading);
 cartvesper_device_answer plain_device_set_s_call(cartvesper_device device, uint8_t level);
-cartvesper_device_answer plain_device_set_c_call(cartvesper_device device, uint8_t level, const uint8_t *memory, size_t size);
+cartvesper_device_answer plain_device_set_c_call(cartvesper_device device, uint8_t level, const uint8_t *memory,
+                                                 size_t size, const uint8_t *identification, size_t cells);
 cartvesper_device_answer plain_device_set_d_call(cartvesper_device device, uint8_t level);
 cartvesper_device_answer plain_device_set_w_call(cartvesper_device device, uint8_t level);
 cartvesper_device_answer plain_device_set_hold_call(cartvesper_device device, uint8_t level);
-cartvesper_device_answer plain_device_read_clock_call(cartvesper_device device, uint32_t reading, uint8_t *memory, size_t size);
+cartvesper_device_answer plain_device_read_clock_call(cartvesper_device device, uint32_t reading, uint8_t *memory,
+                                                      size_t size, uint8_t *identification, size_t cells);
 cartvesper_value plain_device_q_call(cartvesper_device device);
 cartvesper_value plain_device_status_call(cartvesper_device device);
 cartvesper_value plain_device_touched_call(cartvesper_device device);
 cartvesper_value plain_device_in_ranges_call(cartvesper_device device);
-cartvesper_device_answer plain_device_play_call(cartvesper_device device, uint8_t *memory, size_t size, const uint64_t *events, size_t count,
-                                                uint8_t *out, size_t room);
+cartvesper_device_answer plain_device_play_call(cartvesper_device device, uint8_t *memory, size_t size,
+                                                uint8_t *identification, size_t cells, const uint64_t *events,
+                                                size_t count, uint8_t *out, size_t room);
 
 cartvesper_latch_answer plain_lay_call(cartvesper_latch earlier, cartvesper_latch later);
-cartvesper_driver_answer plain_write_call(cartvesper_core core, uint8_t *memory, size_t size, uint64_t address, const uint8_t *bytes, size_t length,
+cartvesper_driver_answer plain_write_call(cartvesper_core core, uint8_t *memory, size_t size, uint8_t *identification,
+                                          size_t cells, uint64_t address, const uint8_t *bytes, size_t length,
                                           uint32_t interval, uint32_t limit);
 #endif

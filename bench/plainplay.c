@@ -8,7 +8,7 @@
 enum { MEMORY = 65536, ROOM = 1 << 16, LAST = 1000000 };
 
 static cartvesper_device device;
-static uint8_t memory[MEMORY];
+static uint8_t memory[MEMORY], identification[CARTVESPER_IDENTIFICATION];
 static uint8_t in[ROOM], out[ROOM + 64];
 static size_t have, at, used;
 
@@ -83,7 +83,7 @@ static int one(uint32_t whole)
         }
         if (c != '\n')
             return 0;
-        plain_device_time(&device, memory, (uint32_t)reading);
+        plain_device_time(&device, memory, identification, (uint32_t)reading);
         return 1;
     }
     if ((b != '0' && b != '1') || next() != '\n')
@@ -112,7 +112,8 @@ static int one(uint32_t whole)
 int main(void)
 {
     memset(memory, 0xFF, MEMORY);
-    plain_device_power_up(&device, 5000, 0, 0, 0, 0);
+    memset(identification, 0xFF, sizeof identification);
+    plain_device_power_up(&device, CARTVESPER_M95512, 0, 5000, 0, 0, 0, 0);
     memcpy(out, "line\tq\n", 7);
     used = 7;
     for (uint32_t whole = 0;; whole++) {

@@ -25,8 +25,11 @@ enum { SET_S, SET_C, SET_D, SET_W, SET_HOLD, CLOCK };
 typedef struct {
     cartvesper_core core;
     cartvesper_device device;
-    uint8_t memory[MEMORY], out[LONGEST];
+    uint8_t memory[MEMORY], identification[PAGE], out[LONGEST];
 } side;
+
+/* both slices as four arguments */
+#define LENT(one) (one).memory, MEMORY, (one).identification, PAGE
 
 static side lib, plain;
 static uint8_t frame_bytes[LONGEST];
@@ -47,8 +50,8 @@ static void reset_side(side *one)
     memset(one, 0, sizeof *one);
     for (size_t i = 0; i < MEMORY; i++)
         one->memory[i] = (uint8_t)(i * 31 + (i >> 8));
-    plain_core_power_up(&one->core, CYCLE, 0, 0, 0, 0);
-    plain_device_power_up(&one->device, CYCLE, 0, 0, 0, 0);
+    plain_core_power_up(&one->core, CARTVESPER_M95512, 0, CYCLE, 0, 0, 0, 0);
+    plain_device_power_up(&one->device, CARTVESPER_M95512, 0, CYCLE, 0, 0, 0, 0);
 }
 
 static void refused(void)
@@ -63,7 +66,8 @@ static void lib_frames(size_t n)
 {
     while (n-- > 0) {
         cartvesper_frame_answer a =
-            cartvesper_frame(lib.core, lib.memory, MEMORY, 1, frame_bytes, frame_length, 8 * frame_length, lib.out, frame_length);
+            cartvesper_frame(lib.core, LENT(lib), 1, frame_bytes, frame_length, 8 * frame_length, lib.out,
+                             frame_length);
         if (a.number)
             refused();
         lib.core = a.core;
@@ -94,7 +98,8 @@ static void call_frames(size_t n)
 {
     while (n-- > 0) {
         cartvesper_frame_answer a =
-            plain_frame_call(plain.core, plain.memory, MEMORY, 1, frame_bytes, frame_length, 8 * frame_length, plain.out, frame_length);
+            plain_frame_call(plain.core, LENT(plain), 1, frame_bytes, frame_length, 8 * frame_length, plain.out,
+                             frame_length);
         if (a.number)
             refused();
         plain.core = a.core;
@@ -142,10 +147,11 @@ static void lib_writes(size_t n)
 {
     while (n-- > 0) {
         next_address(n);
-        cartvesper_frame_answer wren = cartvesper_frame(lib.core, lib.memory, MEMORY, 1, wren_byte, 1, 8, lib.out, 1);
+        cartvesper_frame_answer wren = cartvesper_frame(lib.core, LENT(lib), 1, wren_byte, 1, 8, lib.out, 1);
         cartvesper_frame_answer write =
-            cartvesper_frame(wren.core, lib.memory, MEMORY, 1, frame_bytes, frame_length, 8 * frame_length, lib.out, frame_length);
-        cartvesper_core_answer end = cartvesper_clock_reading(write.core, write.core.last + CYCLE, lib.memory, MEMORY);
+            cartvesper_frame(wren.core, LENT(lib), 1, frame_bytes, frame_length, 8 * frame_length, lib.out,
+                             frame_length);
+        cartvesper_core_answer end = cartvesper_clock_reading(write.core, write.core.last + CYCLE, LENT(lib));
         if (wren.number || write.number || end.number)
             refused();
         lib.core = end.core;
@@ -158,7 +164,7 @@ static void plain_writes(size_t n)
         next_address(n);
         plain_frame(&plain.core, plain.memory, 1, wren_byte, 1, 8, plain.out);
         plain_frame(&plain.core, plain.memory, 1, frame_bytes, frame_length, 8 * frame_length, plain.out);
-        plain_time(&plain.core, plain.memory, plain.core.last + CYCLE);
+        plain_time(&plain.core, plain.memory, plain.identification, plain.core.last + CYCLE);
     }
 }
 
@@ -171,7 +177,7 @@ static void tested_writes(size_t n)
         test_core();
         plain_frame(&plain.core, plain.memory, 1, frame_bytes, frame_length, 8 * frame_length, plain.out);
         test_core();
-        plain_time(&plain.core, plain.memory, plain.core.last + CYCLE);
+        plain_time(&plain.core, plain.memory, plain.identification, plain.core.last + CYCLE);
     }
 }
 
@@ -179,10 +185,11 @@ static void call_writes(size_t n)
 {
     while (n-- > 0) {
         next_address(n);
-        cartvesper_frame_answer wren = plain_frame_call(plain.core, plain.memory, MEMORY, 1, wren_byte, 1, 8, plain.out, 1);
+        cartvesper_frame_answer wren = plain_frame_call(plain.core, LENT(plain), 1, wren_byte, 1, 8, plain.out, 1);
         cartvesper_frame_answer write =
-            plain_frame_call(wren.core, plain.memory, MEMORY, 1, frame_bytes, frame_length, 8 * frame_length, plain.out, frame_length);
-        cartvesper_core_answer end = plain_clock_reading_call(write.core, write.core.last + CYCLE, plain.memory, MEMORY);
+            plain_frame_call(wren.core, LENT(plain), 1, frame_bytes, frame_length, 8 * frame_length, plain.out,
+                             frame_length);
+        cartvesper_core_answer end = plain_clock_reading_call(write.core, write.core.last + CYCLE, LENT(plain));
         if (wren.number || write.number || end.number)
             refused();
         plain.core = end.core;
@@ -252,7 +259,7 @@ static cartvesper_device_answer lib_event(uint64_t event)
     case SET_S:
         return cartvesper_device_set_s(lib.device, level);
     case SET_C:
-        return cartvesper_device_set_c(lib.device, level, lib.memory, MEMORY);
+        return cartvesper_device_set_c(lib.device, level, LENT(lib));
     case SET_D:
         return cartvesper_device_set_d(lib.device, level);
     case SET_W:
@@ -260,7 +267,7 @@ static cartvesper_device_answer lib_event(uint64_t event)
     case SET_HOLD:
         return cartvesper_device_set_hold(lib.device, level);
     default:
-        return cartvesper_device_read_clock(lib.device, (uint32_t)event, lib.memory, MEMORY);
+        return cartvesper_device_read_clock(lib.device, (uint32_t)event, LENT(lib));
     }
 }
 
@@ -279,7 +286,7 @@ static void plain_events(size_t n)
 {
     while (n-- > 0)
         for (size_t i = 0; i < event_count; i++)
-            plain_event(&plain.device, plain.memory, events[i]);
+            plain_event(&plain.device, plain.memory, plain.identification, events[i]);
 }
 
 static void tested_events(size_t n)
@@ -288,7 +295,7 @@ static void tested_events(size_t n)
         for (size_t i = 0; i < event_count; i++) {
             if (!plain_device_ok(&plain.device))
                 refused();
-            plain_event(&plain.device, plain.memory, events[i]);
+            plain_event(&plain.device, plain.memory, plain.identification, events[i]);
         }
 }
 
@@ -299,7 +306,7 @@ static cartvesper_device_answer call_event(uint64_t event)
     case SET_S:
         return plain_device_set_s_call(plain.device, level);
     case SET_C:
-        return plain_device_set_c_call(plain.device, level, plain.memory, MEMORY);
+        return plain_device_set_c_call(plain.device, level, LENT(plain));
     case SET_D:
         return plain_device_set_d_call(plain.device, level);
     case SET_W:
@@ -307,7 +314,7 @@ static cartvesper_device_answer call_event(uint64_t event)
     case SET_HOLD:
         return plain_device_set_hold_call(plain.device, level);
     default:
-        return plain_device_read_clock_call(plain.device, (uint32_t)event, plain.memory, MEMORY);
+        return plain_device_read_clock_call(plain.device, (uint32_t)event, LENT(plain));
     }
 }
 
@@ -325,7 +332,8 @@ static void call_events(size_t n)
 static void lib_play(size_t n)
 {
     while (n-- > 0) {
-        cartvesper_device_answer a = cartvesper_device_play(lib.device, lib.memory, MEMORY, events, event_count, lib.out, event_count);
+        cartvesper_device_answer a =
+            cartvesper_device_play(lib.device, LENT(lib), events, event_count, lib.out, event_count);
         if (a.number)
             refused();
         lib.device = a.device;
@@ -335,22 +343,23 @@ static void lib_play(size_t n)
 static void plain_plays(size_t n)
 {
     while (n-- > 0)
-        plain_play(&plain.device, plain.memory, events, event_count, plain.out);
+        plain_play(&plain.device, plain.memory, plain.identification, events, event_count, plain.out);
 }
 
 static void tested_plays(size_t n)
 {
     while (n-- > 0) {
-        if (plain_play_refusal(&plain.device, MEMORY, events, event_count, event_count))
+        if (plain_play_refusal(&plain.device, MEMORY, PAGE, events, event_count, event_count))
             refused();
-        plain_play(&plain.device, plain.memory, events, event_count, plain.out);
+        plain_play(&plain.device, plain.memory, plain.identification, events, event_count, plain.out);
     }
 }
 
 static void call_plays(size_t n)
 {
     while (n-- > 0) {
-        cartvesper_device_answer a = plain_device_play_call(plain.device, plain.memory, MEMORY, events, event_count, plain.out, event_count);
+        cartvesper_device_answer a =
+            plain_device_play_call(plain.device, LENT(plain), events, event_count, plain.out, event_count);
         if (a.number)
             refused();
         plain.device = a.device;
@@ -378,7 +387,8 @@ static void set_up_fine_run(void)
 static void lib_runs(size_t n)
 {
     while (n-- > 0) {
-        cartvesper_driver_answer a = cartvesper_write(lib.core, lib.memory, MEMORY, 0, run_bytes, MEMORY, run_interval, CYCLE + 1);
+        cartvesper_driver_answer a =
+            cartvesper_write(lib.core, LENT(lib), 0, run_bytes, MEMORY, run_interval, CYCLE + 1);
         if (a.number)
             refused();
         lib.core = a.core;
@@ -389,7 +399,8 @@ static void plain_runs(size_t n)
 {
     uint32_t pages, frames;
     while (n-- > 0)
-        if (plain_write(&plain.core, plain.memory, 0, run_bytes, MEMORY, run_interval, CYCLE + 1, &pages, &frames))
+        if (plain_write(&plain.core, plain.memory, plain.identification, 0, run_bytes, MEMORY, run_interval, CYCLE + 1,
+                        &pages, &frames))
             refused();
 }
 
@@ -405,7 +416,8 @@ static void tested_runs(size_t n)
 static void call_runs(size_t n)
 {
     while (n-- > 0) {
-        cartvesper_driver_answer a = plain_write_call(plain.core, plain.memory, MEMORY, 0, run_bytes, MEMORY, run_interval, CYCLE + 1);
+        cartvesper_driver_answer a =
+            plain_write_call(plain.core, LENT(plain), 0, run_bytes, MEMORY, run_interval, CYCLE + 1);
         if (a.number)
             refused();
         plain.core = a.core;
@@ -454,7 +466,8 @@ static size_t calibrate(void (*run)(size_t))
 
 static void check_same(const char *name)
 {
-    if (memcmp(lib.memory, plain.memory, MEMORY) != 0 || memcmp(lib.out, plain.out, LONGEST) != 0) {
+    if (memcmp(lib.memory, plain.memory, MEMORY) != 0 || memcmp(lib.out, plain.out, LONGEST) != 0 ||
+        memcmp(lib.identification, plain.identification, PAGE) != 0) {
         fprintf(stderr, "speed: the two sides differ after: %s\n", name);
         exit(1);
     }
