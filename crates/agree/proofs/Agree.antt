@@ -75,7 +75,8 @@ module _ (P : Part) (sound : Sound P) where
         shown : ℕ → ℕ
         shown = byteOut P (instruction P s) (running c) (λ j. status c) (m .memory) (address P s)
 
-        padding : n ≤ 8 * length s → 8 * length s - n < 8 → take n (flat (output P (running c) (λ j. status c) (m .memory) s n)) ≡ take n (flat (table (length s) shown))
+        padding : n ≤ 8 * length s → 8 * length s - n < 8
+            → take n (flat (output P (running c) (λ j. status c) (m .memory) s n)) ≡ take n (flat (table (length s) shown))
         padding h k = unfold output table in pad-bits shown (length s) (8 * length s - n) k (length s) 0 n (omega arith) (omega arith)
 
     frame-levels-seen : seenOf (λ l. l) P m c (noFrame P) (bitsOf s n) ≡ outputLevels P (lentBench c m) s n

@@ -30,7 +30,8 @@ halves v m =
     let half : v / 2 ^ suc m ≡ v / 2 ^ m / 2 = ap (λ (k : ℕ). v / k) (pow-suc 2 m) ∙ sym (div-div-eq-div-mul v (2 ^ m) 2) in
     rw half (omega arith)
 
-high-same : (j m v u : ℕ) → j ≤ m → v / 2 ^ m ≡ u / 2 ^ m → (x y : List Bool) → take j (lowBits m v ++ x) ≡ take j (lowBits m u ++ y) → v / 2 ^ (m - j) ≡ u / 2 ^ (m - j)
+high-same : (j m v u : ℕ) → j ≤ m → v / 2 ^ m ≡ u / 2 ^ m → (x y : List Bool) → take j (lowBits m v ++ x) ≡ take j (lowBits m u ++ y)
+    → v / 2 ^ (m - j) ≡ u / 2 ^ (m - j)
 high-same zero m v u h e x y p = let none : m - 0 ≡ m = omega arith in rw none e
 high-same (suc j) zero v u h e x y p = absurd (omega arith)
 high-same (suc j) (suc m) v u h e x y p =
@@ -67,7 +68,8 @@ close-more x y n s r i h (t, u, v, f, g, e) =
     let less : 8 * (length (x ∷ t) + 1) - n ≡ 8 * (length t + 1) - (n - 8) = omega arith in
     (x ∷ t, u, v, ap (λ (k : List ℕ). x ∷ k) f, ap₂ (λ (d : ℕ) (k : List ℕ). d ∷ k) (sym i) g, rw less e)
 
-close : (x : ℕ) (s : List ℕ) (y : ℕ) (r : List ℕ) (n : ℕ) → length s ≡ length r → Bytes (x ∷ s) → Bytes (y ∷ r) → 8 * (length s + 1) ≤ n + 7 → n ≤ 8 * (length s + 1)
+close : (x : ℕ) (s : List ℕ) (y : ℕ) (r : List ℕ) (n : ℕ) → length s ≡ length r → Bytes (x ∷ s) → Bytes (y ∷ r) → 8 * (length s + 1) ≤ n + 7
+    → n ≤ 8 * (length s + 1)
     → take n (flat (x ∷ s)) ≡ take n (flat (y ∷ r)) → Close (x ∷ s) (y ∷ r) n
 close x [] y [] n l a b p q e = ([], x, y, refl, refl, high-same n 8 x y (omega arith) (omega (arith, a 0, b 0)) [] [] (alone x y n e))
 close x [] y (z ∷ r) n l a b p q e = absurd (omega (arith, l))
@@ -84,7 +86,8 @@ module _ (P : Part) (c : Core) (m q : List ℕ) (w : Bool) (n : ℕ) where
   abbrev outcome : List ℕ → ℕ → Outcome
   outcome s room = frameOutcome P c (length m) (length q) (length s) n room
 
-  refused-same : (s r : List ℕ) (room : ℕ) → length s ≡ length r → (o : Outcome) → outcome s room ≡ o → (o ≡ Done → framed P c m q w s n room ≡ framed P c m q w r n room)
+  refused-same : (s r : List ℕ) (room : ℕ) → length s ≡ length r → (o : Outcome) → outcome s room ≡ o
+      → (o ≡ Done → framed P c m q w s n room ≡ framed P c m q w r n room)
       → framed P c m q w s n room ≡ framed P c m q w r n room
   unfolding pick framed
   refused-same s r room l Done e h = h refl
@@ -92,7 +95,8 @@ module _ (P : Part) (c : Core) (m q : List ℕ) (w : Bool) (n : ℕ) where
       let also : outcome r room ≡ Refused f = ap (λ (k : ℕ). frameOutcome P c (length m) (length q) k n room) (sym l) ∙ e in
       rw (e, also) refl
 
-  kept-same : (s r out : List ℕ) → length s ≡ length r → (o : Outcome) → outcome s (length out) ≡ o → (o ≡ Done → framedOutput P c m q s n out ≡ framedOutput P c m q r n out)
+  kept-same : (s r out : List ℕ) → length s ≡ length r → (o : Outcome) → outcome s (length out) ≡ o
+      → (o ≡ Done → framedOutput P c m q s n out ≡ framedOutput P c m q r n out)
       → framedOutput P c m q s n out ≡ framedOutput P c m q r n out
   unfolding pick framedOutput
   kept-same s r out l Done e h = h refl
@@ -103,27 +107,32 @@ module _ (P : Part) (c : Core) (m q : List ℕ) (w : Bool) (n : ℕ) where
   fits : (s : List ℕ) (room : ℕ) → outcome s room ≡ Done → bitsFit (length s) n ≡ true
   fits s room e = taken P c (length m) (length q) (length s) n room refl e .counted
 
-  near : (x : ℕ) (s : List ℕ) (y : ℕ) (r : List ℕ) → length s ≡ length r → Bytes (x ∷ s) → Bytes (y ∷ r) → bitsOf (x ∷ s) n ≡ bitsOf (y ∷ r) n → bitsFit (length (x ∷ s)) n ≡ true
+  near : (x : ℕ) (s : List ℕ) (y : ℕ) (r : List ℕ) → length s ≡ length r → Bytes (x ∷ s) → Bytes (y ∷ r) → bitsOf (x ∷ s) n ≡ bitsOf (y ∷ r) n
+      → bitsFit (length (x ∷ s)) n ≡ true
       → Close (x ∷ s) (y ∷ r) n
   near x s y r l a b e f =
       let more : length (x ∷ s) ≡ length s + 1 = omega arith in
       let bits = fit-bits (length s) n (rw more at f) in
       close x s y r n l a b (bits .0) (bits .1) e
 
-  pub counted-framed : (s r : List ℕ) (room : ℕ) → length s ≡ length r → Bytes s → Bytes r → bitsOf s n ≡ bitsOf r n → framed P c m q w s n room ≡ framed P c m q w r n room
+  pub counted-framed : (s r : List ℕ) (room : ℕ) → length s ≡ length r → Bytes s → Bytes r → bitsOf s n ≡ bitsOf r n
+      → framed P c m q w s n room ≡ framed P c m q w r n room
   counted-framed [] [] room l a b e = refl
   counted-framed [] (y ∷ r) room l a b e = absurd (omega (arith, l))
   counted-framed (x ∷ s) [] room l a b e = absurd (omega (arith, l))
   counted-framed (x ∷ s) (y ∷ r) room l a b e =
       refused-same (x ∷ s) (y ∷ r) room l (outcome (x ∷ s) room) refl
       (λ d. let k = near x s y r (omega (arith, l)) a b e (fits (x ∷ s) room d) in
-      ap (λ (i : List ℕ). framed P c m q w i n room) (k .3) ∙ unused-framed P c m q w (k .0) (k .1) (k .2) n (k .5) room ∙ sym (ap (λ (i : List ℕ). framed P c m q w i n room) (k .4)))
+      ap (λ (i : List ℕ). framed P c m q w i n room) (k .3) ∙ unused-framed P c m q w (k .0) (k .1) (k .2) n (k .5) room ∙ sym
+      (ap (λ (i : List ℕ). framed P c m q w i n room) (k .4)))
 
-  pub counted-output : (s r out : List ℕ) → length s ≡ length r → Bytes s → Bytes r → bitsOf s n ≡ bitsOf r n → framedOutput P c m q s n out ≡ framedOutput P c m q r n out
+  pub counted-output : (s r out : List ℕ) → length s ≡ length r → Bytes s → Bytes r → bitsOf s n ≡ bitsOf r n
+      → framedOutput P c m q s n out ≡ framedOutput P c m q r n out
   counted-output [] [] out l a b e = refl
   counted-output [] (y ∷ r) out l a b e = absurd (omega (arith, l))
   counted-output (x ∷ s) [] out l a b e = absurd (omega (arith, l))
   counted-output (x ∷ s) (y ∷ r) out l a b e =
       kept-same (x ∷ s) (y ∷ r) out l (outcome (x ∷ s) (length out)) refl
       (λ d. let k = near x s y r (omega (arith, l)) a b e (fits (x ∷ s) (length out) d) in
-      ap (λ (i : List ℕ). framedOutput P c m q i n out) (k .3) ∙ unused-output P c m q w (k .0) (k .1) (k .2) n (k .5) out ∙ sym (ap (λ (i : List ℕ). framedOutput P c m q i n out) (k .4)))
+      ap (λ (i : List ℕ). framedOutput P c m q i n out) (k .3) ∙ unused-output P c m q w (k .0) (k .1) (k .2) n (k .5) out ∙ sym
+      (ap (λ (i : List ℕ). framedOutput P c m q i n out) (k .4)))

@@ -75,7 +75,8 @@ module _ (P : Part) (sound : Sound P) (m : Lent) (c : Core) where
   rdsr-on j k = leb-min (P .most) j 1 (omega (arith, sound .counted)) ∙ le-leb 1 j k
 
   rdsr-seen : (us : List ℕ) (v j a x A : ℕ) (l : Latch) → decode P v ≡ Rdsr → 1 ≤ j
-      → bytesSeen P sound m c onQ (afterBytes P sound m c v j a x (status c) 1 l) us ≡ from j (length us) (byteOut P Rdsr (running c) (λ _. status c) (m .memory) A)
+      → bytesSeen P sound m c onQ (afterBytes P sound m c v j a x (status c) 1 l) us ≡ from j (length us)
+      (byteOut P Rdsr (running c) (λ _. status c) (m .memory) A)
   unfolding bytesSeen from
   rdsr-seen [] v j a x A l e k = refl
   rdsr-seen (u ∷ us) v j a x A l e k =

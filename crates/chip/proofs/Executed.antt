@@ -42,7 +42,12 @@ bit-small k v = mod-lt _ (omega arith)
 -- the writable bits of a value are all writable
 pub writable-twice : (v : ℕ) → writable (writable v) ≡ writable v
 writable-twice v =
-    rw (bit-7 (bitOf 7 v) (bitOf 3 v) (bitOf 2 v) (bit-small 7 v) (bit-small 3 v) (bit-small 2 v), bit-3 (bitOf 7 v) (bitOf 3 v) (bitOf 2 v) (bit-small 7 v) (bit-small 3 v) (bit-small 2 v), bit-2 (bitOf 7 v) (bitOf 3 v) (bitOf 2 v) (bit-small 7 v) (bit-small 3 v) (bit-small 2 v))
+    rw (
+      bit-7 (bitOf 7 v) (bitOf 3 v) (bitOf 2 v) (bit-small 7 v) (bit-small 3 v) (bit-small 2 v),
+      bit-3 (bitOf 7 v) (bitOf 3 v) (bitOf 2 v) (bit-small 7 v)
+          (bit-small 3 v) (bit-small 2 v),
+      bit-2 (bitOf 7 v) (bitOf 3 v) (bitOf 2 v) (bit-small 7 v) (bit-small 3 v) (bit-small 2 v),
+    )
 
 status-fits : (P : Part) (v : ℕ) → waitFits P (statusWaits P v) ≡ true
 unfolding pick

@@ -34,7 +34,8 @@ flags-status : (v : ℕ) (c : Core) → flagsFit c ≡ true → flagsFit (withSt
 flags-status v c e =
     let s = isPart (c .part) && leb (c .lock) 1 in
     let settled = and-left (s && leb (c .srwd) 1 && leb (c .bp1) 1 && leb (c .bp0) 1) (leb (c .wel) 1) e in
-    let first : s ≡ true = and-left s (leb (c .srwd) 1) (and-left (s && leb (c .srwd) 1) (leb (c .bp1) 1) (and-left (s && leb (c .srwd) 1 && leb (c .bp1) 1) (leb (c .bp0) 1) settled)) in
+    let first : s ≡ true = and-left s (leb (c .srwd) 1)
+    (and-left (s && leb (c .srwd) 1) (leb (c .bp1) 1) (and-left (s && leb (c .srwd) 1 && leb (c .bp1) 1) (leb (c .bp0) 1) settled)) in
     rw (first, bit-fits 7 v, bit-fits 3 v, bit-fits 2 v) (and-right (s && leb (c .srwd) 1 && leb (c .bp1) 1 && leb (c .bp0) 1) (leb (c .wel) 1) e)
 
 -- and the lock that is set
@@ -155,7 +156,8 @@ module _ (P : Part) (c : Core) (w : Within P c) where
       rw zero (omega arith)
 
 module _ (P : Part) (t : ℕ) (c : Core) (m : List ℕ) (size : length m ≡ P .size) (w : Within P c) where
-  pub cell-rule : (i : ℕ) → i < P .size → getD (timedMemory P t c m) i 0 ≡ pick (ends t c && awaited P c i) (byteAt (c .waits .latch) (offset P c i)) (getD m i 0)
+  pub cell-rule : (i : ℕ) → i < P .size
+      → getD (timedMemory P t c m) i 0 ≡ pick (ends t c && awaited P c i) (byteAt (c .waits .latch) (offset P c i)) (getD m i 0)
   cell-rule i h = cells-rule waitsPage P t c m (page-inside P c w m size) i (omega arith)
 
 module _ (P : Part) (t : ℕ) (c : Core) (d : List ℕ) (long : length d ≡ P .page) (w : Within P c) where

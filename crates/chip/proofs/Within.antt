@@ -39,7 +39,8 @@ module _ (P : Part) (c : Core) where
   in-ranges w =
       and-both (flagsFit c && timeFits P c && tied P c) (waitFits P (c .waits))
       (and-both (flagsFit c && timeFits P c) (tied P c)
-      (and-both (flagsFit c) (timeFits P c) (w .flags) (and-both (cycleFits P (c .cycle)) (leb (c .left) (c .cycle)) (w .cycle) (le-leb _ _ (w .left)))) (w .tie)) (w .waits)
+      (and-both (flagsFit c) (timeFits P c) (w .flags) (and-both (cycleFits P (c .cycle)) (leb (c .left) (c .cycle)) (w .cycle) (le-leb _ _ (w .left))))
+      (w .tie)) (w .waits)
 
 -- ---- nothing waits
 

@@ -60,7 +60,8 @@ laid-run P sound [] i l b m h j x = elim (decLt j i) [
 laid-run P sound (v ∷ vs) i l b m h j x =
     let cell : i % P .page ≡ i = mod-eq-of-lt (omega arith) in
     let next = latched (i % P .page) v l in
-    let rest = laid-run P sound vs (suc i) next (length-set (l .bytes) (i % P .page) v ∙ b) (length-set (l .marks) (i % P .page / 64) _ ∙ m) (omega arith) j x in
+    let rest = laid-run P sound vs (suc i) next (length-set (l .bytes) (i % P .page) v ∙ b) (length-set (l .marks) (i % P .page / 64) _ ∙ m)
+    (omega arith) j x in
     let in-bytes : i % P .page < length (l .bytes) = omega arith in
     let in-marks : i % P .page / 64 < length (l .marks) = rw m (cell-word P sound (i % P .page) (omega arith)) in
     elim (decLt j i) [

@@ -33,7 +33,9 @@ module _ (P : Part) (ran w : Bool) (c : Core) (s : List ℕ) (n : ℕ) where
   ignored-wel e = ap (λ (x : Core). x .wel) (ignored e)
 
   unpassed : (Tests → ⊥) → after P ran w c s n ≡ c
-  unpassed h = ignored (failed (isExecuted (judged P ran w c s n)) (λ e. h (passed P (instruction P s) n ran (on (c .wel)) (on (c .srwd) && not w) (protects P c (address P s)) false e)))
+  unpassed h =
+      ignored (failed (isExecuted (judged P ran w c s n))
+      (λ e. h (passed P (instruction P s) n ran (on (c .wel)) (on (c .srwd) && not w) (protects P c (address P s)) false e)))
 
   -- by the test that fails: a cycle ran, WEL is off, the count is wrong, W or the protection stops it, the code is none
   pub while-cycle : row P (instruction P s) .idle ≡ true → ran ≡ true → after P ran w c s n ≡ c

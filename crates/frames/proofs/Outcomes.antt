@@ -60,7 +60,8 @@ module _ (P : Part) (c : Core) (size cells len n room : ℕ) where
       }
 
   -- and that is all that it needs
-  pub accepted : lentFits P size cells ≡ true → inRanges P c ≡ true → len ≤ longestFrame P → bitsFit len n ≡ true → room ≡ len → frameOutcome P c size cells len n room ≡ Done
+  pub accepted : lentFits P size cells ≡ true → inRanges P c ≡ true → len ≤ longestFrame P → bitsFit len n ≡ true → room ≡ len
+      → frameOutcome P c size cells len n room ≡ Done
   accepted whole inside short counted roomy =
       sym (yes-so _ whole (yes-so _ inside (le-so _ short (yes-so _ counted (eq-so _ roomy refl)))))
 
@@ -78,8 +79,10 @@ module _ (P : Part) (c : Core) (size cells len n room : ℕ) where
 -- ---- what a frame hands back and leaves in the output: one that is taken, and one that is refused
 module _ (P : Part) (c : Core) (m i : List ℕ) (w : Bool) (s : List ℕ) (n : ℕ) (out : List ℕ) where
   -- the lengths of one that is taken go together, so it is shown
-  taken-shown : Taken P c (length m) (length i) (length s) n (length out) → shownIn P (running c) (status c) m s n out ≡ output P (running c) (λ j. status c) m s n
-  taken-shown t = at-yes _ _ (lengths-in P (length m) (length s) n (length out) (lent-memory P (length m) (length i) (t .whole)) (t .short) (t .counted) (t .roomy))
+  taken-shown : Taken P c (length m) (length i) (length s) n (length out)
+      → shownIn P (running c) (status c) m s n out ≡ output P (running c) (λ j. status c) m s n
+  taken-shown t =
+      at-yes _ _ (lengths-in P (length m) (length s) n (length out) (lent-memory P (length m) (length i) (t .whole)) (t .short) (t .counted) (t .roomy))
 
   abbrev pub HandsBack : Framed → ℕ → ℕ → List ℕ → Type 0
   HandsBack r k u o =

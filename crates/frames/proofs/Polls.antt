@@ -43,7 +43,8 @@ unfolding pick
 two-bytes = refl
 
 module _ (P : Part) (c : Core) (m i : List ℕ) where
-  pub shown-poll : {o : Outcome} → o ≡ frameOutcome P c (length m) (length i) 2 16 2 → o ≡ Done → polled P c m i ≡ record { answer = reply.Shown 8; status = status c }
+  pub shown-poll : {o : Outcome} → o ≡ frameOutcome P c (length m) (length i) 2 16 2 → o ≡ Done
+      → polled P c m i ≡ record { answer = reply.Shown 8; status = status c }
   unfolding polled framed framedOutput decode pick
   shown-poll found done =
       let e = sym found ∙ done in

@@ -118,7 +118,8 @@ module _ (P : Part) where
 
   module _ (ran : Bool) (st : ℕ → ℕ) (m : List ℕ) where
     bytes-same : (t : List ℕ) (u v j : ℕ) → j < length t + 1
-        → byteOut P (instruction P (ending t u)) ran st m (address P (ending t u)) j ≡ byteOut P (instruction P (ending t v)) ran st m (address P (ending t v)) j
+        → byteOut P (instruction P (ending t u)) ran st m (address P (ending t u)) j ≡ byteOut P (instruction P (ending t v)) ran st m
+        (address P (ending t v)) j
     bytes-same [] u v zero h =
         undriven-byte (decode P u) ran st m _ 0 (first-byte (decode P u) ran) ∙ sym (undriven-byte (decode P v) ran st m _ 0 (first-byte (decode P v) ran))
     bytes-same [] u v (suc j) h = absurd (omega arith)
@@ -162,7 +163,8 @@ module _ (P : Part) where
         let bits = fit-bits (length t) n fit in
         let part : n % 8 ≡ 0 → ⊥ = λ z. some (omega (arith, bits .0, bits .1)) in (
           undriven-same ran (λ j. 0) [] t u v n (omega (arith, bits .1)),
-          nothing-done ran w c (ending t u) n part (instruction P (ending t u)) refl ∙ sym (nothing-done ran w c (ending t v) n part (instruction P (ending t v)) refl),
+          nothing-done ran w c (ending t u) n part (instruction P (ending t u)) refl ∙ sym
+              (nothing-done ran w c (ending t v) n part (instruction P (ending t v)) refl),
         )
 
   -- ---- the public call
@@ -183,9 +185,11 @@ module _ (P : Part) where
     pub unused-framed : (room : ℕ) → framed P c m i w (ending t u) n room ≡ framed P c m i w (ending t v) n room
     unfolding framed
     unused-framed room =
-        let replies : List ℕ → ℕ → Framed = λ s len. replied (frameOutcome P c (length m) (length i) len n room) (undriven P (instruction P s) (running c) n) (after P (running c) w c s n) c in
+        let replies : List ℕ → ℕ → Framed = λ s len. replied (frameOutcome P c (length m) (length i) len n room) (undriven P (instruction P s) (running c) n)
+        (after P (running c) w c s n) c in
         ap (replies (ending t u)) (ending-length t u)
-        ∙ replied-same (frameOutcome P c (length m) (length i) (length t + 1) n room) c (λ e. results (running c) w c t u v n (counted room e) same (eqb n (8 * (length t + 1))) refl)
+        ∙ replied-same (frameOutcome P c (length m) (length i) (length t + 1) n room) c
+        (λ e. results (running c) w c t u v n (counted room e) same (eqb n (8 * (length t + 1))) refl)
         ∙ sym (ap (replies (ending t v)) (ending-length t v))
 
     pub unused-output : (out : List ℕ) → framedOutput P c m i (ending t u) n out ≡ framedOutput P c m i (ending t v) n out

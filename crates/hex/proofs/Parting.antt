@@ -17,7 +17,8 @@ pub tail-part : (t : List ℕ) (k : ℕ) → take (length t - k) (drop k t) ≡ 
 tail-part t k = take-all (length t - k) (drop k t) (rw length-drop (omega arith))
 
 -- the test of what is left is the test of the text
-pub good-told : (P : Part) (t : List ℕ) (at : ℕ) (r : Bool) → drop at t ≡ parted P t .rest → r ≡ sameBytes (take (length t - at) (drop at t)) endLine → isGood P t ≡ r
+pub good-told : (P : Part) (t : List ℕ) (at : ℕ) (r : Bool) → drop at t ≡ parted P t .rest → r ≡ sameBytes (take (length t - at) (drop at t)) endLine
+    → isGood P t ≡ r
 good-told P t at r ends e = sym (e ∙ ap (λ (l : List ℕ). sameBytes l endLine) (tail-part t at ∙ ends))
 
 module _ (P : Part) where
@@ -92,7 +93,8 @@ module _ (P : Part) where
     line-inside h =
         let good = more-left h in
         let n = lineLength (drop at t) in
-        let as-long : length (parted P (drop at t) .rest) ≡ length (parted P (drop n (drop at t)) .rest) = ap (λ (s : Parted). length (s .rest)) (parted-more (drop at t) good) in
+        let as-long : length (parted P (drop at t) .rest) ≡ length (parted P (drop n (drop at t)) .rest) = ap (λ (s : Parted). length (s .rest))
+        (parted-more (drop at t) good) in
         omega (arith, as-long, left, rest-length (drop n (drop at t)), length-drop n (drop at t), length-drop at t, front-length P (drop at t) good)
 
     -- at the end there is no record

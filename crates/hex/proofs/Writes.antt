@@ -15,7 +15,8 @@ pub put-set : (d : List ℕ) (at v : ℕ) → at < length d → set d at v ≡ p
 put-set d at v h = ap (λ (l : List ℕ). set l at v) (sym (put-nil d at)) ∙ put-more d at [] at v (omega arith) h
 
 -- a write after those so far
-pub put-then : (d e : List ℕ) (at j : ℕ) (s t : List ℕ) → e ≡ put d at s → j ≡ at + length s → at + length s + length t ≤ length d → put e j t ≡ put d at (s ++ t)
+pub put-then : (d e : List ℕ) (at j : ℕ) (s t : List ℕ) → e ≡ put d at s → j ≡ at + length s → at + length s + length t ≤ length d
+    → put e j t ≡ put d at (s ++ t)
 put-then d e at j s t p q h =
     ap (λ (l : List ℕ). put l j t) p ∙ ap (λ (k : ℕ). put (put d at s) k t) q ∙ put-put d at s t h
 

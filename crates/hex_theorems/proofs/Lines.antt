@@ -112,7 +112,8 @@ module _ (P : Part) (r : HexRecord) (fits : Fits P r) (t : List ℕ) where
   pub line-record : recordAt u ≡ r
   line-record =
       let data-is : r .bytes ≡ table n (λ i. lineByte u (i + 4)) = table-is (λ i. lineByte u (i + 4)) (r .bytes) n 0 refl (λ i h. sym (line-data i h)) in
-      let long : table (dataLength u) (λ i. lineByte u (i + 4)) ≡ table n (λ i. lineByte u (i + 4)) = ap (λ (k : ℕ). table k (λ i. lineByte u (i + 4))) line-length in
+      let long : table (dataLength u) (λ i. lineByte u (i + 4)) ≡ table n (λ i. lineByte u (i + 4)) = ap
+      (λ (k : ℕ). table k (λ i. lineByte u (i + 4))) line-length in
       ap (λ (a : ℕ). record { address = a; bytes = table (dataLength u) (λ i. lineByte u (i + 4)) }) line-address
       ∙ ap (λ (l : List ℕ). record { address = r .address; bytes = l }) (long ∙ sym data-is)
 

@@ -64,7 +64,8 @@ module _ (P : Part) (x : List ℕ) (long : length x ≡ P .size) (low : P .size 
   all-fit zero h = fit-none P (recordOf x)
   all-fit (suc k) h =
       let on : k + 1 ≡ suc k = omega arith in
-      let more : table k (recordOf x) ++ (recordOf x k ∷ []) ≡ table (suc k) (recordOf x) = sym (table-more (recordOf x) k) ∙ ap (λ (j : ℕ). table j (recordOf x)) on in
+      let more : table k (recordOf x) ++ (recordOf x k ∷ []) ≡ table (suc k) (recordOf x) = sym (table-more (recordOf x) k) ∙ ap
+      (λ (j : ℕ). table j (recordOf x)) on in
       rw (← more) (fit-append P (table k (recordOf x)) (recordOf x k ∷ []) (all-fit k (omega arith)) (one-fits k (omega arith), tt))
 
   -- laid over any memory of that size, the first k leave the first cells of x
@@ -78,7 +79,8 @@ module _ (P : Part) (x : List ℕ) (long : length x ≡ P .size) (low : P .size 
       let s : length (recordOf x k .bytes) ≡ 16 = sixteen x k (omega arith) in
       ap (λ (j : ℕ). laidRecords (table j (recordOf x)) m) (sym on) ∙ ap (λ (rs : List HexRecord). laidRecords rs m) (table-more (recordOf x) k)
       ∙ laid-append (table k (recordOf x)) (recordOf x k ∷ []) m ∙ laid-one (recordOf x k) (laidRecords (table k (recordOf x)) m)
-      ∙ put-then m (laidRecords (table k (recordOf x)) m) 0 (16 * k) so-far (recordOf x k .bytes) (laid-lines m k e (omega arith)) (omega (arith, n)) (omega (arith, n, s))
+      ∙ put-then m (laidRecords (table k (recordOf x)) m) 0 (16 * k) so-far (recordOf x k .bytes) (laid-lines m k e (omega arith)) (omega (arith, n))
+      (omega (arith, n, s))
       ∙ ap (put m 0) (sym (take-add (16 * k) 16 x) ∙ ap (λ (j : ℕ). take j x) next)
 
 -- ---- the M95512's image

@@ -79,7 +79,8 @@ module _ (bytes : List ℕ) (start word : ℕ) (page : List ℕ) where
   pub word-laid-more : (n v : ℕ) → start + n < length page → v ≡ pick (bitOn word n) (getD bytes (start + n) 0) (getD page (start + n) 0)
       → set (wordLaid bytes start word n page) (start + n) v ≡ wordLaid bytes start word (n + 1) page
   word-laid-more n v h p =
-      word-laid-is (n + 1) (set (wordLaid bytes start word n page) (start + n) v) (length-set (wordLaid bytes start word n page) (start + n) v ∙ word-laid-length n)
+      word-laid-is (n + 1) (set (wordLaid bytes start word n page) (start + n) v)
+      (length-set (wordLaid bytes start word n page) (start + n) v ∙ word-laid-length n)
       (λ i b. elim (ℕ-discrete i (start + n)) [
         | yes e ↦
             let own : wordMarked start word (n + 1) (start + n) ≡ bitOn word n =

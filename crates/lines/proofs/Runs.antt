@@ -106,11 +106,13 @@ next-whole-at w (suc (suc (suc zero))) k v b f = closed-whole (lineAt w 3 k v) b
 next-whole-at w (suc (suc (suc (suc zero)))) k v b f =
     let P : Line → Type 0 = λ y. y .whole ≡ w + length (said (lineAt w 4 k v) b) in
     pick-case P (isDigit b)
-    (λ e. let no : w ≡ w + length (said (lineAt w 4 k v) b) = none-said w (lineAt w 4 k v) b (and-no-left (eqb b 10) true (ne-eqb b 10 (λ i. omega (arith, digit-low b e)))) in
+    (λ e. let no : w ≡ w + length (said (lineAt w 4 k v) b) = none-said w (lineAt w 4 k v) b
+    (and-no-left (eqb b 10) true (ne-eqb b 10 (λ i. omega (arith, digit-low b e)))) in
     pick-case P (ltb (v * 10 + (b - 48)) (2 ^ 32)) (λ i. no) (λ i. no))
     (λ e. closed-whole (lineAt w 4 k v) b (in-hand (lineAt w 4 k v) 3 refl (omega arith) f) refl)
 next-whole-at w (suc (suc (suc (suc (suc zero))))) k v b f = none-said w (lineAt w 5 k v) b (and-no-right (eqb b 10) false refl)
-next-whole-at w (suc (suc (suc (suc (suc (suc p)))))) k v b f = absurd (true≢false (sym f ∙ past-fits w (suc (suc (suc (suc (suc (suc p)))))) k v (omega arith)))
+next-whole-at w (suc (suc (suc (suc (suc (suc p)))))) k v b f =
+    absurd (true≢false (sym f ∙ past-fits w (suc (suc (suc (suc (suc (suc p)))))) k v (omega arith)))
 
 pub next-whole : (l : Line) (b : ℕ) → lineFits l ≡ true → next l b .whole ≡ l .whole + length (said l b)
 next-whole l b f = next-whole-at (l .whole) (l .place) (l .kind) (l .value) b f

@@ -50,7 +50,17 @@ module _ (l : Line) (name tab level end : ℕ) (at : (eqb (l .place) 0 && ltb (l
   pub line-said : said l name ++ (said (next l name) tab ++ (said (next (next l name) tab) level ++ said (next (next (next l name) tab) level) end))
       ≡ eventNumber (kindOf name) (level % 2) ∷ []
   unfolding pick
-  line-said = rw (said-none l name (and-no-right (eqb name 10) (eqb (l .place) 3 || eqb (l .place) 4) (rw start refl)), three, two, one, eqb-true end 10 (all .1 .1 .1), and-false (eqb tab 10), and-false (eqb level 10)) refl
+  line-said =
+      rw (
+        said-none l name (and-no-right (eqb name 10) (eqb (l .place) 3 || eqb (l .place) 4) (rw start refl)),
+        three,
+        two,
+        one,
+        eqb-true end 10
+            (all .1 .1 .1),
+        and-false (eqb tab 10),
+        and-false (eqb level 10),
+      ) refl
 
 -- ---- the kind that the code gives for four bytes
 
@@ -97,7 +107,9 @@ module _ (l : Line) (x : List ℕ) where
     module _ (at : (eqb (h .place) 0 && ltb (h .whole) 1000000) ≡ true)
         (is : isLevelLine (getD x i 0) (getD x (i + 1) 0) (getD x (i + 2) 0) (getD x (i + 3) 0) ≡ true) where
       pub whole-read : fresh (min 1000000 (h .whole + 1)) ≡ read l (take (i + 4) x)
-      whole-read = sym (line-read h (getD x i 0) (getD x (i + 1) 0) (getD x (i + 2) 0) (getD x (i + 3) 0) at is) ∙ more-read (i + 3) (i + 4) _ (omega arith) (omega arith) third
+      whole-read =
+          sym (line-read h (getD x i 0) (getD x (i + 1) 0) (getD x (i + 2) 0) (getD x (i + 3) 0) at is) ∙ more-read (i + 3) (i + 4) _ (omega arith)
+          (omega arith) third
 
       pub whole-found : found l (take i x) ++ (eventNumber (kindOf (getD x i 0)) (getD x (i + 2) 0 % 2) ∷ []) ≡ found l (take (i + 4) x)
       whole-found =

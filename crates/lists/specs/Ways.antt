@@ -115,7 +115,8 @@ afterWay P m e (Rise n b v) x = risenTo (withTaken n (withBits b v (x .frame))) 
 afterWay P m e (Code n v) x = risenTo (withCode v (running (x .core)) (byteTaken n (x .frame))) x
 afterWay P m e (Byte n v a) x = risenTo (withAddress a (withValue v (byteTaken n (x .frame)))) x
 afterWay P m e (Latched n v a) x =
-    risenTo (withAddress a (withLatch (latched (x .frame .address % P .page) v (x .frame .latch)) (byteTaken n (x .frame)))) x
+    risenTo (withAddress a
+    (withLatch (latched (x .frame .address % P .page) v (x .frame .latch)) (byteTaken n (x .frame)))) x
 afterWay P m e (Fall held v n a) x =
     withHeldAt held (withPins (withC 0 (x .pins)) (withFrame (withAddress a (withOut v n (x .frame))) x))
 afterWay P m e (Select held) x = withoutFrame P 0 held x

@@ -74,7 +74,8 @@ impl Front {
 impl Front {
     // S at a level, held or not, and no frame in hand.
     pub(crate) fn without_frame(mut self, s: u8, held: u8) -> Front
-        ensures { λ r. ⌜ ((k : Core) → whole r (noLatch m95512) k ≡ withoutFrame m95512 s held (whole self (noLatch m95512) k)) ⌝ }
+        ensures { λ r. ⌜ ((k : Core) → whole r (noLatch m95512) k
+            ≡ withoutFrame m95512 s held (whole self (noLatch m95512) k)) ⌝ }
     {
         self.s = s;
         self.held = held;

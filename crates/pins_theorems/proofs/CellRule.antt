@@ -40,7 +40,8 @@ use Rattle.pins_theorems.proofs.Fits.{Sized, stepped-fits, stepped-size
 -- what stands in cell i after any event
 module _ (P : Part) (x : Device) (m : List ℕ) (size : length m ≡ P .size) (w : Within P (x .core)) (i : ℕ) (h : i < P .size) where
   pub event-cell : (e : Event)
-      → getD (steppedMemory P e x m) i 0 ≡ pick (endsCycle e (x .core) && awaited P (x .core) i) (byteAt (x .core .waits .latch) (offset P (x .core) i)) (getD m i 0)
+      → getD (steppedMemory P e x m) i 0 ≡ pick (endsCycle e (x .core) && awaited P (x .core) i) (byteAt (x .core .waits .latch) (offset P (x .core) i))
+      (getD m i 0)
   event-cell (S level) = sym (at-no _ _ refl)
   event-cell (C level) = sym (at-no _ _ refl)
   event-cell (D level) = sym (at-no _ _ refl)

@@ -68,7 +68,8 @@ module _ (P : Part) (sound : Sound P) (f : Frame) where
   first-page = let below : 0 / P .page < pages P = page-of-memory sound 0 (sound .size-some) in omega arith
 
   -- a WRITE whose bits fit has its whole address
-  for-below : (i : Instruction) → f .bits ≤ 7 → FieldsFit P i f → countFits (row P i .count) (8 * f .taken + f .bits) ≡ true → pageFor P i (f .address) < pages P
+  for-below : (i : Instruction) → f .bits ≤ 7 → FieldsFit P i f → countFits (row P i .count) (8 * f .taken + f .bits) ≡ true
+      → pageFor P i (f .address) < pages P
   for-below Wren b t e = first-page
   for-below Wrdi b t e = first-page
   for-below Rdsr b t e = first-page
@@ -99,7 +100,8 @@ module _ (P : Part) (sound : Sound P) (x : Device) (t : Fits P x) where
       let f = x .frame in
       let i = decode P (f .code) in
       subst (Within P) (effect-page P i (f .value) (f .address) (f .latch) (x .core))
-      (executed-within P i (8 * f .taken + f .bits) (on (f .ran)) (on (x .core .srwd) && not (on (x .pins .w))) (protects P (x .core) (f .address)) (on (x .held))
+      (executed-within P i (8 * f .taken + f .bits) (on (f .ran)) (on (x .core .srwd) && not (on (x .pins .w))) (protects P (x .core) (f .address))
+      (on (x .held))
       (f .value) (pageFor P i (f .address)) (f .latch) (x .core) e (ran-then e)
       (for-below P sound f i (t .frame .bits) (t .frame .fields) (passed-now P x e .counted))
       (more-fits P (latches P i (f .taken)) (f .latch) (t .frame .fields .latch)) (t .core))

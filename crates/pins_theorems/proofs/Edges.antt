@@ -50,7 +50,9 @@ empty-frame P =
       bits = omega arith;
       partial = omega arith;
       code = refl;
-      fields = subst (λ (i : Instruction). FieldsFit P i (noFrame P)) (sym (no-code P)) (record { address = refl; value = refl; out = refl; latch = no-latch-fits P });
+      fields =
+          subst (λ (i : Instruction). FieldsFit P i (noFrame P)) (sym (no-code P))
+          (record { address = refl; value = refl; out = refl; latch = no-latch-fits P });
     }
 
 -- the fields of a frame with no whole byte are those of silence
@@ -187,6 +189,15 @@ module _ (P : Part) (some : 0 < P .size) (m : Lent) (c : Core) (f : Frame) where
       (λ e.
       let some : 1 ≤ f .shown = leb-true _ _ (and-left (leb 1 (f .shown)) (ltb (f .shown) 8) e) in
       let few : f .shown < 8 = ltb-true _ _ (and-right (leb 1 (f .shown)) (ltb (f .shown) 8) e) in
-      record { taken = t .taken; bits = t .bits; partial = t .partial; code = t .code; fields = out-fits (decode P (f .code)) (f .out) (f .shown + 1) (λ z. omega arith) (omega arith) o (t .fields) })
+      record {
+        taken =
+            t .taken;
+        bits =
+            t .bits;
+        partial =
+            t .partial;
+        code = t .code;
+        fields = out-fits (decode P (f .code)) (f .out) (f .shown + 1) (λ z. omega arith) (omega arith) o (t .fields);
+      })
       (λ e. loaded-fits o t))
       (λ o. t)

@@ -117,9 +117,12 @@ byte-bounded P n k a v some placed one few e h =
     let sum : P .addressBytes - 1 ≡ P .addressBytes - n + (n - 1) = omega arith in
     let up : P .addressBytes + 1 - n ≡ P .addressBytes - n + 1 = omega arith in
     let at : P .addressBytes + 1 - k ≡ P .addressBytes - n = omega arith in
-    let of-size : m ∣ P .size = dvd-trans _ (subst (λ (x : ℕ). m ∣ x) (sym (ap (λ (x : ℕ). 256 ^ x) sum ∙ pow-add 256 (P .addressBytes - n) (n - 1))) (dvd-mul-right m (256 ^ (n - 1)))) placed in
-    let old : 256 ^ (P .addressBytes + 1 - n) ∣ a = dvd-of-mod-eq-zero _ (eqb-true _ _ (and-right (ltb a (P .size)) (eqb (a % 256 ^ (P .addressBytes + 1 - n)) 0) h)) in
-    let of-a : m ∣ a = dvd-trans _ (subst (λ (x : ℕ). m ∣ x) (sym (ap (λ (x : ℕ). 256 ^ x) up ∙ pow-add 256 (P .addressBytes - n) 1)) (dvd-mul-right m (256 ^ 1))) old in
+    let of-size : m ∣ P .size = dvd-trans _
+    (subst (λ (x : ℕ). m ∣ x) (sym (ap (λ (x : ℕ). 256 ^ x) sum ∙ pow-add 256 (P .addressBytes - n) (n - 1))) (dvd-mul-right m (256 ^ (n - 1)))) placed in
+    let old : 256 ^ (P .addressBytes + 1 - n) ∣ a = dvd-of-mod-eq-zero _
+    (eqb-true _ _ (and-right (ltb a (P .size)) (eqb (a % 256 ^ (P .addressBytes + 1 - n)) 0) h)) in
+    let of-a : m ∣ a = dvd-trans _ (subst (λ (x : ℕ). m ∣ x) (sym (ap (λ (x : ℕ). 256 ^ x) up ∙ pow-add 256 (P .addressBytes - n) 1))
+    (dvd-mul-right m (256 ^ 1))) old in
     let of-sum : m ∣ a + v * m = dvd-add _ of-a (dvd-mul-left m v) in
     let zero-left : (a + v * m) % P .size % m ≡ 0 = mod-mod-of-dvd m (a + v * m) of-size ∙ mod-eq-zero-of-dvd m of-sum in
     and-both (ltb ((a + v * m) % P .size) (P .size)) (eqb ((a + v * m) % P .size % 256 ^ (P .addressBytes + 1 - k)) 0)
@@ -150,7 +153,8 @@ module _ (P : Part) (sound : Sound P) (f : Frame) (v : ℕ) (one : 1 ≤ f .take
   at-address i a h t = record { address = h; value = up-value i t; out = up-out i t; latch = up-latch i t }
 
   -- an address byte, and one that comes after them
-  more-address : bounded P (f .taken) (f .address) ≡ true → f .taken ≤ P .addressBytes → bounded P next ((f .address + v * 256 ^ (P .addressBytes - f .taken)) % P .size) ≡ true
+  more-address : bounded P (f .taken) (f .address) ≡ true → f .taken ≤ P .addressBytes
+      → bounded P next ((f .address + v * 256 ^ (P .addressBytes - f .taken)) % P .size) ≡ true
   more-address h k =
       let most : P .addressBytes + 2 ≤ P .most = sound .counted in
       byte-bounded P (f .taken) next (f .address) v (sound .size-some) (sound .placed) one k (omega arith) h

@@ -52,19 +52,29 @@ module _ (p : Pins) (v : ℕ) (small : v ≤ 1) (fits : pinsFit p ≡ true) wher
   levels = and-5-out (leb (p .s) 1) (leb (p .c) 1) (leb (p .d) 1) (leb (p .w) 1) (leb (p .hold) 1) fits
 
   s-set : pinsFit (withS v p) ≡ true
-  s-set = and-5-in (leb v 1) (leb (p .c) 1) (leb (p .d) 1) (leb (p .w) 1) (leb (p .hold) 1) (le-leb _ _ small) (levels .1 .0) (levels .1 .1 .0) (levels .1 .1 .1 .0) (levels .1 .1 .1 .1)
+  s-set =
+      and-5-in (leb v 1) (leb (p .c) 1) (leb (p .d) 1) (leb (p .w) 1) (leb (p .hold) 1) (le-leb _ _ small) (levels .1 .0) (levels .1 .1 .0)
+      (levels .1 .1 .1 .0) (levels .1 .1 .1 .1)
 
   c-set : pinsFit (withC v p) ≡ true
-  c-set = and-5-in (leb (p .s) 1) (leb v 1) (leb (p .d) 1) (leb (p .w) 1) (leb (p .hold) 1) (levels .0) (le-leb _ _ small) (levels .1 .1 .0) (levels .1 .1 .1 .0) (levels .1 .1 .1 .1)
+  c-set =
+      and-5-in (leb (p .s) 1) (leb v 1) (leb (p .d) 1) (leb (p .w) 1) (leb (p .hold) 1) (levels .0) (le-leb _ _ small) (levels .1 .1 .0) (levels .1 .1 .1 .0)
+      (levels .1 .1 .1 .1)
 
   d-set : pinsFit (withD v p) ≡ true
-  d-set = and-5-in (leb (p .s) 1) (leb (p .c) 1) (leb v 1) (leb (p .w) 1) (leb (p .hold) 1) (levels .0) (levels .1 .0) (le-leb _ _ small) (levels .1 .1 .1 .0) (levels .1 .1 .1 .1)
+  d-set =
+      and-5-in (leb (p .s) 1) (leb (p .c) 1) (leb v 1) (leb (p .w) 1) (leb (p .hold) 1) (levels .0) (levels .1 .0) (le-leb _ _ small) (levels .1 .1 .1 .0)
+      (levels .1 .1 .1 .1)
 
   w-set : pinsFit (withW v p) ≡ true
-  w-set = and-5-in (leb (p .s) 1) (leb (p .c) 1) (leb (p .d) 1) (leb v 1) (leb (p .hold) 1) (levels .0) (levels .1 .0) (levels .1 .1 .0) (le-leb _ _ small) (levels .1 .1 .1 .1)
+  w-set =
+      and-5-in (leb (p .s) 1) (leb (p .c) 1) (leb (p .d) 1) (leb v 1) (leb (p .hold) 1) (levels .0) (levels .1 .0) (levels .1 .1 .0) (le-leb _ _ small)
+      (levels .1 .1 .1 .1)
 
   hold-set : pinsFit (withHold v p) ≡ true
-  hold-set = and-5-in (leb (p .s) 1) (leb (p .c) 1) (leb (p .d) 1) (leb (p .w) 1) (leb v 1) (levels .0) (levels .1 .0) (levels .1 .1 .0) (levels .1 .1 .1 .0) (le-leb _ _ small)
+  hold-set =
+      and-5-in (leb (p .s) 1) (leb (p .c) 1) (leb (p .d) 1) (leb (p .w) 1) (leb v 1) (levels .0) (levels .1 .0) (levels .1 .1 .0) (levels .1 .1 .1 .0)
+      (le-leb _ _ small)
 
 -- a cycle that runs after a reading ran before it
 ran-before : (P : Part) (r : ℕ) (c : Core) → running (timed P r c) ≡ true → running c ≡ true
@@ -81,11 +91,29 @@ module _ (P : Part) (sound : Sound P) (x : Device) (t : Fits P x) where
 
   d-fits : (level : Bool) → Fits P (onD level x)
   unfolding onD
-  d-fits level = record { pins = d-set (x .pins) (bit level) (bit-small level) (t .pins); held = t .held; frame = t .frame; empty = t .empty; ran = t .ran; core = t .core }
+  d-fits level =
+      record {
+        pins =
+            d-set (x .pins) (bit level) (bit-small level) (t .pins);
+        held = t .held;
+        frame = t .frame;
+        empty = t .empty;
+        ran = t .ran;
+        core = t .core;
+      }
 
   w-fits : (level : Bool) → Fits P (onW level x)
   unfolding onW
-  w-fits level = record { pins = w-set (x .pins) (bit level) (bit-small level) (t .pins); held = t .held; frame = t .frame; empty = t .empty; ran = t .ran; core = t .core }
+  w-fits level =
+      record {
+        pins =
+            w-set (x .pins) (bit level) (bit-small level) (t .pins);
+        held = t .held;
+        frame = t .frame;
+        empty = t .empty;
+        ran = t .ran;
+        core = t .core;
+      }
 
   -- while C is high HOLD does not matter to held
   high-held : (v : ℕ) → on (x .pins .c) ≡ true → heldFits (withHold v (x .pins)) (x .held) ≡ true
@@ -99,7 +127,15 @@ module _ (P : Part) (sound : Sound P) (x : Device) (t : Fits P x) where
       let p = hold-set (x .pins) (bit level) (bit-small level) (t .pins) in
       pick-case (Fits P) (on (x .pins .c))
       (λ c. record { pins = p; held = high-held (bit level) c; frame = t .frame; empty = t .empty; ran = t .ran; core = t .core })
-      (λ c. record { pins = p; held = renewed-fits (withHold (bit level) (x .pins)) (bit-small level); frame = t .frame; empty = t .empty; ran = t .ran; core = t .core })
+      (λ c. record {
+        pins = p;
+        held = renewed-fits (withHold (bit level) (x .pins))
+            (bit-small level);
+        frame = t .frame;
+        empty = t .empty;
+        ran = t .ran;
+        core = t .core;
+      })
 
   -- ---- S
 

@@ -60,7 +60,8 @@ not-over c = go (running c) refl
     go : (b : Bool) → running c ≡ b → ends (c .last) c ≡ false
     go true e =
         let some : 0 < c .left = ltb-true 0 (c .left) e in
-        and-no-right (running c) (leb (c .left) (elapsed (c .last) (c .last))) (lt-leb (c .left) (elapsed (c .last) (c .last)) (omega (arith, none-elapsed (c .last))))
+        and-no-right (running c) (leb (c .left) (elapsed (c .last) (c .last)))
+        (lt-leb (c .left) (elapsed (c .last) (c .last)) (omega (arith, none-elapsed (c .last))))
     go false e = and-no-left (running c) (leb (c .left) (elapsed (c .last) (c .last))) e
 
 module _ (P : Part) (x : Device) where

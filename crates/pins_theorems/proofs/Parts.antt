@@ -42,12 +42,14 @@ pub record Fits (P : Part) (x : Device) : Type 0 where
 module _ (P : Part) (i : Instruction) (f : Frame) where
   fields-out : fieldsFit P i f ≡ true → FieldsFit P i f
   fields-out e =
-      let t = and-4-out (addressFits P i (f .taken) (f .address)) (valued i (f .taken) || eqb (f .value) 0) (outFits P i f) (latchFits P (latches P i (f .taken)) (f .latch)) e in
+      let t = and-4-out (addressFits P i (f .taken) (f .address)) (valued i (f .taken) || eqb (f .value) 0) (outFits P i f)
+      (latchFits P (latches P i (f .taken)) (f .latch)) e in
       record { address = t .0; value = t .1 .0; out = t .1 .1 .0; latch = t .1 .1 .1 }
 
   fields-in : FieldsFit P i f → fieldsFit P i f ≡ true
   fields-in t =
-      and-4-in (addressFits P i (f .taken) (f .address)) (valued i (f .taken) || eqb (f .value) 0) (outFits P i f) (latchFits P (latches P i (f .taken)) (f .latch))
+      and-4-in (addressFits P i (f .taken) (f .address)) (valued i (f .taken) || eqb (f .value) 0) (outFits P i f)
+      (latchFits P (latches P i (f .taken)) (f .latch))
       (t .address) (t .value) (t .out) (t .latch)
 
 module _ (P : Part) (f : Frame) where

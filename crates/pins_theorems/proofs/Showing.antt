@@ -48,7 +48,8 @@ unfolding pick
 none-shown true a b o e n = refl
 none-shown false a b o e n = absurd (never (and-right b o e) n)
 
-pub z-no-output : (P : Part) (x : Device) → deviceFits P x ≡ true → outputs P (decode P (x .frame .code)) (x .frame .taken) (on (x .frame .ran)) ≡ false → q x ≡ Z
+pub z-no-output : (P : Part) (x : Device) → deviceFits P x ≡ true → outputs P (decode P (x .frame .code)) (x .frame .taken) (on (x .frame .ran)) ≡ false
+    → q x ≡ Z
 z-no-output P x fits n =
     let f = x .frame in
     z-outside x (eqb-true _ _ (none-shown (eqb (f .shown) 0) (eqb (f .out) 0) (leb (f .shown) 8) (outputs P (decode P (f .code)) (f .taken) (on (f .ran)))
@@ -128,4 +129,5 @@ unfolding onC
 held-frame P level m x h =
     let uncounted : counting x ≡ false = and-no-right (selected x) (not (on (x .held))) (ap not h) in
     pick-case (λ (y : Device). y .frame ≡ x .frame) (eqb (x .pins .c) (bit level)) (λ e. refl)
-    (λ e. pick-case (λ (y : Device). y .frame ≡ x .frame) level (λ t. ap (λ (y : Device). y .frame) (at-no _ _ uncounted)) (λ t. ap (λ (y : Device). y .frame) (at-no _ _ uncounted)))
+    (λ e. pick-case (λ (y : Device). y .frame ≡ x .frame) level (λ t. ap (λ (y : Device). y .frame) (at-no _ _ uncounted))
+    (λ t. ap (λ (y : Device). y .frame) (at-no _ _ uncounted)))

@@ -57,7 +57,8 @@ take-on x i e h = let n : e ≡ i + (e - i) = omega arith in ap (λ (k : ℕ). t
 pub part-length : {A : Type 0} (x : List A) (i e : ℕ) → i ≤ e → e ≤ length x → length (take (e - i) (drop i x)) ≡ e - i
 part-length x i e h k = length-take-le (e - i) (drop i x) (rw length-drop (omega arith))
 
-module _ (l : Line) (b : PinBench) (x : List ℕ) (i e : ℕ) (h : i ≤ e) (hand : Line) (c : PinBench) (p : hand ≡ read l (take i x)) (q : c ≡ playedLines l b (take i x)) where
+module _ (l : Line) (b : PinBench) (x : List ℕ) (i e : ℕ) (h : i ≤ e) (hand : Line) (c : PinBench) (p : hand ≡ read l (take i x))
+    (q : c ≡ playedLines l b (take i x)) where
   pub turn-line : read hand (take (e - i) (drop i x)) ≡ read l (take e x)
   turn-line = rw (p, take-on x i e h) (sym (read-append l (take i x) (take (e - i) (drop i x))))
 

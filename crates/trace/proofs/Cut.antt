@@ -60,7 +60,8 @@ module _ (l : Line) (b : PinBench) (f : lineFits l ≡ true) (x y : List ℕ) wh
       ∙ ap (λ (k : List ℕ). (first ++ badLineBetween l r) ++ k) (sym (bad-before r (read r y) stop))
       ∙ append-nil (first ++ badLineBetween l r)
       ∙ ap (λ (k : List ℕ). first ++ k) (ap (badLineBetween l) (sym same ∙ sym (read-append l x y)))
-      ∙ ap (λ (k : List ℕ). k ++ badLineBetween l (read l (x ++ y))) (sym (append-nil first) ∙ ap (λ (k : List ℕ). first ++ k) (sym none) ∙ sym (lines-shown l b f x y)))
+      ∙ ap (λ (k : List ℕ). k ++ badLineBetween l (read l (x ++ y)))
+      (sym (append-nil first) ∙ ap (λ (k : List ℕ). first ++ k) (sym none) ∙ sym (lines-shown l b f x y)))
       (λ e. let go = eqb-false (r .place) 5 e in
       let started : l .place ≡ 5 → ⊥ = λ s. go (ap (λ (k : Line). k .place) (read-still l x s) ∙ s) in
       ap (λ (k : List ℕ). (first ++ k) ++ (shownLines r c y ++ badLineBetween r (read r y))) (sym (bad-not l r go))
@@ -82,16 +83,19 @@ two-chunks t f x y =
     let b = benchOf p (t .cells) in
     let lines : read (read l x) y ≡ read l (x ++ y) = sym (read-append l x y) in
     let bench : playedLines (read l x) (playedLines l b x) y ≡ playedLines l b (x ++ y) = sym (lines-played l b x y) in
-    let two : List ℕ = (t .output ++ chunkOutput p (t .cells) x) ++ (shownLines (read l x) (playedLines l b x) y ++ badLineBetween (read l x) (read (read l x) y)) in
+    let two : List ℕ = (t .output ++ chunkOutput p (t .cells) x) ++
+    (shownLines (read l x) (playedLines l b x) y ++ badLineBetween (read l x) (read (read l x) y)) in
     let out : two ≡ t .output ++ chunkOutput p (t .cells) (x ++ y) =
     append-assoc (t .output) (chunkOutput p (t .cells) x) _
-    ∙ ap (λ (k : List ℕ). t .output ++ k) (append-assoc (headed p) (shownLines l b x ++ badLineBetween l (read l x)) _ ∙ ap (λ (k : List ℕ). headed p ++ k) (both l b f x y)) in
+    ∙ ap (λ (k : List ℕ). t .output ++ k)
+    (append-assoc (headed p) (shownLines l b x ++ badLineBetween l (read l x)) _ ∙ ap (λ (k : List ℕ). headed p ++ k) (both l b f x y)) in
     ap (λ (k : Line). soFar k (playedLines (read l x) (playedLines l b x) y) two) lines
     ∙ ap (λ (k : PinBench). soFar (read l (x ++ y)) k two) bench
     ∙ ap (soFar (read l (x ++ y)) (playedLines l b (x ++ y))) out
 
 -- .. and so are any number of them
-all-chunks : (t : SoFar) → lineFits (t .player .line) ≡ true → (x : List ℕ) (xs : List (List ℕ)) → afterChunks (afterChunk t x) xs ≡ afterChunk t (x ++ joined xs)
+all-chunks : (t : SoFar) → lineFits (t .player .line) ≡ true → (x : List ℕ) (xs : List (List ℕ))
+    → afterChunks (afterChunk t x) xs ≡ afterChunk t (x ++ joined xs)
 unfolding afterChunks joined
 all-chunks t f x [] = sym (ap (afterChunk t) (append-nil x))
 all-chunks t f x (y ∷ ys) =
@@ -109,7 +113,8 @@ bad-ended r =
     (λ e. let stop = eqb-true (r .place) 5 e in
     let ends = ended-still r stop in
     ap (λ (k : List ℕ). badLineBetween (fresh 0) r ++ k) (sym (bad-before r (ended r) stop)) ∙ append-nil (badLineBetween (fresh 0) r)
-    ∙ sym (bad-now (fresh 0) r (λ s. omega arith) stop) ∙ bad-now (fresh 0) (stopped (r .whole)) (λ s. omega arith) refl ∙ ap (badLineBetween (fresh 0)) (sym ends))
+    ∙ sym (bad-now (fresh 0) r (λ s. omega arith) stop) ∙ bad-now (fresh 0) (stopped (r .whole)) (λ s. omega arith) refl ∙ ap (badLineBetween (fresh 0))
+    (sym ends))
     (λ e. let go = eqb-false (r .place) 5 e in
     ap (λ (k : List ℕ). k ++ badLineBetween r (ended r)) (sym (bad-not (fresh 0) r go)) ∙ bad-same r (fresh 0) (ended r) go (λ s. omega arith))
 
@@ -127,7 +132,8 @@ text-output x =
     append-assoc header (s ++ badLineBetween (fresh 0) r) (badLineBetween r (ended r))
     ∙ ap (λ (k : List ℕ). header ++ k)
     (append-assoc s (badLineBetween (fresh 0) r) (badLineBetween r (ended r))
-    ∙ ap (λ (k : List ℕ). s ++ k) (bad-ended r ∙ ap (badLineBetween (fresh 0)) (text-ended x) ∙ bad-whole (length (textEvents x)) (0 + length (textEvents x)) (textIsBad x) (omega arith))
+    ∙ ap (λ (k : List ℕ). s ++ k) (bad-ended r ∙ ap (badLineBetween (fresh 0)) (text-ended x) ∙ bad-whole (length (textEvents x)) (0 + length (textEvents x))
+    (textIsBad x) (omega arith))
     ∙ ap (λ (k : List ℕ). k ++ pick (textIsBad x) (badLine (length (textEvents x) + 1)) []) shows)
 
 text-bench : (x : List ℕ) → benchOf (afterChunk beforeText x .player) (afterChunk beforeText x .cells) ≡ textBench x

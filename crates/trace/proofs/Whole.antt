@@ -58,7 +58,8 @@ module _ (w : ℕ) (h : w < 1000000) where
   goes-end k v e i [] = (refl, refl)
   goes-end k v e i (b ∷ x) =
       split (eqb b 10) (λ j. rw (eqb-true b 10 j, one-more w h) (ap (λ (n : ℕ). n ∷ found (fresh (w + 1)) x) i, refl))
-      (λ j. goes-as (lineAt w 3 k v) (b ∷ x) (no-so _ (and-no-left (eqb b 10) _ j) refl) (goes-bad (lineAt w 3 k v) b x (and-no-left (eqb b 10) true j) (rw j refl)))
+      (λ j. goes-as (lineAt w 3 k v) (b ∷ x) (no-so _ (and-no-left (eqb b 10) _ j) refl)
+      (goes-bad (lineAt w 3 k v) b x (and-no-left (eqb b 10) true j) (rw j refl)))
 
   -- a reading that is too large stays so
   too-large : (v : ℕ) (l : List ℕ) → 2 ^ 32 ≤ v → digitsSay v l ≡ bad
@@ -86,12 +87,14 @@ module _ (w : ℕ) (h : w < 1000000) where
       (λ d. let n = digit-lf b d in
       let says : digitsSay (v * 10 + (b - 48)) (firstLine x) ≡ digitsSay v (firstLine (b ∷ x)) = yes-so _ d (rw n refl) in
       split (ltb (v * 10 + (b - 48)) (2 ^ 32))
-      (λ i. goes-as (lineAt w 4 5 v) (b ∷ x) says (goes-on (lineAt w 4 5 v) (lineAt w 4 5 (v * 10 + (b - 48))) b x (digitsSay (v * 10 + (b - 48)) (firstLine x)) refl n (rw (d, i) refl) (goes-digits (v * 10 + (b - 48)) x (ltb-true _ _ i))))
+      (λ i. goes-as (lineAt w 4 5 v) (b ∷ x) says (goes-on (lineAt w 4 5 v) (lineAt w 4 5 (v * 10 + (b - 48))) b x
+      (digitsSay (v * 10 + (b - 48)) (firstLine x)) refl n (rw (d, i) refl) (goes-digits (v * 10 + (b - 48)) x (ltb-true _ _ i))))
       (λ i. goes-as (lineAt w 4 5 v) (b ∷ x) (sym (too-large (v * 10 + (b - 48)) (firstLine x) (ltb-false _ _ i)) ∙ says)
       (goes-bad (lineAt w 4 5 v) b x (and-no-left (eqb b 10) true n) (rw (d, i) refl))))
       (λ d. split (eqb b 10)
       (λ e. rw (eqb-true b 10 e, lt-ltb v (2 ^ 32) s, one-more w h) (refl, refl))
-      (λ e. goes-as (lineAt w 4 5 v) (b ∷ x) (no-so _ d (yes-so _ (lt-ltb v (2 ^ 32) s) (no-so _ (and-no-left (eqb b 10) (isEmpty (pick (eqb b 10) [] (firstLine x))) e) refl)))
+      (λ e. goes-as (lineAt w 4 5 v) (b ∷ x)
+      (no-so _ d (yes-so _ (lt-ltb v (2 ^ 32) s) (no-so _ (and-no-left (eqb b 10) (isEmpty (pick (eqb b 10) [] (firstLine x))) e) refl)))
       (goes-bad (lineAt w 4 5 v) b x (and-no-left (eqb b 10) true e) (rw (d, e) refl))))
 
   -- a level, of a kind whose numbers stand for the events that `sets` makes
@@ -106,10 +109,14 @@ module _ (w : ℕ) (h : w < 1000000) where
       let pin : ltb k 5 ≡ true = lt-ltb k 5 (m .0) in
       split (eqb b 48)
       (λ z. let n = ne-eqb b 10 (λ i. omega (arith, eqb-true b 48 z)) in
-      goes-as here (b ∷ x) {A = endSays (sets false) (firstLine x)} (yes-so _ z (rw n refl)) (goes-on here (lineAt w 3 k 0) b x (endSays (sets false) (firstLine x)) refl n (rw z refl) (goes-end k 0 (sets false) (m .1 .0) x)))
+      goes-as here (b ∷ x) {A =
+      endSays (sets false) (firstLine x)} (yes-so _ z (rw n refl))
+      (goes-on here (lineAt w 3 k 0) b x (endSays (sets false) (firstLine x)) refl n (rw z refl) (goes-end k 0 (sets false) (m .1 .0) x)))
       (λ z. split (eqb b 49)
       (λ o. let n = ne-eqb b 10 (λ j. omega (arith, eqb-true b 49 o)) in
-      goes-as here (b ∷ x) {A = endSays (sets true) (firstLine x)} (no-so _ z (yes-so _ o (rw n refl))) (goes-on here (lineAt w 3 k 1) b x (endSays (sets true) (firstLine x)) refl n (rw (z, pin, o) refl) (goes-end k 1 (sets true) (m .1 .1) x)))
+      goes-as here (b ∷ x) {A =
+      endSays (sets true) (firstLine x)} (no-so _ z (yes-so _ o (rw n refl)))
+      (goes-on here (lineAt w 3 k 1) b x (endSays (sets true) (firstLine x)) refl n (rw (z, pin, o) refl) (goes-end k 1 (sets true) (m .1 .1) x)))
       (λ o. goes-as here (b ∷ x) {A = bad} (no-so _ z (no-so _ o refl)) (goes-bad here b x (and-no-right (eqb b 10) false refl) (rw (z, pin, o) refl))))
 
   goes-reading : (v : ℕ) (x : List ℕ) → Goes (lineAt w 2 5 v) x (readingSays (firstLine x))
@@ -119,7 +126,9 @@ module _ (w : ℕ) (h : w < 1000000) where
       let here = lineAt w 2 5 v in
       split (eqb b 48)
       (λ z. let n = ne-eqb b 10 (λ i. omega (arith, eqb-true b 48 z)) in
-      goes-as here (b ∷ x) {A = endSays (Time 0) (firstLine x)} (yes-so _ z (rw n refl)) (goes-on here (lineAt w 3 5 0) b x (endSays (Time 0) (firstLine x)) refl n (rw z refl) (goes-end 5 0 (Time 0) refl x)))
+      goes-as here (b ∷ x) {A =
+      endSays (Time 0) (firstLine x)} (yes-so _ z (rw n refl))
+      (goes-on here (lineAt w 3 5 0) b x (endSays (Time 0) (firstLine x)) refl n (rw z refl) (goes-end 5 0 (Time 0) refl x)))
       (λ z. split (isDigit b)
       (λ d. let n = digit-lf b d in
       goes-as here (b ∷ x) {A = digitsSay (b - 48) (firstLine x)} (no-so _ z (yes-so _ d (rw n refl)))
@@ -135,7 +144,8 @@ module _ (w : ℕ) (h : w < 1000000) where
       let here = lineAt w 1 k v in
       split (eqb b 9)
       (λ e. let n = ne-eqb b 10 (λ i. omega (arith, eqb-true b 9 e)) in
-      goes-as here (b ∷ x) {A = value (firstLine x)} (yes-so _ e (rw n refl)) (goes-on here (lineAt w 2 k 0) b x (value (firstLine x)) refl n (rw e refl) (g 0 x)))
+      goes-as here (b ∷ x) {A =
+      value (firstLine x)} (yes-so _ e (rw n refl)) (goes-on here (lineAt w 2 k 0) b x (value (firstLine x)) refl n (rw e refl) (g 0 x)))
       (λ e. goes-as here (b ∷ x) {A = bad} (no-so _ e refl) (goes-bad here b x (and-no-right (eqb b 10) false refl) (rw e refl)))
 
   goes-name : (b k : ℕ) (value : List ℕ → Said) → kindOf b ≡ k → k < 6 → ((v : ℕ) (x : List ℕ) → Goes (lineAt w 2 k v) x (value (firstLine x)))
@@ -156,15 +166,20 @@ module _ (w : ℕ) (h : w < 1000000) where
       split (eqb b 83)
       (λ s. goes-as here (b ∷ x) (yes-so _ s refl) (goes-name b 0 (levelSays S) (rw s refl) (omega arith) (goes-level 0 S (omega arith, (refl, refl))) x))
       (λ s. split (eqb b 67)
-      (λ c. goes-as here (b ∷ x) (no-so _ s (yes-so _ c refl)) (goes-name b 1 (levelSays C) (rw (s, c) refl) (omega arith) (goes-level 1 C (omega arith, (refl, refl))) x))
+      (λ c. goes-as here (b ∷ x) (no-so _ s (yes-so _ c refl))
+      (goes-name b 1 (levelSays C) (rw (s, c) refl) (omega arith) (goes-level 1 C (omega arith, (refl, refl))) x))
       (λ c. split (eqb b 68)
-      (λ d. goes-as here (b ∷ x) (no-so _ s (no-so _ c (yes-so _ d refl))) (goes-name b 2 (levelSays D) (rw (s, c, d) refl) (omega arith) (goes-level 2 D (omega arith, (refl, refl))) x))
+      (λ d. goes-as here (b ∷ x) (no-so _ s (no-so _ c (yes-so _ d refl)))
+      (goes-name b 2 (levelSays D) (rw (s, c, d) refl) (omega arith) (goes-level 2 D (omega arith, (refl, refl))) x))
       (λ d. split (eqb b 87)
-      (λ k. goes-as here (b ∷ x) (no-so _ s (no-so _ c (no-so _ d (yes-so _ k refl)))) (goes-name b 3 (levelSays W) (rw (s, c, d, k) refl) (omega arith) (goes-level 3 W (omega arith, (refl, refl))) x))
+      (λ k. goes-as here (b ∷ x) (no-so _ s (no-so _ c (no-so _ d (yes-so _ k refl))))
+      (goes-name b 3 (levelSays W) (rw (s, c, d, k) refl) (omega arith) (goes-level 3 W (omega arith, (refl, refl))) x))
       (λ k. split (eqb b 72)
-      (λ p. goes-as here (b ∷ x) (no-so _ s (no-so _ c (no-so _ d (no-so _ k (yes-so _ p refl))))) (goes-name b 4 (levelSays Hold) (rw (s, c, d, k, p) refl) (omega arith) (goes-level 4 Hold (omega arith, (refl, refl))) x))
+      (λ p. goes-as here (b ∷ x) (no-so _ s (no-so _ c (no-so _ d (no-so _ k (yes-so _ p refl)))))
+      (goes-name b 4 (levelSays Hold) (rw (s, c, d, k, p) refl) (omega arith) (goes-level 4 Hold (omega arith, (refl, refl))) x))
       (λ p. split (eqb b 84)
-      (λ t. goes-as here (b ∷ x) (no-so _ s (no-so _ c (no-so _ d (no-so _ k (no-so _ p (yes-so _ t refl)))))) (goes-name b 5 readingSays (rw (s, c, d, k, p, t) refl) (omega arith) goes-reading x))
+      (λ t. goes-as here (b ∷ x) (no-so _ s (no-so _ c (no-so _ d (no-so _ k (no-so _ p (yes-so _ t refl))))))
+      (goes-name b 5 readingSays (rw (s, c, d, k, p, t) refl) (omega arith) goes-reading x))
       (λ t. goes-as here (b ∷ x) {A = bad} (no-so _ s (no-so _ c (no-so _ d (no-so _ k (no-so _ p (no-so _ t refl))))))
       (goes-bad here b x (and-no-right (eqb b 10) false refl) (rw (lt-ltb w 1000000 h, s, c, d, k, p, t) refl))))))))
 

@@ -11,4 +11,5 @@ abbrev pub Takes : Line → List ℕ → ℕ → ℕ → Line → ℕ → ℕ �
 Takes h x i bytes after lines event =
     (1 ≤ bytes) × (i + bytes ≤ length x) × (lines ≤ 1)
     × ((l : Line) → h ≡ read l (take i x) → after ≡ read l (take (i + bytes) x))
-    × ((l : Line) → h ≡ read l (take i x) → found l (take i x) ++ take lines (event ∷ []) ≡ found l (take (i + bytes) x))
+    × ((l : Line) → h ≡ read l (take i x) → found l (take i x) ++ take lines (event ∷ [])
+    ≡ found l (take (i + bytes) x))

@@ -280,7 +280,8 @@ fn million(memory: &mut [u8], identification: &mut [u8], out: &mut [u8]) {
     );
 }
 
-// ---- what is refused, by its number, and that the first in the order decides: a chunk of four bytes, which asks for 59
+// ---- what is refused, by its number, and that the first in the order decides: a chunk of four bytes, which asks for
+// 59
 
 fn refused(what: &[u8], player: Player, memory: &mut [u8], out: &mut [u8]) {
     let mut identification = player::identification();

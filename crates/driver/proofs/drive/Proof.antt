@@ -122,7 +122,8 @@ returns-4 c =
     let same = own-acted P (firstWait P (a .interval) (a .limit) d) d (wait .ensures .0) in
     let all : Part → Run = λ Q. allParts Q (a .interval) (a .limit) (a .address) (a .bytes .now) y in
     drove-parts P (a .interval) (a .limit) (a .address) (a .bytes .now) d (parts .result) (parts .last .1 .0) (parts .last .1 .1 .0)
-    (wait .result .frames) y (went .before .before .before .before .before .before .before .before .before .before .before .before .if1 .left) e (wait .ensures .1 .1 .0)
+    (wait .result .frames) y (went .before .before .before .before .before .before .before .before .before .before .before .before .if1 .left) e
+    (wait .ensures .1 .1 .0)
     (sym (seen-wip (wait .result .status) (y .core) (wait .ensures .1 .0)) ∙ sym (went .before .before .before .wip .ensures) ∙ went .before .before .if2 .left)
     (sym (seen-touches (wait .result .status) (y .core) (wait .ensures .1 .0) P _ _) ∙ sym (went .before .block-touched .ensures) ∙ went .if3 .left)
     (parts .ensures .0 ∙ ap (λ (Q : Part). partsDriven Q (wait .result .frames) (all Q) (y .core) (y .memory) (y .identification)) same)

@@ -39,12 +39,15 @@ returns : tie.Need-returns
 returns c =
     let a = c .before .before .before .before .before .before .before .before .before .before .before .before .before .before .before .before .args in
     rw (c .after .ensures, c .before .undriven .ensures, c .before .before .before .before .show .ensures, c .before .before .before .before .before .before .status .ensures, c .before .before .before .before .before .before .before .before .running .ensures, c .before .before .before .before .before .before .before .instruction-of .ensures)
-    (shown-frame (ownPart (a .core)) (a .core) (a .memory .now) (a .identification .now) (a .w) (a .bytes .now) (a .bits) (a .out .now) (c .before .before .before .before .before .before .before .before .before .before .before .outcome .ensures) (c .before .before .before .before .before .before .before .before .before .enum-told .given .1))
+    (shown-frame (ownPart (a .core)) (a .core) (a .memory .now) (a .identification .now) (a .w) (a .bytes .now) (a .bits) (a .out .now)
+    (c .before .before .before .before .before .before .before .before .before .before .before .outcome .ensures)
+    (c .before .before .before .before .before .before .before .before .before .enum-told .given .1))
 
 returns-2 : tie.Need-returns-2
 returns-2 c =
     let a = c .before .before .before .before .before .before .before .before .args in
-    refused-frame (ownPart (a .core)) (a .core) (a .memory .now) (a .identification .now) (a .w) (a .bytes .now) (a .bits) (a .out .now) (c .before .r .given .0 .0) (c .before .before .before .outcome .ensures) (c .before .r .given .1)
+    refused-frame (ownPart (a .core)) (a .core) (a .memory .now) (a .identification .now) (a .w) (a .bytes .now) (a .bits) (a .out .now)
+    (c .before .r .given .0 .0) (c .before .before .before .outcome .ensures) (c .before .r .given .1)
 
 pub frame-spec : {M : Type 1} → statement M
 frame-spec =

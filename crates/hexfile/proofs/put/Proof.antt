@@ -39,7 +39,8 @@ array-borrow-prefix-room : tie.Need-array-borrow-prefix-room
 array-borrow-prefix-room c = search needs
 
 slice-aggregate-put-file : tie.Need-slice-aggregate-put-file
-slice-aggregate-put-file c = sym (length-take-le (c .before .before .before .name-beside .result) (c .before .before .before .name-beside .last .1 .0) (omega arith))
+slice-aggregate-put-file c =
+    sym (length-take-le (c .before .before .before .name-beside .result) (c .before .before .before .name-beside .last .1 .0) (omega arith))
 
 put-file-requires : tie.Need-put-file-requires
 put-file-requires c κs = search needs

@@ -21,7 +21,8 @@ array-share-prefix-text : tie.Need-array-share-prefix-text
 array-share-prefix-text c = search needs
 
 slice-aggregate-over : tie.Need-slice-aggregate-over
-slice-aggregate-over c = sym (length-take-le (c .before .before .before .before .read-file .result) (c .before .before .before .before .read-file .last .1 .0) (omega arith))
+slice-aggregate-over c =
+    sym (length-take-le (c .before .before .before .before .read-file .result) (c .before .before .before .before .read-file .last .1 .0) (omega arith))
 
 over-requires : tie.Need-over-requires
 over-requires c κs = search needs

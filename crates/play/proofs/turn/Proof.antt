@@ -51,7 +51,9 @@ slice-reshare-prefix-put : tie.Need-slice-reshare-prefix-put
 slice-reshare-prefix-put c = search needs
 
 slice-aggregate-put : tie.Need-slice-aggregate-put
-slice-aggregate-put c = sym (length-take-le (c .before .before .before .before .before .before .before .before .feed .result .written) (c .before .before .before .before .before .before .before .before .feed .last .1 .1 .1 .1 .0) (omega arith))
+slice-aggregate-put c =
+    sym (length-take-le (c .before .before .before .before .before .before .before .before .feed .result .written)
+    (c .before .before .before .before .before .before .before .before .feed .last .1 .1 .1 .1 .0) (omega arith))
 
 put-requires : tie.Need-put-requires
 put-requires c κs = search needs

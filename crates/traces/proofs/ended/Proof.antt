@@ -12,7 +12,8 @@ slice-reshare-prefix-write : tie.Need-slice-reshare-prefix-write
 slice-reshare-prefix-write c = search needs
 
 slice-aggregate-write : tie.Need-slice-aggregate-write
-slice-aggregate-write c = sym (length-take-le (c .before .before .before .finish .result .written) (c .before .before .before .finish .last .1 .0) (omega arith))
+slice-aggregate-write c =
+    sym (length-take-le (c .before .before .before .finish .result .written) (c .before .before .before .finish .last .1 .0) (omega arith))
 
 write-requires : tie.Need-write-requires
 write-requires c κs = search needs

@@ -12,7 +12,9 @@ slice-reshare-prefix-write : tie.Need-slice-reshare-prefix-write
 slice-reshare-prefix-write c = search needs
 
 slice-aggregate-write : tie.Need-slice-aggregate-write
-slice-aggregate-write c = sym (length-take-le (c .before .before .before .before .before .before .before .feed .result .written) (c .before .before .before .before .before .before .before .feed .last .1 .1 .1 .1 .0) (omega arith))
+slice-aggregate-write c =
+    sym (length-take-le (c .before .before .before .before .before .before .before .feed .result .written)
+    (c .before .before .before .before .before .before .before .feed .last .1 .1 .1 .1 .0) (omega arith))
 
 write-requires : tie.Need-write-requires
 write-requires c κs = search needs

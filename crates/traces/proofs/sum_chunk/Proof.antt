@@ -15,7 +15,9 @@ slice-reshare-prefix-sum-of : tie.Need-slice-reshare-prefix-sum-of
 slice-reshare-prefix-sum-of c = search needs
 
 slice-aggregate-sum-of : tie.Need-slice-aggregate-sum-of
-slice-aggregate-sum-of c = sym (length-take-le (c .before .before .before .before .before .before .before .before .before .feed .result .written) (c .before .before .before .before .before .before .before .before .before .feed .last .1 .1 .1 .1 .0) (omega arith))
+slice-aggregate-sum-of c =
+    sym (length-take-le (c .before .before .before .before .before .before .before .before .before .feed .result .written)
+    (c .before .before .before .before .before .before .before .before .before .feed .last .1 .1 .1 .1 .0) (omega arith))
 
 sum-of-requires : tie.Need-sum-of-requires
 sum-of-requires c κs = search needs

@@ -12,7 +12,8 @@ value-requires : tie.Need-value-requires
 value-requires c κs = search needs
 
 returns : tie.Need-returns
-returns c = rw (c .before .number .ensures, c .value .ensures, c .before .before .protected-from .ensures .1 .0, c .before .before .protected-from .ensures .1 .1)
+returns c =
+    rw (c .before .number .ensures, c .value .ensures, c .before .before .protected-from .ensures .1 .0, c .before .before .protected-from .ensures .1 .1)
 
 pub cartvesper-core-lowest-protected-spec : {M : Type 1} → statement M
 cartvesper-core-lowest-protected-spec =

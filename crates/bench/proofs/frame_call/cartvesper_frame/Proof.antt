@@ -18,7 +18,8 @@ same-length c = search needs
 
 returns : tie.Need-returns
 returns c = (
-  le-so _ (c .before .before .before .before .before .before .before .if1 .taken) (rw (c .before .number .ensures, c .undriven .ensures, c .before .before .before .before .before .frame .ensures .0)),
+  le-so _ (c .before .before .before .before .before .before .before .if1 .taken)
+      (rw (c .before .number .ensures, c .undriven .ensures, c .before .before .before .before .before .frame .ensures .0)),
   le-so _ (c .before .before .before .before .before .before .before .if1 .taken) (c .before .before .before .before .before .frame .ensures .1 .1 .1),
 )
 

@@ -25,7 +25,8 @@ without-cycle-requires-2 c κs = search needs
 returns-2 : tie.Need-returns-2
 returns-2 c =
     c .without-cycle2 .ensures
-    ∙ ap (withoutCycle (ownPart (c .before .before .before .before .args .self))) (ne-so _ (c .before .before .before .if1 .left) (eq-so _ (c .before .before .if2 .taken) (c .before .with-lock .ensures)))
+    ∙ ap (withoutCycle (ownPart (c .before .before .before .before .args .self)))
+    (ne-so _ (c .before .before .before .if1 .left) (eq-so _ (c .before .before .if2 .taken) (c .before .with-lock .ensures)))
 
 without-cycle-requires-3 : tie.Need-without-cycle-requires-3
 without-cycle-requires-3 c κs = search needs

@@ -12,13 +12,18 @@ protects-requires : tie.Need-protects-requires
 protects-requires c κs = search needs
 
 returns : tie.Need-returns
-returns c = answered (ownPart (c .before .before .before .before .before .args .self)) (c .before .before .before .before .before .args .self) (c .before .before .before .before .before .args .address) (search arms)
+returns c =
+    answered (ownPart (c .before .before .before .before .before .args .self)) (c .before .before .before .before .before .args .self)
+    (c .before .before .before .before .before .args .address) (search arms)
 
 returns-2 : tie.Need-returns-2
-returns-2 c = answered (ownPart (c .before .before .before .before .before .args .self)) (c .before .before .before .before .before .args .self) (c .before .before .before .before .before .args .address) (search arms)
+returns-2 c =
+    answered (ownPart (c .before .before .before .before .before .args .self)) (c .before .before .before .before .before .args .self)
+    (c .before .before .before .before .before .args .address) (search arms)
 
 returns-3 : tie.Need-returns-3
-returns-3 c = answered (ownPart (c .before .before .before .args .self)) (c .before .before .before .args .self) (c .before .before .before .args .address) (search arms)
+returns-3 c =
+    answered (ownPart (c .before .before .before .args .self)) (c .before .before .before .args .self) (c .before .before .before .args .address) (search arms)
 
 returns-4 : tie.Need-returns-4
 returns-4 c = answered (ownPart (c .before .before .args .self)) (c .before .before .args .self) (c .before .before .args .address) (search arms)

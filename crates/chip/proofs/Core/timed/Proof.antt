@@ -37,10 +37,16 @@ returns : tie.Need-returns
 unfolding timed timedCells
 returns c =
     let a = c .before .before .before .before .before .before .before .before .before .before .before .before .before .before .before .args in
-    let over = c .before .before .before .before .before .before .before .before .before .before .before .ends .ensures ∙ ap (λ (n : ℕ). running (a .self) && leb (a .self .left) n) (c .before .before .before .before .before .before .before .before .before .before .before .before .elapsed .ensures) in
+    let over = c .before .before .before .before .before .before .before .before .before .before .before .ends .ensures ∙ ap
+    (λ (n : ℕ). running (a .self) && leb (a .self .left) n)
+    (c .before .before .before .before .before .before .before .before .before .before .before .before .elapsed .ensures) in
     let yes = c .before .before .before .before .before .before .before .before .before .before .if1 .taken in (
       call-yes _ over yes (c .with-time .ensures ∙ ap (withTime (a .reading) 0) (c .before .ended .ensures)),
-      (call-yes _ over yes (c .before .before .before .before .before .before .before .before .store-waiting .ensures), call-yes _ over yes (c .before .before .before .before .store-waiting2 .ensures)),
+      (
+        call-yes _ over yes (c .before .before .before .before .before .before .before .before .store-waiting .ensures),
+        call-yes _ over yes
+            (c .before .before .before .before .store-waiting2 .ensures),
+      ),
     )
 
 left-after-requires : tie.Need-left-after-requires

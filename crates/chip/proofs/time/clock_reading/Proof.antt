@@ -26,7 +26,11 @@ returns : tie.Need-returns
 unfolding pick
 returns c =
     let a = c .before .before .before .before .before .before .before .before .before .before .before .before .before .args in
-    let o = reading-taken (ownPart (a .core)) (a .core) (a .memory .now) (a .identification .now) (sym (c .before .before .before .before .before .before .before .before .before .before .lent-fits .ensures) ∙ c .before .before .before .before .before .before .before .before .before .if1 .taken) (sym (c .before .before .before .before .before .before .before .before .in-ranges .ensures) ∙ c .before .before .before .before .before .before .before .if2 .taken) in
+    let o = reading-taken (ownPart (a .core)) (a .core) (a .memory .now) (a .identification .now)
+    (sym (c .before .before .before .before .before .before .before .before .before .before .lent-fits .ensures)
+    ∙ c .before .before .before .before .before .before .before .before .before .if1 .taken)
+    (sym (c .before .before .before .before .before .before .before .before .in-ranges .ensures)
+    ∙ c .before .before .before .before .before .before .before .if2 .taken) in
     let t = c .before .before .before .before .timed .ensures in
     (rw (o, t .0), (reading-number (ownPart (a .core)) (a .core) (a .memory .now) (a .identification .now) o, (rw o (t .1 .0), rw o (t .1 .1))))
 
@@ -34,7 +38,8 @@ returns-2 : tie.Need-returns-2
 unfolding pick
 returns-2 c =
     let a = c .before .before .before .before .before .before .args in
-    let o = record-refused (ownPart (a .core)) (a .core) (a .memory .now) (a .identification .now) (sym (c .before .before .before .lent-fits .ensures) ∙ c .before .before .if1 .taken) (sym (c .before .in-ranges .ensures) ∙ c .if2 .left) in
+    let o = record-refused (ownPart (a .core)) (a .core) (a .memory .now) (a .identification .now)
+    (sym (c .before .before .before .lent-fits .ensures) ∙ c .before .before .if1 .taken) (sym (c .before .in-ranges .ensures) ∙ c .if2 .left) in
     (rw o, (reading-number (ownPart (a .core)) (a .core) (a .memory .now) (a .identification .now) o, (rw o, rw o)))
 
 returns-3 : tie.Need-returns-3

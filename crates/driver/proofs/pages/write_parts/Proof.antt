@@ -214,7 +214,8 @@ returns-2 c =
     let d : FrameBench = frameBench (l .next) (l .memory) (l .identification) in
     ended-of P (a .interval) (a .limit) (a .address) (a .bytes .now) (c .before .before .cartvesper-split-parts .result) _ (a .sent)
     (frameBench (a .core) (a .memory .now) (a .identification .now)) (l .inv .1 .1 .0)
-    (rest-done P (a .interval) (a .limit) (a .address) (a .bytes .now) (c .before .before .cartvesper-split-parts .result) (a .sent) _ (l .k) (l .frames) d (c .loop-test .left) (l .inv .1 .1 .1 .1 .1))
+    (rest-done P (a .interval) (a .limit) (a .address) (a .bytes .now) (c .before .before .cartvesper-split-parts .result) (a .sent) _ (l .k) (l .frames) d
+    (c .loop-test .left) (l .inv .1 .1 .1 .1 .1))
 
 pub write-parts-spec : {M : Type 1} → statement M
 write-parts-spec =

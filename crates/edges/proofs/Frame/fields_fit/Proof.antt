@@ -18,7 +18,8 @@ fits-requires : tie.Need-fits-requires
 fits-requires c κs = search needs
 
 returns : tie.Need-returns
-returns c = rw (c .before .before .before .before .before .address-fits .ensures, c .before .before .before .before .valued .ensures, c .before .before .out-fits .ensures, c .fits2 .ensures, c .before .latches .ensures)
+returns c =
+    rw (c .before .before .before .before .before .address-fits .ensures, c .before .before .before .before .valued .ensures, c .before .before .out-fits .ensures, c .fits2 .ensures, c .before .latches .ensures)
 
 pub fields-fit-spec : {M : Type 1} → statement M
 fields-fit-spec =

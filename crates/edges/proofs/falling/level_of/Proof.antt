@@ -23,7 +23,8 @@ bit-of-requires c κs =
 returns : tie.Need-returns
 returns c =
     let a = c .before .before .before .before .args in
-    let b : bitOf (8 - a .shown) (a .out) ≡ 1 = ap (λ (k : ℕ). bitOf k (a .out)) (sym (c .before .before .bits-left .ensures)) ∙ sym (c .before .bit-of .ensures) ∙ c .if2 .taken in
+    let b : bitOf (8 - a .shown) (a .out) ≡ 1 = ap (λ (k : ℕ). bitOf k (a .out)) (sym (c .before .before .bits-left .ensures)) ∙ sym
+    (c .before .bit-of .ensures) ∙ c .if2 .taken in
     yes-so _ (c .before .before .before .if1 .taken) (eq-so _ b refl)
 
 returns-2 : tie.Need-returns-2

@@ -15,7 +15,9 @@ execute-requires : tie.Need-execute-requires
 execute-requires c κs = search needs
 
 returns : tie.Need-returns
-returns c = yes-so _ (ap isExecuted (sym (c .before .before .before .verdict-of .ensures)) ∙ sym (c .before .before .is-executed .ensures) ∙ c .before .if1 .taken) (c .execute .ensures)
+returns c =
+    yes-so _ (ap isExecuted (sym (c .before .before .before .verdict-of .ensures)) ∙ sym (c .before .before .is-executed .ensures) ∙ c .before .if1 .taken)
+    (c .execute .ensures)
 
 returns-2 : tie.Need-returns-2
 returns-2 c = no-so _ (ap isExecuted (sym (c .before .before .verdict-of .ensures)) ∙ sym (c .before .is-executed .ensures) ∙ c .if1 .left) refl

@@ -62,13 +62,15 @@ returns-3 : tie.Need-returns-3
 returns-3 c = rw (← c .before .before .instruction-of .ensures, c .enum-told3 .given .1)
 
 returns-4 : tie.Need-returns-4
-returns-4 c = rw (← c .before .before .before .before .instruction-of .ensures, c .before .before .enum-told4 .given .1, c .begin-status .ensures, c .before .byte-at .ensures)
+returns-4 c =
+    rw (← c .before .before .before .before .instruction-of .ensures, c .before .before .enum-told4 .given .1, c .begin-status .ensures, c .before .byte-at .ensures)
 
 returns-5 : tie.Need-returns-5
 returns-5 c = rw (← c .before .before .instruction-of .ensures, c .enum-told5 .given .1)
 
 returns-6 : tie.Need-returns-6
-returns-6 c = rw (← c .before .before .before .before .before .instruction-of .ensures, c .before .before .before .enum-told6 .given .1, c .begin-page .ensures, c .before .latch-of .ensures, c .before .before .address-of .ensures, written-row (c .before .before .before .before .before .before .before .args .core .part) (c .before .before .before .before .before .before .before .args .bytes .now))
+returns-6 c =
+    rw (← c .before .before .before .before .before .instruction-of .ensures, c .before .before .before .enum-told6 .given .1, c .begin-page .ensures, c .before .latch-of .ensures, c .before .before .address-of .ensures, written-row (c .before .before .before .before .before .before .before .args .core .part) (c .before .before .before .before .before .before .before .args .bytes .now))
 
 returns-7 : tie.Need-returns-7
 returns-7 c = rw (← c .before .before .instruction-of .ensures, c .enum-told7 .given .1)

@@ -21,7 +21,8 @@ judge-requires : tie.Need-judge-requires
 judge-requires c κs = search needs
 
 returns : tie.Need-returns
-returns c = rw (c .judge .ensures, c .before .before .before .instruction-of .ensures, c .before .before .before .before .protects .ensures, c .before .before .before .before .before .address-of .ensures, c .before .before .running .ensures)
+returns c =
+    rw (c .judge .ensures, c .before .before .before .instruction-of .ensures, c .before .before .before .before .protects .ensures, c .before .before .before .before .before .address-of .ensures, c .before .before .running .ensures)
 
 pub verdict-of-spec : {M : Type 1} → statement M
 verdict-of-spec =

@@ -22,12 +22,14 @@ returns : tie.Need-returns
 returns c =
     let a = c .before .before .before .before .before .before .args in
     rw (c .status .ensures)
-    (sym (shown-poll (ownPart (a .core)) (a .core) (a .memory .now) (a .identification .now) (c .before .before .before .outcome .ensures) (c .before .enum-told .given .1)))
+    (sym (shown-poll (ownPart (a .core)) (a .core) (a .memory .now) (a .identification .now) (c .before .before .before .outcome .ensures)
+    (c .before .enum-told .given .1)))
 
 returns-2 : tie.Need-returns-2
 returns-2 c =
     let a = c .before .before .before .before .before .before .args in
-    sym (refused-poll (ownPart (a .core)) (a .core) (a .memory .now) (a .identification .now) (c .before .r .given .0 .0) (c .before .before .before .outcome .ensures) (c .before .r .given .1))
+    sym (refused-poll (ownPart (a .core)) (a .core) (a .memory .now) (a .identification .now) (c .before .r .given .0 .0)
+    (c .before .before .before .outcome .ensures) (c .before .r .given .1))
 
 pub poll-spec : {M : Type 1} → statement M
 poll-spec =

@@ -57,7 +57,8 @@ returns-2 c =
     let a = c .before .before .before .before .before .before .before .before .before .before .args in
     let k = c .before .before .before .before .before .before .check in
     let t = a .text .now in
-    let bad = good-told m95512 t (k .result .at) _ (k .ensures .0 .1) (c .before .before .before .before .is-end .ensures) ∙ c .before .before .before .if1 .left in
+    let bad = good-told m95512 t (k .result .at) _ (k .ensures .0 .1) (c .before .before .before .before .is-end .ensures)
+    ∙ c .before .before .before .if1 .left in
     let rest : take (length t - k .result .at) (drop (k .result .at) t) ≡ parted m95512 t .rest = tail-part t (k .result .at) ∙ k .ensures .0 .1 in
     let more : c .before .lines-on .result ≡ pick (sameBytes (take 12 (parted m95512 t .rest)) endLine) 2 1 =
     c .before .lines-on .ensures .0 ∙ ap (λ (l : List ℕ). pick {A = ℕ} (sameBytes (take 12 l) endLine) 2 1) rest in

@@ -46,14 +46,16 @@ add-at c =
     let l = c .before .before .before .before .before .before .loop in
     let a = c .before .before .before .before .before .before .before .before .before .args in
     let pre = c .before .before .before .before .before .before .before .before .before .pre in
-    let n : c .before .before .store-record .result ≡ lineLength (drop (l .at) (a .text .now)) = c .before .before .store-record .ensures .0 ∙ ap lineLength (tail-part (a .text .now) (l .at)) in
+    let n : c .before .before .store-record .result ≡ lineLength (drop (l .at) (a .text .now)) = c .before .before .store-record .ensures .0 ∙ ap lineLength
+    (tail-part (a .text .now) (l .at)) in
     omega (arith, n, line-inside m95512 (a .text .now) (l .at) (a .end) (pre .1) (pre .2) (l .inv .2) (omega arith))
 
 loop-less : tie.Need-loop-less Inv-loop μ-loop
 loop-less c =
     let l = c .before .before .before .before .before .before .loop in
     let a = c .before .before .before .before .before .before .before .before .before .args in
-    let n : c .before .before .store-record .result ≡ lineLength (drop (l .at) (a .text .now)) = c .before .before .store-record .ensures .0 ∙ ap lineLength (tail-part (a .text .now) (l .at)) in
+    let n : c .before .before .store-record .result ≡ lineLength (drop (l .at) (a .text .now)) = c .before .before .store-record .ensures .0 ∙ ap lineLength
+    (tail-part (a .text .now) (l .at)) in
     omega (arith, n)
 
 loop-again : tie.Need-loop-again Inv-loop μ-loop
@@ -69,7 +71,8 @@ loop-again c =
     let n : x .result ≡ lineLength u = x .ensures .0 ∙ ap lineLength part in
     let good = more-left m95512 t (l .at) (a .end) (pre .1) (pre .2) (l .inv .2) (omega arith) in
     let on : drop (lineLength u) u ≡ drop k t = ap (λ (j : ℕ). drop j u) (sym n) ∙ drop-drop (x .result) (l .at) t in
-    let more : parted m95512 u ≡ partedFirst (recordAt u) (parted m95512 (drop k t)) = parted-more m95512 u good ∙ ap (λ (y : List ℕ). partedFirst (recordAt u) (parted m95512 y)) on in
+    let more : parted m95512 u ≡ partedFirst (recordAt u) (parted m95512 (drop k t)) = parted-more m95512 u good ∙ ap
+    (λ (y : List ℕ). partedFirst (recordAt u) (parted m95512 y)) on in
     let laid : x .last .0 ≡ laidRecord (recordAt u) (l .memory) = x .ensures .1 ∙ ap (λ (y : List ℕ). laidRecord (recordAt y) (l .memory)) part in
     let records : parted m95512 u .records ≡ recordAt u ∷ parted m95512 (drop k t) .records = ap (λ (s : Parted). s .records) more in (
       omega (arith, n, line-inside m95512 t (l .at) (a .end) (pre .1) (pre .2) (l .inv .2) (omega arith)),

@@ -37,7 +37,8 @@ returns c =
     let n : length text ≡ 180224 = lines-length m 4096 (omega arith) in
     let written : last .last .0 ≡ put (lines .last .0) 180224 endLine = last .ensures .0 ∙ put-room 12 (lines .last .0) 180224 endLine (omega arith) in
     let whole : length (text ++ endLine) ≡ length d = rw length-append (omega (arith, n, pre .1)) in
-    written ∙ put-then d (lines .last .0) 0 180224 text endLine (lines .ensures) (omega (arith, n)) (omega (arith, n, pre .1)) ∙ put-all d (text ++ endLine) whole
+    written ∙ put-then d (lines .last .0) 0 180224 text endLine (lines .ensures) (omega (arith, n)) (omega (arith, n, pre .1)) ∙ put-all d
+    (text ++ endLine) whole
 
 pub put-image-spec : {M : Type 1} → statement M
 put-image-spec =

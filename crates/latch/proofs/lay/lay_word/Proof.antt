@@ -19,7 +19,8 @@ abbrev μ-loop : tie.MeasureT-loop
 μ-loop page₀ bytes start word i₀ page i = 64 - i
 
 loop-holds : tie.Need-loop-holds Inv-loop μ-loop
-loop-holds c = (search needs, search needs, word-laid-none (c .before .args .bytes .now) (c .before .args .start) (c .before .args .word) (c .before .args .page .now))
+loop-holds c =
+    (search needs, search needs, word-laid-none (c .before .args .bytes .now) (c .before .args .start) (c .before .args .word) (c .before .args .page .now))
 
 add-laid-byte : tie.Need-add-laid-byte Inv-loop μ-loop
 add-laid-byte c = search needs

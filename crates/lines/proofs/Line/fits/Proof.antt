@@ -19,7 +19,9 @@ hand-fits-requires c κs = search needs
 
 returns-2 : tie.Need-returns-2
 unfolding lineFits
-returns-2 c = no-so _ (c .before .before .if1 .left) (ap (λ (t : Bool). ltb (c .before .before .before .before .before .args .self .place) 5 && t) (c .hand-fits .ensures))
+returns-2 c =
+    no-so _ (c .before .before .if1 .left)
+    (ap (λ (t : Bool). ltb (c .before .before .before .before .before .args .self .place) 5 && t) (c .hand-fits .ensures))
 
 pub fits-spec : {M : Type 1} → statement M
 fits-spec = tie.close (tie.spec none-fits-requires returns hand-fits-requires returns-2)

@@ -14,7 +14,8 @@ status-byte-requires c κs = search needs
 
 returns : tie.Need-returns
 returns c =
-    λ m l k. rw (c .before .before .enum-told .given .1) (c .status-byte .ensures m l k ∙ ap (λ (f : Frame). risenTo f (whole (c .before .before .before .before .args .self) l k)) (eq-so _ (c .before .if1 .taken) refl))
+    λ m l k. rw (c .before .before .enum-told .given .1) (c .status-byte .ensures m l k ∙ ap
+    (λ (f : Frame). risenTo f (whole (c .before .before .before .before .args .self) l k)) (eq-so _ (c .before .if1 .taken) refl))
 
 unkept-requires : tie.Need-unkept-requires
 unkept-requires c κs = search needs
@@ -27,7 +28,8 @@ address-byte-requires c κs = search needs
 
 returns-2 : tie.Need-returns-2
 returns-2 c =
-    λ m l k. rw (c .before .before .enum-told2 .given .1) (c .address-byte .ensures m l k ∙ ap (λ (f : Frame). risenTo f (whole (c .before .before .before .before .args .self) l k)) (le-so _ (c .before .if2 .taken) refl))
+    λ m l k. rw (c .before .before .enum-told2 .given .1) (c .address-byte .ensures m l k ∙ ap
+    (λ (f : Frame). risenTo f (whole (c .before .before .before .before .args .self) l k)) (le-so _ (c .before .if2 .taken) refl))
 
 unkept-requires-2 : tie.Need-unkept-requires-2
 unkept-requires-2 c κs = search needs
@@ -40,7 +42,8 @@ address-byte-requires-2 c κs = search needs
 
 returns-3 : tie.Need-returns-3
 returns-3 c =
-    λ m l k. rw (c .before .before .enum-told3 .given .1) (c .address-byte2 .ensures m l k ∙ ap (λ (f : Frame). risenTo f (whole (c .before .before .before .before .args .self) l k)) (le-so _ (c .before .if3 .taken) refl))
+    λ m l k. rw (c .before .before .enum-told3 .given .1) (c .address-byte2 .ensures m l k ∙ ap
+    (λ (f : Frame). risenTo f (whole (c .before .before .before .before .args .self) l k)) (le-so _ (c .before .if3 .taken) refl))
 
 latch-byte-requires : tie.Need-latch-byte-requires
 latch-byte-requires c κs = search needs
@@ -71,15 +74,18 @@ unkept-requires-6 c κs = search needs
 
 returns-4 : tie.Need-returns-4
 returns-4 c =
-    λ m l k. rw (c .before .before .enum-told .given .1) (c .unkept .ensures m l k ∙ ap (λ (f : Frame). risenTo f (whole (c .before .before .before .before .args .self) l k)) (ne-so _ (c .before .if1 .left) refl))
+    λ m l k. rw (c .before .before .enum-told .given .1)
+    (c .unkept .ensures m l k ∙ ap (λ (f : Frame). risenTo f (whole (c .before .before .before .before .args .self) l k)) (ne-so _ (c .before .if1 .left) refl))
 
 returns-5 : tie.Need-returns-5
 returns-5 c =
-    λ m l k. rw (c .before .before .enum-told2 .given .1) (c .unkept2 .ensures m l k ∙ ap (λ (f : Frame). risenTo f (whole (c .before .before .before .before .args .self) l k)) (gt-so _ (c .before .if2 .left) refl))
+    λ m l k. rw (c .before .before .enum-told2 .given .1) (c .unkept2 .ensures m l k ∙ ap
+    (λ (f : Frame). risenTo f (whole (c .before .before .before .before .args .self) l k)) (gt-so _ (c .before .if2 .left) refl))
 
 returns-6 : tie.Need-returns-6
 returns-6 c =
-    λ m l k. rw (c .before .before .enum-told3 .given .1) (c .latch-byte .ensures m l k ∙ ap (λ (f : Frame). risenTo f (whole (c .before .before .before .before .args .self) l k)) (gt-so _ (c .before .if3 .left) refl))
+    λ m l k. rw (c .before .before .enum-told3 .given .1) (c .latch-byte .ensures m l k ∙ ap
+    (λ (f : Frame). risenTo f (whole (c .before .before .before .before .args .self) l k)) (gt-so _ (c .before .if3 .left) refl))
 
 returns-7 : tie.Need-returns-7
 returns-7 c = λ m l k. rw (c .before .enum-told4 .given .1) (c .unkept3 .ensures m l k)

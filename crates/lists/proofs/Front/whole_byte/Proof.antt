@@ -12,7 +12,9 @@ one-more-requires c κs = search needs
 
 returns : tie.Need-returns
 unfolding wholeByte
-returns c = λ m l k. ap (λ (f : Frame). risenTo f (whole (c .before .before .before .args .self) l k)) (eq-so _ (c .before .if1 .taken) (rw (c .one-more .ensures) refl))
+returns c =
+    λ m l k. ap (λ (f : Frame). risenTo f (whole (c .before .before .before .args .self) l k))
+    (eq-so _ (c .before .if1 .taken) (rw (c .one-more .ensures) refl))
 
 decode-requires : tie.Need-decode-requires
 decode-requires c κs = search needs

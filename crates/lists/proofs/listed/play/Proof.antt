@@ -44,7 +44,9 @@ returns-2 c =
     let es = a .events .now in
     let x = a .device in
     let m = lent (a .memory .now) (a .identification .now) in
-    let o = play-output (devicePart x) x m es (length (a .out .now)) (sym (c .before .before .before .before .before .before .lent-fits .ensures) ∙ c .before .before .before .before .before .if1 .taken) (sym (c .before .before .before .before .in-ranges .ensures) ∙ c .before .before .before .if2 .taken) (sym (c .before .before .are-events .ensures) ∙ c .before .if3 .taken) (c .if4 .left) in
+    let o = play-output (devicePart x) x m es (length (a .out .now)) (sym (c .before .before .before .before .before .before .lent-fits .ensures)
+    ∙ c .before .before .before .before .before .if1 .taken) (sym (c .before .before .before .before .in-ranges .ensures)
+    ∙ c .before .before .before .if2 .taken) (sym (c .before .before .are-events .ensures) ∙ c .before .if3 .taken) (c .if4 .left) in
     play-untaken (devicePart x) x m es (length (a .out .now)) _ _ _ _ (a .out .now) o
 
 returns-3 : tie.Need-returns-3
@@ -53,7 +55,9 @@ returns-3 c =
     let es = a .events .now in
     let x = a .device in
     let m = lent (a .memory .now) (a .identification .now) in
-    let o = play-no-event (devicePart x) x m es (length (a .out .now)) (sym (c .before .before .before .before .before .lent-fits .ensures) ∙ c .before .before .before .before .if1 .taken) (sym (c .before .before .before .in-ranges .ensures) ∙ c .before .before .if2 .taken) (sym (c .before .are-events .ensures) ∙ c .if3 .left) in
+    let o = play-no-event (devicePart x) x m es (length (a .out .now)) (sym (c .before .before .before .before .before .lent-fits .ensures)
+    ∙ c .before .before .before .before .if1 .taken) (sym (c .before .before .before .in-ranges .ensures) ∙ c .before .before .if2 .taken)
+    (sym (c .before .are-events .ensures) ∙ c .if3 .left) in
     play-untaken (devicePart x) x m es (length (a .out .now)) _ _ _ _ (a .out .now) o
 
 returns-4 : tie.Need-returns-4
@@ -62,7 +66,8 @@ returns-4 c =
     let es = a .events .now in
     let x = a .device in
     let m = lent (a .memory .now) (a .identification .now) in
-    let o = play-record (devicePart x) x m es (length (a .out .now)) (sym (c .before .before .before .lent-fits .ensures) ∙ c .before .before .if1 .taken) (sym (c .before .in-ranges .ensures) ∙ c .if2 .left) in
+    let o = play-record (devicePart x) x m es (length (a .out .now)) (sym (c .before .before .before .lent-fits .ensures) ∙ c .before .before .if1 .taken)
+    (sym (c .before .in-ranges .ensures) ∙ c .if2 .left) in
     play-untaken (devicePart x) x m es (length (a .out .now)) _ _ _ _ (a .out .now) o
 
 returns-5 : tie.Need-returns-5

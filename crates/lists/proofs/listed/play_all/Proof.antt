@@ -55,7 +55,16 @@ q-requires : tie.Need-q-requires Inv-loop μ-loop
 q-requires c κs = search needs
 
 loop-holds : tie.Need-loop-holds Inv-loop μ-loop
-loop-holds c = (omega arith, omega arith, omega arith, omega arith, played-none _ (c .before .before .before .before .before .before .before .before .before .before .before .args .events .now) _, filled-none _ _ 0, c .q .ensures _ _)
+loop-holds c = (
+  omega arith,
+  omega arith,
+  omega arith,
+  omega arith,
+  played-none _
+      (c .before .before .before .before .before .before .before .before .before .before .before .args .events .now) _,
+  filled-none _ _ 0,
+  c .q .ensures _ _,
+)
 
 mul-event-of : tie.Need-mul-event-of Inv-loop μ-loop
 mul-event-of c = search needs
@@ -286,7 +295,8 @@ loop-less c = search needs
 
 -- and that is what the event does
 after-event : (c : tie.At-match-came Inv-loop μ-loop) → let l = c .before .before .before .before .before .before .loop in
-    pinBench (Moved c) (c .match .memory) (c .match .identification) ≡ afterEvent (devicePart (Head c .device)) (getD (c .before .before .before .before .before .before .before .before .before .before .before .before .before .before .before .before .before .before .args .events .now) (l .i) 0) (Head c)
+    pinBench (Moved c) (c .match .memory) (c .match .identification) ≡ afterEvent (devicePart (Head c .device))
+    (getD (c .before .before .before .before .before .before .before .before .before .before .before .before .before .before .before .before .before .before .args .events .now) (l .i) 0) (Head c)
 after-event c =
     let l = c .before .before .before .before .before .before .loop in
     let a : Latch = record { bytes = l .bytes; marks = l .marks } in
@@ -295,7 +305,12 @@ after-event c =
     let after : Event → PinBench =
     λ e. next (ownPart (l .core)) e (Head c) in
     let told : pinBench (Moved c) (c .match .memory) (c .match .identification) ≡ after event =
-    rw (gone c .0 ∙ does .0 (l .identification) a, gone c .1 ∙ does .1 waitsPage a (l .memory), gone c .2 ∙ does .1 waitsIdentification a (l .identification)) refl in
+    rw (
+      gone c .0 ∙ does .0 (l .identification) a,
+      gone c .1 ∙ does .1 waitsPage a (l .memory),
+      gone c .2 ∙ does .1 waitsIdentification a
+          (l .identification),
+    ) refl in
     told ∙ ap after (c .before .before .before .event-of .ensures)
 
 loop-again : tie.Need-loop-again Inv-loop μ-loop
@@ -304,7 +319,8 @@ loop-again c =
     let below = c .before .before .before .before .before .loop-test .taken in
     let a = c .before .before .before .before .before .before .before .before .before .before .before .before .before .before .before .before .before .before .args in
     let es = a .events .now in
-    let b : PinBench = apart (c .before .before .before .before .before .before .before .before .before .before .before .front-of .result) (a .device .frame .latch .bytes) (a .device .frame .latch .marks) (a .device .core) (a .memory .now) (a .identification .now) in
+    let b : PinBench = apart (c .before .before .before .before .before .before .before .before .before .before .before .front-of .result)
+    (a .device .frame .latch .bytes) (a .device .frame .latch .marks) (a .device .core) (a .memory .now) (a .identification .now) in
     let P = ownPart (a .device .core) in
     let kept : l .core .part ≡ a .device .core .part =
     ap (λ (x : PinBench). x .device .core .part) (l .inv .4) ∙ played-part P (take (l .i) es) b in
@@ -318,7 +334,8 @@ loop-again c =
       gone c .4 ∙ l .inv .2,
       gone c .5 ∙ l .inv .3,
       rw add-one more,
-      rw (l .inv .5) (filled-more (a .out .now) (playedQ P es b) 0 (l .i) (c .match .q) (sym (q-length P es b ∙ sym (c .before .before .before .before .before .before .before .before .before .before .before .before .before .before .before .before .before .before .pre))) (omega arith) level),
+      rw (l .inv .5) (filled-more (a .out .now) (playedQ P es b) 0 (l .i) (c .match .q)
+          (sym (q-length P es b ∙ sym (c .before .before .before .before .before .before .before .before .before .before .before .before .before .before .before .before .before .before .pre))) (omega arith) level),
       gone c .3,
     )
 
@@ -341,8 +358,10 @@ returns c =
     let same = c .before .before .before .before .before .before .before .before .before .before .before .before .before .before .pre in
     let es = a .events .now in
     let b : PinBench = pinBench (a .device) (a .memory .now) (a .identification .now) in
-    let from : Front → PinBench = λ f. apart f (a .device .frame .latch .bytes) (a .device .frame .latch .marks) (a .device .core) (a .memory .now) (a .identification .now) in
-    let start : from (c .before .before .before .before .before .before .before .front-of .result) ≡ b = ap from (c .before .before .before .before .before .before .before .front-of .ensures) in
+    let from : Front → PinBench = λ f. apart f (a .device .frame .latch .bytes) (a .device .frame .latch .marks) (a .device .core) (a .memory .now)
+    (a .identification .now) in
+    let start : from (c .before .before .before .before .before .before .before .front-of .result) ≡ b = ap from
+    (c .before .before .before .before .before .before .before .front-of .ensures) in
     let all : take (l .i) es ≡ es = take-all (l .i) es (omega arith) in
     let P = ownPart (a .device .core) in
     let end : apart (l .front) (l .bytes) (l .marks) (l .core) (l .memory) (l .identification) ≡ played P es b =

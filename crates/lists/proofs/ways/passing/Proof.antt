@@ -29,7 +29,8 @@ unfolding onTime timed timedCells
 returns-2 c =
     let core = c .before .before .before .before .args .core in
     let t = c .before .before .before .before .args .reading in
-    let stays : ends t core ≡ false = sym (c .before .before .ends .ensures ∙ ap (λ n. running core && leb (core .left) n) (c .before .before .before .elapsed .ensures)) ∙ c .before .if1 .left in (
+    let stays : ends t core ≡ false = sym
+    (c .before .before .ends .ensures ∙ ap (λ n. running core && leb (core .left) n) (c .before .before .before .elapsed .ensures)) ∙ c .before .if1 .left in (
       λ m f l. ap (λ (k : Core). withCore k (whole f l core)) (no-so _ stays (rw (c .left-after .ensures, c .before .before .before .elapsed .ensures) refl)),
       λ i m f l. at-no _ _ refl ∙ no-so _ stays refl,
     )

@@ -15,7 +15,9 @@ executed-now-requires : tie.Need-executed-now-requires
 executed-now-requires c κs = search needs
 
 returns : tie.Need-returns
-returns c = call-yes _ (c .before .before .is-executed .ensures ∙ ap isExecuted (c .before .before .before .verdict-now .ensures)) (c .before .if1 .taken) (c .executed-now .ensures)
+returns c =
+    call-yes _ (c .before .before .is-executed .ensures ∙ ap isExecuted (c .before .before .before .verdict-now .ensures)) (c .before .if1 .taken)
+    (c .executed-now .ensures)
 
 returns-2 : tie.Need-returns-2
 returns-2 c = call-no _ (c .before .is-executed .ensures ∙ ap isExecuted (c .before .before .verdict-now .ensures)) (c .if1 .left) refl

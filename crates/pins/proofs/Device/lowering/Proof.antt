@@ -36,8 +36,11 @@ returns : tie.Need-returns
 unfolding fallen
 returns c =
     let x = c .before .before .before .before .before .before .before .before .before .before .before .before .before .before .args .self in
-    let o : outputs (devicePart x) (decode (devicePart x) (x .frame .code)) (x .frame .taken) (on (x .frame .ran)) ≡ c .before .before .before .before .before .before .before .outputs .result =
-    sym (c .before .before .before .before .before .before .before .outputs .ensures ∙ ap (λ i. outputs (devicePart x) i (x .frame .taken) (on (x .frame .ran))) (c .before .before .before .before .before .before .before .before .before .decode .ensures)) in
+    let o : outputs (devicePart x) (decode (devicePart x) (x .frame .code)) (x .frame .taken) (on (x .frame .ran))
+    ≡ c .before .before .before .before .before .before .before .outputs .result =
+    sym (c .before .before .before .before .before .before .before .outputs .ensures ∙ ap
+    (λ i. outputs (devicePart x) i (x .frame .taken) (on (x .frame .ran)))
+    (c .before .before .before .before .before .before .before .before .before .decode .ensures)) in
     let both = c .before .before .if1 .taken in
     let counted = and-left (counting x) (c .before .before .before .before .before .before .before .outputs .result) both in
     let drives = o ∙ and-right (counting x) (c .before .before .before .before .before .before .before .outputs .result) both in
@@ -51,23 +54,30 @@ returns-2 : tie.Need-returns-2
 unfolding fallen
 returns-2 c =
     let x = c .before .before .before .before .before .before .before .before .before .before .before .before .before .before .before .before .args .self in
-    let o : outputs (devicePart x) (decode (devicePart x) (x .frame .code)) (x .frame .taken) (on (x .frame .ran)) ≡ c .before .before .before .before .before .before .before .before .before .outputs .result =
-    sym (c .before .before .before .before .before .before .before .before .before .outputs .ensures ∙ ap (λ i. outputs (devicePart x) i (x .frame .taken) (on (x .frame .ran))) (c .before .before .before .before .before .before .before .before .before .before .before .decode .ensures)) in
+    let o : outputs (devicePart x) (decode (devicePart x) (x .frame .code)) (x .frame .taken) (on (x .frame .ran))
+    ≡ c .before .before .before .before .before .before .before .before .before .outputs .result =
+    sym (c .before .before .before .before .before .before .before .before .before .outputs .ensures ∙ ap
+    (λ i. outputs (devicePart x) i (x .frame .taken) (on (x .frame .ran)))
+    (c .before .before .before .before .before .before .before .before .before .before .before .decode .ensures)) in
     let both = c .before .before .before .before .if1 .taken in
     let counted = and-left (counting x) (c .before .before .before .before .before .before .before .before .before .outputs .result) both in
     let drives = o ∙ and-right (counting x) (c .before .before .before .before .before .before .before .before .before .outputs .result) both in
     rw (c .before .before .before .before .before .before .bit .ensures)
     (ap (λ y. renewed (withPins (withC 0 (x .pins)) y))
-    (yes-so _ counted (ap (λ f. withFrame f x) (yes-so _ drives (no-so _ (c .before .before .before .if2 .left) (rw (c .loading .ensures, c .before .before .before .before .before .before .before .before .before .before .before .decode .ensures)))))))
+    (yes-so _ counted (ap (λ f. withFrame f x) (yes-so _ drives (no-so _ (c .before .before .before .if2 .left)
+    (rw (c .loading .ensures, c .before .before .before .before .before .before .before .before .before .before .before .decode .ensures)))))))
 
 returns-3 : tie.Need-returns-3
 unfolding fallen
 returns-3 c =
     let x = c .before .before .before .before .before .before .before .before .before .before .before .before .args .self in
-    let o : outputs (devicePart x) (decode (devicePart x) (x .frame .code)) (x .frame .taken) (on (x .frame .ran)) ≡ c .before .before .before .before .before .outputs .result =
-    sym (c .before .before .before .before .before .outputs .ensures ∙ ap (λ i. outputs (devicePart x) i (x .frame .taken) (on (x .frame .ran))) (c .before .before .before .before .before .before .before .decode .ensures)) in
+    let o : outputs (devicePart x) (decode (devicePart x) (x .frame .code)) (x .frame .taken) (on (x .frame .ran))
+    ≡ c .before .before .before .before .before .outputs .result =
+    sym (c .before .before .before .before .before .outputs .ensures ∙ ap (λ i. outputs (devicePart x) i (x .frame .taken) (on (x .frame .ran)))
+    (c .before .before .before .before .before .before .before .decode .ensures)) in
     rw (c .before .before .bit .ensures)
-    (ap (λ y. renewed (withPins (withC 0 (x .pins)) y)) (still (devicePart x) _ (x .core) x (c .before .before .before .before .before .outputs .result) o (c .if1 .left)))
+    (ap (λ y. renewed (withPins (withC 0 (x .pins)) y))
+    (still (devicePart x) _ (x .core) x (c .before .before .before .before .before .outputs .result) o (c .if1 .left)))
 
 pub lowering-spec : {M : Type 1} → statement M
 lowering-spec =

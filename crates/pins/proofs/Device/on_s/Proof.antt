@@ -17,14 +17,18 @@ deselecting-requires c κs = search needs
 
 returns-2 : tie.Need-returns-2
 unfolding onS
-returns-2 c = ne-so _ (λ q. c .before .before .if1 .left (q ∙ sym (c .before .before .before .before .bit .ensures))) (yes-so _ (c .before .if2 .taken) (c .deselecting .ensures))
+returns-2 c =
+    ne-so _ (λ q. c .before .before .if1 .left (q ∙ sym (c .before .before .before .before .bit .ensures)))
+    (yes-so _ (c .before .if2 .taken) (c .deselecting .ensures))
 
 selecting-requires : tie.Need-selecting-requires
 selecting-requires c κs = search needs
 
 returns-3 : tie.Need-returns-3
 unfolding onS
-returns-3 c = ne-so _ (λ q. c .before .before .if1 .left (q ∙ sym (c .before .before .before .before .bit .ensures))) (no-so _ (c .before .if2 .left) (c .selecting .ensures))
+returns-3 c =
+    ne-so _ (λ q. c .before .before .if1 .left (q ∙ sym (c .before .before .before .before .bit .ensures)))
+    (no-so _ (c .before .if2 .left) (c .selecting .ensures))
 
 pub on-s-spec : {M : Type 1} → statement M
 on-s-spec =

@@ -16,7 +16,8 @@ returns : tie.Need-returns
 unfolding risen
 returns c =
     let x = c .before .before .before .before .before .before .before .before .before .args .self in
-    ap (withPins (withC 1 (x .pins))) (yes-so _ (c .before .before .before .if1 .taken) (ap (λ f. withFrame f x) (lt-so _ (c .before .before .if2 .taken) (rw (c .before .before .before .before .before .shifted-in .ensures)))))
+    ap (withPins (withC 1 (x .pins))) (yes-so _ (c .before .before .before .if1 .taken)
+    (ap (λ f. withFrame f x) (lt-so _ (c .before .before .if2 .taken) (rw (c .before .before .before .before .before .shifted-in .ensures)))))
 
 whole-byte-requires : tie.Need-whole-byte-requires
 whole-byte-requires c κs = search needs
@@ -25,7 +26,9 @@ returns-2 : tie.Need-returns-2
 unfolding risen
 returns-2 c =
     let x = c .before .before .before .before .before .before .before .before .before .args .self in
-    ap (withPins (withC 1 (x .pins))) (yes-so _ (c .before .before .before .if1 .taken) (ap (λ f. withFrame f x) (ge-so _ (c .before .before .if2 .left) (rw (c .whole-byte .ensures, c .before .before .before .before .before .shifted-in .ensures)))))
+    ap (withPins (withC 1 (x .pins))) (yes-so _ (c .before .before .before .if1 .taken)
+    (ap (λ f. withFrame f x) (ge-so _ (c .before .before .if2 .left)
+    (rw (c .whole-byte .ensures, c .before .before .before .before .before .shifted-in .ensures)))))
 
 returns-3 : tie.Need-returns-3
 unfolding risen

@@ -27,7 +27,11 @@ same-length-2 c = search needs
 returns : tie.Need-returns
 returns c =
     let a = c .before .before .before .before .before .before .before .before .before .before .before .before .before .before .args in
-    let o = memory-done (devicePart (a .self)) (a .self) (lent (a .memory .now) (a .identification .now)) (sym (c .before .before .before .before .before .before .before .before .before .before .before .lent-fits .ensures) ∙ c .before .before .before .before .before .before .before .before .before .before .if1 .taken) (sym (c .before .before .before .before .before .before .before .before .before .in-ranges .ensures) ∙ c .before .before .before .before .before .before .before .before .if2 .taken) in
+    let o = memory-done (devicePart (a .self)) (a .self) (lent (a .memory .now) (a .identification .now))
+    (sym (c .before .before .before .before .before .before .before .before .before .before .before .lent-fits .ensures)
+    ∙ c .before .before .before .before .before .before .before .before .before .before .if1 .taken)
+    (sym (c .before .before .before .before .before .before .before .before .before .in-ranges .ensures)
+    ∙ c .before .before .before .before .before .before .before .before .if2 .taken) in
     let t = c .before .before .before .before .before .on-time .ensures in
     let r = lent-taken (devicePart (a .self)) (a .self) (lent (a .memory .now) (a .identification .now)) o (t .0) (c .done .ensures) in
     (r .0, (r .1, (left-so (a .memory .now) o (t .1 .0), left-so (a .identification .now) o (t .1 .1))))
@@ -38,7 +42,9 @@ refused-requires c κs = search needs
 returns-2 : tie.Need-returns-2
 returns-2 c =
     let a = c .before .before .before .before .before .before .before .args in
-    let o = memory-record (devicePart (a .self)) (a .self) (lent (a .memory .now) (a .identification .now)) (sym (c .before .before .before .before .lent-fits .ensures) ∙ c .before .before .before .if1 .taken) (sym (c .before .before .in-ranges .ensures) ∙ c .before .if2 .left) in
+    let o = memory-record (devicePart (a .self)) (a .self) (lent (a .memory .now) (a .identification .now))
+    (sym (c .before .before .before .before .lent-fits .ensures) ∙ c .before .before .before .if1 .taken)
+    (sym (c .before .before .in-ranges .ensures) ∙ c .before .if2 .left) in
     let r = lent-untaken (devicePart (a .self)) (a .self) (lent (a .memory .now) (a .identification .now)) _ o (c .refused .ensures) in
     (r .0, (r .1, (kept-so _ (a .memory .now) o, kept-so _ (a .identification .now) o)))
 
@@ -48,7 +54,8 @@ refused-requires-2 c κs = search needs
 returns-3 : tie.Need-returns-3
 returns-3 c =
     let a = c .before .before .before .before .before .args in
-    let o = memory-length (devicePart (a .self)) (a .self) (lent (a .memory .now) (a .identification .now)) (sym (c .before .before .lent-fits .ensures) ∙ c .before .if1 .left) in
+    let o = memory-length (devicePart (a .self)) (a .self) (lent (a .memory .now) (a .identification .now))
+    (sym (c .before .before .lent-fits .ensures) ∙ c .before .if1 .left) in
     let r = lent-untaken (devicePart (a .self)) (a .self) (lent (a .memory .now) (a .identification .now)) _ o (c .refused2 .ensures) in
     (r .0, (r .1, (kept-so _ (a .memory .now) o, kept-so _ (a .identification .now) o)))
 

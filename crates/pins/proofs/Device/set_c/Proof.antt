@@ -21,7 +21,9 @@ done-requires c κs = search needs
 returns : tie.Need-returns
 returns c =
     let a = c .before .before .before .before .before .before .before .before .args in
-    let o = memory-done (devicePart (a .self)) (a .self) (lent (a .memory .now) (a .identification .now)) (sym (c .before .before .before .before .before .lent-fits .ensures) ∙ c .before .before .before .before .if1 .taken) (sym (c .before .before .before .in-ranges .ensures) ∙ c .before .before .if2 .taken) in
+    let o = memory-done (devicePart (a .self)) (a .self) (lent (a .memory .now) (a .identification .now))
+    (sym (c .before .before .before .before .before .lent-fits .ensures) ∙ c .before .before .before .before .if1 .taken)
+    (sym (c .before .before .before .in-ranges .ensures) ∙ c .before .before .if2 .taken) in
     lent-taken (devicePart (a .self)) (a .self) (lent (a .memory .now) (a .identification .now)) o (c .before .on-c .ensures) (c .done .ensures)
 
 refused-requires : tie.Need-refused-requires
@@ -30,7 +32,9 @@ refused-requires c κs = search needs
 returns-2 : tie.Need-returns-2
 returns-2 c =
     let a = c .before .before .before .before .before .before .before .args in
-    let o = memory-record (devicePart (a .self)) (a .self) (lent (a .memory .now) (a .identification .now)) (sym (c .before .before .before .before .lent-fits .ensures) ∙ c .before .before .before .if1 .taken) (sym (c .before .before .in-ranges .ensures) ∙ c .before .if2 .left) in
+    let o = memory-record (devicePart (a .self)) (a .self) (lent (a .memory .now) (a .identification .now))
+    (sym (c .before .before .before .before .lent-fits .ensures) ∙ c .before .before .before .if1 .taken)
+    (sym (c .before .before .in-ranges .ensures) ∙ c .before .if2 .left) in
     lent-untaken (devicePart (a .self)) (a .self) (lent (a .memory .now) (a .identification .now)) _ o (c .refused .ensures)
 
 refused-requires-2 : tie.Need-refused-requires-2
@@ -39,7 +43,8 @@ refused-requires-2 c κs = search needs
 returns-3 : tie.Need-returns-3
 returns-3 c =
     let a = c .before .before .before .before .before .args in
-    let o = memory-length (devicePart (a .self)) (a .self) (lent (a .memory .now) (a .identification .now)) (sym (c .before .before .lent-fits .ensures) ∙ c .before .if1 .left) in
+    let o = memory-length (devicePart (a .self)) (a .self) (lent (a .memory .now) (a .identification .now))
+    (sym (c .before .before .lent-fits .ensures) ∙ c .before .if1 .left) in
     lent-untaken (devicePart (a .self)) (a .self) (lent (a .memory .now) (a .identification .now)) _ o (c .refused2 .ensures)
 
 pub set-c-spec : {M : Type 1} → statement M

@@ -14,13 +14,16 @@ lengths-fit-requires c κs = search needs
 show-taken-requires : tie.Need-show-taken-requires
 show-taken-requires c κs =
     let a = c .before .before .before .before .before .before .args in
-    lengths-out (partOf (a .part)) (length (a .memory .now)) (length (a .bytes .now)) (a .bits) (length (a .out .now)) (sym (c .before .before .lengths-fit .ensures) ∙ c .before .if1 .taken)
+    lengths-out (partOf (a .part)) (length (a .memory .now)) (length (a .bytes .now)) (a .bits) (length (a .out .now))
+    (sym (c .before .before .lengths-fit .ensures) ∙ c .before .if1 .taken)
 
 same-length : tie.Need-same-length
 same-length c = search needs
 
 returns : tie.Need-returns
-returns c = yes-so _ (sym (c .before .before .before .before .before .lengths-fit .ensures) ∙ c .before .before .before .before .if1 .taken) (c .before .before .show-taken .ensures)
+returns c =
+    yes-so _ (sym (c .before .before .before .before .before .lengths-fit .ensures) ∙ c .before .before .before .before .if1 .taken)
+    (c .before .before .show-taken .ensures)
 
 returns-2 : tie.Need-returns-2
 returns-2 c = no-so _ (sym (c .before .lengths-fit .ensures) ∙ c .if1 .left) refl

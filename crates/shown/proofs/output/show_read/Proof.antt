@@ -34,7 +34,8 @@ same-length-2 c = search needs
 returns-2 : tie.Need-returns-2
 returns-2 c =
     let few : length (c .before .before .before .before .before .before .before .before .args .out .now) < 3 = omega arith in
-    rw (c .before .before .fill2 .ensures, c .before .before .before .before .before .if1 .left) (all-undriven _ _ _ (λ j b. and-no-left (leb 3 j) true (lt-leb 3 j (omega arith))))
+    rw (c .before .before .fill2 .ensures, c .before .before .before .before .before .if1 .left)
+    (all-undriven _ _ _ (λ j b. and-no-left (leb 3 j) true (lt-leb 3 j (omega arith))))
 
 sub-fill : tie.Need-sub-fill
 sub-fill c = search needs

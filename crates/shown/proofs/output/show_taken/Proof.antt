@@ -48,7 +48,8 @@ returns c =
     let start = c .before .before .before .before .before .before .before .before .before .before .before .before .before in
     let a = start .args in
     rw (c .before .before .pad .ensures, c .before .before .before .before .before .before .show-bytes .ensures, start .pre .1 .1 .1, c .before .before .before .before .before .before .before .before .before .instruction-of .ensures, c .before .before .before .before .before .before .before .before .address-of .ensures)
-    (padded-last (byteOut (partOf (a .part)) (instruction (partOf (a .part)) (a .bytes .now)) (a .ran) (λ j. a .status) (a .memory .now) (address (partOf (a .part)) (a .bytes .now))) (length (a .bytes .now)) (a .bits))
+    (padded-last (byteOut (partOf (a .part)) (instruction (partOf (a .part)) (a .bytes .now)) (a .ran) (λ j. a .status) (a .memory .now)
+    (address (partOf (a .part)) (a .bytes .now))) (length (a .bytes .now)) (a .bits))
 
 pub show-taken-spec : {M : Type 1} → statement M
 show-taken-spec =

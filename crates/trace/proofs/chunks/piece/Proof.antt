@@ -49,9 +49,11 @@ show-requires c κs =
     let p = c .before .before .before .before .before .before .before .before .parse in
     let n : length (take (p .result .count) (p .last .1 .1 .0)) ≡ p .result .count = ap length (p .ensures .1 .0) ∙ sym (p .ensures .1 .1 .0) in
     let few : p .result .count ≤ length (a .text .now) = p .ensures .1 .1 .1 in
-    let qs : length (take (p .result .count) (a .qs .now)) ≡ p .result .count = length-take-le (p .result .count) (a .qs .now) (omega (arith, pre .1 .1, few)) in
+    let qs : length (take (p .result .count) (a .qs .now)) ≡ p .result .count = length-take-le (p .result .count) (a .qs .now)
+    (omega (arith, pre .1 .1, few)) in
     let small : a .line .value < 2 ^ 32 = let good = c .before .before .before .before .before .before .before .before .before .before .before .before .before .before .before .before .good in omega arith in
-    let are : areEvents (take (p .result .count) (p .last .1 .1 .0)) ≡ true = ap areEvents (p .ensures .1 .0) ∙ found-are (a .line) (a .text .now) (pre .0 .3) small in
+    let are : areEvents (take (p .result .count) (p .last .1 .1 .0)) ≡ true = ap areEvents (p .ensures .1 .0) ∙ found-are (a .line) (a .text .now)
+    (pre .0 .3) small in
     (pre .0 .0, pre .0 .1, pre .0 .2, are, qs ∙ sym n, omega (arith, n, few, pre .1 .2))
 
 same-length : tie.Need-same-length

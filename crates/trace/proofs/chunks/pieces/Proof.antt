@@ -79,7 +79,8 @@ piece-requires c κs =
     let s = c .before .before .before .before .before .before .before .before .before .before .before .before .before .before .before in
     let a = s .args in
     let e = c .before .before .before .before .before .before .piece-end in
-    let n : length (take (e .result - l .i) (drop (l .i) (a .text .now))) ≡ e .result - l .i = part-length (a .text .now) (l .i) (e .result) (omega arith) (e .ensures .1) in (
+    let n : length (take (e .result - l .i) (drop (l .i) (a .text .now))) ≡ e .result - l .i = part-length (a .text .now) (l .i) (e .result) (omega arith)
+    (e .ensures .1) in (
       (l .inv .1, l .inv .2, l .inv .7, l .inv .6),
       (
         omega (arith, n, e .ensures .2, l .inv .4),
@@ -120,8 +121,10 @@ loop-again c =
       x .ensures .1 .0 .1,
       omega (arith, at, n, l .inv .8),
       x .ensures .0 .0 ∙ turn-line (a .line) b t (l .i) (e .result) on (l .hand) here (l .inv .9) (l .inv .10),
-      rw (x .ensures .1 .0 .0, x .ensures .1 .1 .0, x .ensures .1 .1 .1 .0) (turn-bench (a .line) b t (l .i) (e .result) on (l .hand) here (l .inv .9) (l .inv .10)),
-      x .ensures .1 .1 .1 .1 .0 ∙ ap (λ (d : List ℕ). put d (l .end) more) (l .inv .11) ∙ ap (λ (k : ℕ). put (put (a .out .now) (a .at) before) k more) (l .inv .12)
+      rw (x .ensures .1 .0 .0, x .ensures .1 .1 .0, x .ensures .1 .1 .1 .0)
+          (turn-bench (a .line) b t (l .i) (e .result) on (l .hand) here (l .inv .9) (l .inv .10)),
+      x .ensures .1 .1 .1 .1 .0 ∙ ap (λ (d : List ℕ). put d (l .end) more) (l .inv .11) ∙ ap (λ (k : ℕ). put (put (a .out .now) (a .at) before) k more)
+          (l .inv .12)
           ∙ put-put (a .out .now) (a .at) before more room ∙ ap (put (a .out .now) (a .at)) all,
       rw (← all, length-append) (omega (arith, end, l .inv .12)),
     )

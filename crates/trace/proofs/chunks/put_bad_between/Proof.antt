@@ -35,7 +35,8 @@ same-length c = search needs
 returns-2 : tie.Need-returns-2
 returns-2 c =
     let a = c .before .before .before .before .before .before .before .before .before .before .args in
-    let e = bad-now (a .a) (a .b) (c .before .before .before .before .before .before .before .if1 .left) (c .before .before .before .before .before .if2 .taken) in
+    let e = bad-now (a .a) (a .b) (c .before .before .before .before .before .before .before .if1 .left)
+    (c .before .before .before .before .before .if2 .taken) in
     let x = c .before .before .put-bad in
     let d = a .out .now in
     let bad = badLine (a .b .whole + 1) in

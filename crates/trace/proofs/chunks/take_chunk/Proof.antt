@@ -69,7 +69,8 @@ returns c =
         (
           x .ensures .1 .1 .1 .0,
           (
-            bad .ensures .0 ∙ ap (λ (l : List ℕ). put (x .last .1 .1 .1 .1 .1 .0) (x .result .at) l) bad-is ∙ ap (λ (l : List ℕ). put l (x .result .at) f) (x .ensures .1 .1 .1 .1 .0 ∙ ap (λ (l : List ℕ). put l (head .result) s) (head .ensures .0))
+            bad .ensures .0 ∙ ap (λ (l : List ℕ). put (x .last .1 .1 .1 .1 .1 .0) (x .result .at) l) bad-is ∙ ap (λ (l : List ℕ). put l (x .result .at) f)
+                (x .ensures .1 .1 .1 .1 .0 ∙ ap (λ (l : List ℕ). put l (head .result) s) (head .ensures .0))
                 ∙ three-puts (a .out .now) h (head .result) head-is s f (x .result .at) at fits,
             omega (arith, few, last, small, pre .3),
           ),

@@ -20,8 +20,13 @@ put-head-requires c κs = search needs
 
 put-bad-between-requires : tie.Need-put-bad-between-requires
 put-bad-between-requires c κs =
-    let fits = player-out (c .before .before .before .before .before .before .before .before .before .args .player) (c .before .before .before .before .before .before .before .before .before .pre .0) in
-    (omega (arith, c .before .before .before .put-head .ensures .1 .1, c .before .before .before .before .before .before .before .before .before .pre .1), rw (c .before .before .before .before .before .ended .ensures) (ended-fits (c .before .before .before .before .before .before .before .before .before .args .player .line) (fits .1 .0)))
+    let fits = player-out (c .before .before .before .before .before .before .before .before .before .args .player)
+    (c .before .before .before .before .before .before .before .before .before .pre .0) in (
+      omega (arith, c .before .before .before .put-head .ensures .1 .1, c .before .before .before .before .before .before .before .before .before .pre .1),
+      rw
+          (c .before .before .before .before .before .ended .ensures)
+          (ended-fits (c .before .before .before .before .before .before .before .before .before .args .player .line) (fits .1 .0)),
+    )
 
 answer-of-requires : tie.Need-answer-of-requires
 answer-of-requires c κs = search needs
@@ -37,7 +42,8 @@ returns c =
     let bad = c .before .before .before .put-bad-between in
     let h = headed (a .player) in
     let f = badLineBetween (a .player .line) (ended (a .player .line)) in
-    let bad-is : badLineBetween (a .player .line) (c .before .before .before .before .before .before .before .before .before .ended .result) ≡ f = ap (badLineBetween (a .player .line)) (c .before .before .before .before .before .before .before .before .before .ended .ensures) in
+    let bad-is : badLineBetween (a .player .line) (c .before .before .before .before .before .before .before .before .before .ended .result) ≡ f = ap
+    (badLineBetween (a .player .line)) (c .before .before .before .before .before .before .before .before .before .ended .ensures) in
     let end : bad .result ≡ head .result + length f = bad .ensures .1 .0 ∙ ap (λ (l : List ℕ). head .result + length l) bad-is in
     let last : bad .result ≤ head .result + 12 = bad .ensures .1 .1 in
     let head-is : head .result ≡ length h = head .ensures .1 .0 in

@@ -32,7 +32,8 @@ returns c =
       omega arith,
       omega (arith, n, one-or-none (closes (a .hand) (getD x (a .i) 0))),
       λ l p. c .next .ensures ∙ byte-read l x (a .i) (a .hand) below p,
-      λ l p. rw (n, c .before .before .event .ensures) (ap (λ (e : List ℕ). found l (take (a .i) x) ++ e) (said-taken (a .hand) (getD x (a .i) 0)) ∙ byte-found l x (a .i) (a .hand) below p),
+      λ l p. rw (n, c .before .before .event .ensures)
+          (ap (λ (e : List ℕ). found l (take (a .i) x) ++ e) (said-taken (a .hand) (getD x (a .i) 0)) ∙ byte-found l x (a .i) (a .hand) below p),
     )
 
 pub byte-taken-spec : {M : Type 1} → statement M

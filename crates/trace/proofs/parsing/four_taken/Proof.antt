@@ -58,7 +58,8 @@ returns-2 c =
       omega arith,
       omega arith,
       λ l p. c .before .past-line .ensures ∙ whole-read l x (a .i) (a .hand) (pre .0) p (pre .1) is,
-      λ l p. rw (c .level-event .ensures, known, kind-given (getD x (a .i) 0) (getD x (a .i + 1) 0) (getD x (a .i + 2) 0) (getD x (a .i + 3) 0) is) (whole-found l x (a .i) (a .hand) (pre .0) p (pre .1) is),
+      λ l p. rw (c .level-event .ensures, known, kind-given (getD x (a .i) 0) (getD x (a .i + 1) 0) (getD x (a .i + 2) 0) (getD x (a .i + 3) 0) is)
+          (whole-found l x (a .i) (a .hand) (pre .0) p (pre .1) is),
     )
 
 pub four-taken-spec : {M : Type 1} → statement M

@@ -48,7 +48,8 @@ loop-again c =
     let t = c .before .before .before .taken-at in
     let F = found (a .line) (take (l .i) x) in
     let one = t .ensures .2 in
-    let more : F ++ take (t .result .lines) (t .result .event ∷ []) ≡ found (a .line) (take (l .i + t .result .bytes) x) = t .ensures .4 (a .line) (l .inv .3) in
+    let more : F ++ take (t .result .lines) (t .result .event ∷ []) ≡ found (a .line) (take (l .i + t .result .bytes) x) = t .ensures .4 (a .line)
+    (l .inv .3) in
     let long : length (found (a .line) (take (l .i + t .result .bytes) x)) ≡ length F + t .result .lines =
     sym (ap length more) ∙ length-append F _ ∙ ap (λ (n : ℕ). length F + n) (taken-length (t .result .event) (t .result .lines) one) in (
       t .ensures .1,

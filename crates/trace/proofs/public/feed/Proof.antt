@@ -27,7 +27,8 @@ take-chunk-requires c κs =
     let a = c .before .before .before .before .before .before .before .before .before .before .before .before .before .args in
     let size = eqb (length (a .memory .now)) (m95512 .size) in
     let page = eqb (length (a .identification .now)) (m95512 .page) in
-    let long = sym (c .before .before .before .before .before .before .before .before .lent-fits .ensures) ∙ c .before .before .before .before .before .before .before .if1 .taken in
+    let long = sym (c .before .before .before .before .before .before .before .before .lent-fits .ensures)
+    ∙ c .before .before .before .before .before .before .before .if1 .taken in
     let wide = sym (c .before .before .before .before .has-room .ensures) ∙ c .before .before .before .if3 .taken in (
       eqb-true _ _ (and-left size page long),
       eqb-true _ _ (and-right size page long),
@@ -52,12 +53,15 @@ returns c =
     let n = room (length (a .text .now)) in
     let bytes = length (a .out .now) in
     let long = sym (c .before .before .before .before .before .before .before .before .before .before .before .before .before .before .before .lent-fits .ensures) ∙ c .before .before .before .before .before .before .before .before .before .before .before .before .before .before .if1 .taken in
-    let fits = sym (c .before .before .before .before .before .before .before .before .before .before .before .before .before .in-ranges .ensures) ∙ c .before .before .before .before .before .before .before .before .before .before .before .before .if2 .taken in
-    let wide = sym (c .before .before .before .before .before .before .before .before .before .before .before .has-room .ensures) ∙ c .before .before .before .before .before .before .before .before .before .before .if3 .taken in
+    let fits = sym (c .before .before .before .before .before .before .before .before .before .before .before .before .before .in-ranges .ensures)
+    ∙ c .before .before .before .before .before .before .before .before .before .before .before .before .if2 .taken in
+    let wide = sym (c .before .before .before .before .before .before .before .before .before .before .before .has-room .ensures)
+    ∙ c .before .before .before .before .before .before .before .before .before .before .if3 .taken in
     let x = c .before .before .before .before .before .before .take-chunk in (
       feed-done p m n bytes _ _ _ long fits wide (x .ensures .0),
       (
-        feed-done p m n bytes _ _ _ long fits wide (ap (λ (r : Fed). feedReplyNumber (r .answer)) (x .ensures .0) ∙ answer-number (chunkPlayer p m (a .text .now))),
+        feed-done p m n bytes _ _ _ long fits wide
+            (ap (λ (r : Fed). feedReplyNumber (r .answer)) (x .ensures .0) ∙ answer-number (chunkPlayer p m (a .text .now))),
         (
           feed-done p m n bytes _ _ _ long fits wide (x .ensures .1 .0),
           (
@@ -84,7 +88,13 @@ returns-2 c =
       feed-short p m n bytes _ _ _ long fits narrow (c .refused .ensures),
       (
         feed-short p m n bytes _ _ _ long fits narrow (ap (λ (r : Fed). feedReplyNumber (r .answer)) (c .refused .ensures)),
-        (feed-short p m n bytes _ _ _ long fits narrow refl, (feed-short p m n bytes _ _ _ long fits narrow refl, (feed-short p m n bytes _ _ _ long fits narrow refl, omega (arith, ap (λ (r : Fed). r .written) (c .refused .ensures))))),
+        (
+          feed-short p m n bytes _ _ _ long fits narrow refl,
+          (
+            feed-short p m n bytes _ _ _ long fits narrow refl,
+            (feed-short p m n bytes _ _ _ long fits narrow refl, omega (arith, ap (λ (r : Fed). r .written) (c .refused .ensures))),
+          ),
+        ),
       ),
     )
 
@@ -103,7 +113,13 @@ returns-3 c =
       feed-outside p m n bytes _ _ _ long out (c .refused2 .ensures),
       (
         feed-outside p m n bytes _ _ _ long out (ap (λ (r : Fed). feedReplyNumber (r .answer)) (c .refused2 .ensures)),
-        (feed-outside p m n bytes _ _ _ long out refl, (feed-outside p m n bytes _ _ _ long out refl, (feed-outside p m n bytes _ _ _ long out refl, omega (arith, ap (λ (r : Fed). r .written) (c .refused2 .ensures))))),
+        (
+          feed-outside p m n bytes _ _ _ long out refl,
+          (
+            feed-outside p m n bytes _ _ _ long out refl,
+            (feed-outside p m n bytes _ _ _ long out refl, omega (arith, ap (λ (r : Fed). r .written) (c .refused2 .ensures))),
+          ),
+        ),
       ),
     )
 
@@ -121,7 +137,13 @@ returns-4 c =
       feed-wrong p m n bytes _ _ _ other (c .refused3 .ensures),
       (
         feed-wrong p m n bytes _ _ _ other (ap (λ (r : Fed). feedReplyNumber (r .answer)) (c .refused3 .ensures)),
-        (feed-wrong p m n bytes _ _ _ other refl, (feed-wrong p m n bytes _ _ _ other refl, (feed-wrong p m n bytes _ _ _ other refl, omega (arith, ap (λ (r : Fed). r .written) (c .refused3 .ensures))))),
+        (
+          feed-wrong p m n bytes _ _ _ other refl,
+          (
+            feed-wrong p m n bytes _ _ _ other refl,
+            (feed-wrong p m n bytes _ _ _ other refl, omega (arith, ap (λ (r : Fed). r .written) (c .refused3 .ensures))),
+          ),
+        ),
       ),
     )
 

@@ -16,8 +16,11 @@ has-room-requires : tie.Need-has-room-requires
 has-room-requires c κs = search needs
 
 take-end-requires : tie.Need-take-end-requires
-take-end-requires c κs =
-    (sym (c .before .before .before .before .in-ranges .ensures) ∙ c .before .before .before .if1 .taken, leb-true (room 0) (length (c .before .before .before .before .before .before .args .out .now)) (sym (c .before .before .has-room .ensures) ∙ c .before .if2 .taken))
+take-end-requires c κs = (
+  sym (c .before .before .before .before .in-ranges .ensures) ∙ c .before .before .before .if1 .taken,
+  leb-true (room 0)
+      (length (c .before .before .before .before .before .before .args .out .now)) (sym (c .before .before .has-room .ensures) ∙ c .before .if2 .taken),
+)
 
 same-length : tie.Need-same-length
 same-length c = search needs
@@ -27,7 +30,8 @@ returns c =
     let a = c .before .before .before .before .before .before .before .before .before .args in
     let p = a .player in
     let bytes = length (a .out .now) in
-    let fits = sym (c .before .before .before .before .before .before .before .in-ranges .ensures) ∙ c .before .before .before .before .before .before .if1 .taken in
+    let fits = sym (c .before .before .before .before .before .before .before .in-ranges .ensures)
+    ∙ c .before .before .before .before .before .before .if1 .taken in
     let wide = sym (c .before .before .before .before .before .has-room .ensures) ∙ c .before .before .before .before .if2 .taken in
     let x = c .before .before .take-end in (
       end-done p (room 0) bytes _ _ fits wide (x .ensures .0),
