@@ -1,6 +1,6 @@
 -- What Q shows over each byte is what the frame model says of its position: by induction on the bytes, for each instruction.
 use Prim.Native.Nat.{ℕ, zero, suc, _+_, _*_, _-_, _%_, _<_, _≤_, min, _^_}
-use mathlib.Core.Bool.{Bool, true, false, not}
+use mathlib.Core.Bool.{Bool, true, false, not, _&&_}
 use mathlib.Core.List.{List, [], _∷_}
 use mathlib.Core.Path.{_≡_, refl, sym, ap, ap₂, _∙_, fun-ext}
 use lib.Dec.{leb}
@@ -45,11 +45,6 @@ module _ (P : Part) (sound : Sound P) (m : Lent) (c : Core) where
   unfolding pick
   quiet-fall i v j a x o l q = rw q
 
-  read-fall : (v j a x o : ℕ) (l : Latch) → drives P sound m c Read j ≡ true
-      → afterFall P sound m c Read v j a x o l ≡ afterBytes P sound m c v j ((a + 1) % P .size) x (getD (m .memory) a 0) 1 l
-  unfolding pick
-  read-fall v j a x o l q = rw q
-
   rdsr-fall : (v j a x o : ℕ) (l : Latch) → drives P sound m c Rdsr j ≡ true
       → afterFall P sound m c Rdsr v j a x o l ≡ afterBytes P sound m c v j a x (status c) 1 l
   unfolding pick
@@ -87,104 +82,143 @@ module _ (P : Part) (sound : Sound P) (m : Lent) (c : Core) where
       ∙ rdsr-fall v (suc j) a x (status c) l (rdsr-on (suc j) (omega arith)))
       ∙ rdsr-seen us v (suc j) a x A l e (omega arith))
 
-  -- ---- READ, no cycle
-
-  read-on : (j : ℕ) → running c ≡ false → P .addressBytes + 1 ≤ j → drives P sound m c Read j ≡ true
-  read-on j b k =
-      and-both (leb (P .addressBytes + 1) (min (P .most) j)) (not (running c))
-      (leb-min (P .most) j (P .addressBytes + 1) (omega (arith, sound .counted)) ∙ le-leb (P .addressBytes + 1) j k) (ap not b)
-
-  read-off : (j : ℕ) → j < P .addressBytes + 1 → drives P sound m c Read j ≡ false
-  read-off j k =
-      and-no-left (leb (P .addressBytes + 1) (min (P .most) j)) (not (running c))
-      (leb-min (P .most) j (P .addressBytes + 1) (omega (arith, sound .counted)) ∙ lt-leb (P .addressBytes + 1) j k)
-
-  -- the byte over position n, of a read from A
-  abbrev Cell : ℕ → ℕ → ℕ
-  Cell A n = byteOut P Read (running c) (λ _. status c) (m .memory) A n
-
-  cell-on : (A j : ℕ) → running c ≡ false → P .addressBytes + 1 ≤ j → Cell A j ≡ getD (m .memory) ((A + (j - (P .addressBytes + 1))) % P .size) 0
-  cell-on A j b k = at-yes _ _ (and-both (leb (P .addressBytes + 1) j) (not (running c)) (le-leb (P .addressBytes + 1) j k) (ap not b))
-
-  cell-off : (A j : ℕ) → j < P .addressBytes + 1 → Cell A j ≡ 255
-  cell-off A j k = at-no _ _ (and-no-left (leb (P .addressBytes + 1) j) (not (running c)) (lt-leb (P .addressBytes + 1) j k))
-
-  -- the cell a is loaded
-  abbrev cellLoaded : ℕ → ℕ → ℕ → Frame
-  cellLoaded v j a = afterBytes P sound m c v j ((a + 1) % P .size) 0 (getD (m .memory) a 0) 1 unlatched
-
-  read-cells : (us : List ℕ) (v j a A : ℕ) → decode P v ≡ Read → running c ≡ false → P .addressBytes + 1 ≤ j
-      → a ≡ (A + (j - (P .addressBytes + 1))) % P .size
-      → bytesSeen P sound m c onQ (cellLoaded v j a) us ≡ from j (length us) (Cell A)
-  unfolding bytesSeen from
-  read-cells [] v j a A e b k q = refl
-  read-cells (u ∷ us) v j a A e b k q =
-      let n = min (P .most) j in
-      let a′ = (a + 1) % P .size in
-      let past : leb n (P .addressBytes) ≡ false =
-      min-leb (P .most) j (P .addressBytes) (omega (arith, sound .counted)) ∙ lt-leb j (P .addressBytes) (omega arith) in
-      let next : A + (j - (P .addressBytes + 1)) + 1 ≡ A + (suc j - (P .addressBytes + 1)) = omega arith in
-      ap₂ (λ x r. x ∷ r)
-      (ap (λ t. onQ t (cellLoaded v j a)) (drives-bytes Read v j a′ 0 (getD (m .memory) a 0) 1 unlatched e ∙ read-on j b k)
-      ∙ ap (λ y. getD (m .memory) y 0) q ∙ sym (cell-on A j b k))
-      (ap (λ f. bytesSeen P sound m c onQ f us) (step-more P sound m c Read u v j a′ 0 (getD (m .memory) a 0) 1 unlatched e (omega arith)
-      ∙ ap (λ y. afterFall P sound m c Read v (suc j) y 0 (getD (m .memory) a 0) unlatched) (at-no _ _ past)
-      ∙ read-fall v (suc j) a′ 0 (getD (m .memory) a 0) unlatched (read-on (suc j) b (omega arith)))
-      ∙ read-cells us v (suc j) a′ A e b (omega arith)
-      (ap (λ y. (y + 1) % P .size) q ∙ mod-add-mod (A + (j - (P .addressBytes + 1))) (P .size) 1 ∙ ap (λ y. y % P .size) next))
-
-  module _ (s : List ℕ) where
-    address-mod : (k : ℕ) → addressTo P s k ≡ addressTo P s k % P .size
-    address-mod zero = sym (zero-mod (P .size))
-    address-mod (suc k) = sym (mod-mod (addressTo P s k + getD s (suc k) 0 * 256 ^ (P .addressBytes - suc k)) (P .size))
-
-    -- r address bytes to come; or the cell that is loaded
-    abbrev Read-at : ℕ → ℕ → ℕ → Frame
-    Read-at v zero k = cellLoaded v (suc k) (addressTo P s k)
-    Read-at v (suc r) k = afterBytes P sound m c v (suc k) (addressTo P s k) 0 0 0 unlatched
-
-    -- an address byte
-    read-address : (u v r k : ℕ) → decode P v ≡ Read → running c ≡ false → k + suc r ≡ P .addressBytes → u ≡ getD s (suc k) 0
-        → step P sound m c u (afterBytes P sound m c v (suc k) (addressTo P s k) 0 0 0 unlatched) ≡ Read-at v r (suc k)
-    read-address u v r k e b q h =
-        let n = min (P .most) (suc k) in
-        let a = addressTo P s k in
-        let all : n ≡ suc k = omega (arith, sound .counted) in
-        let more : leb n (P .addressBytes) ≡ true =
-        min-leb (P .most) (suc k) (P .addressBytes) (omega (arith, sound .counted)) ∙ le-leb (suc k) (P .addressBytes) (omega arith) in
-        step-more P sound m c Read u v (suc k) a 0 0 0 unlatched e (omega arith)
-        ∙ ap (λ y. afterFall P sound m c Read v (suc (suc k)) y 0 0 unlatched)
-        (at-yes _ _ more ∙ ap₂ (λ y x. (a + y * 256 ^ (P .addressBytes - x)) % P .size) h all)
-        ∙ onward r q
-      where
-        onward : (r : ℕ) → k + suc r ≡ P .addressBytes → afterFall P sound m c Read v (suc (suc k)) (addressTo P s (suc k)) 0 0 unlatched ≡ Read-at v r (suc k)
-        onward zero q = read-fall v (suc (suc k)) (addressTo P s (suc k)) 0 0 unlatched (read-on (suc (suc k)) b (omega arith))
-        onward (suc r) q = quiet-fall Read v (suc (suc k)) (addressTo P s (suc k)) 0 0 unlatched (read-off (suc (suc k)) (omega arith))
-
-    read-seen : (us : List ℕ) (v r k : ℕ) → decode P v ≡ Read → running c ≡ false → k + r ≡ P .addressBytes
-        → ((i : ℕ) → getD us i 0 ≡ getD s (suc k + i) 0)
-        → bytesSeen P sound m c onQ (Read-at v r k) us ≡ from (suc k) (length us) (Cell (address P s))
-    unfolding bytesSeen from
-    read-seen us v zero k e b q tail =
-        let all : k ≡ P .addressBytes = omega arith in
-        let none : addressTo P s k ≡ addressTo P s k + (suc k - (P .addressBytes + 1)) = omega arith in
-        read-cells us v (suc k) (addressTo P s k) (addressTo P s k) e b (omega arith) (address-mod k ∙ ap (λ y. y % P .size) none)
-        ∙ ap (λ y. from (suc k) (length us) (Cell (addressTo P s y))) all
-    read-seen [] v (suc r) k e b q tail = refl
-    read-seen (u ∷ us) v (suc r) k e b q tail =
-        let a = addressTo P s k in
-        let here : suc k + 0 ≡ suc k = omega arith in
-        ap₂ (λ x l. x ∷ l)
-        (ap (λ t. onQ t (afterBytes P sound m c v (suc k) a 0 0 0 unlatched)) (drives-bytes Read v (suc k) a 0 0 0 unlatched e ∙ read-off (suc k) (omega arith))
-        ∙ sym (cell-off (address P s) (suc k) (omega arith)))
-        (ap (λ f. bytesSeen P sound m c onQ f us) (read-address u v r k e b q (tail 0 ∙ ap (λ y. getD s y 0) here))
-        ∙ read-seen us v r (suc k) e b (omega arith)
-        (λ i. let there : suc k + suc i ≡ suc (suc k) + i = omega arith in tail (suc i) ∙ ap (λ y. getD s y 0) there))
-
-  -- ---- any frame
+  -- ---- an instruction that reads
 
   abbrev Out : Instruction → ℕ → ℕ → ℕ
   Out i A n = byteOut P i (running c) (λ _. status c) (m .memory) A n
+
+  -- the byte at an address, the address after it, and the address after so many of them
+  record Reader (i : Instruction) (out past : ℕ → ℕ) (place : ℕ → ℕ → ℕ) : Type 0 where
+    driven : (n : ℕ) (ran : Bool) → outputs P i n ran ≡ (leb (P .addressBytes + 1) n && not ran)
+    steps : (u v j a o z : ℕ) → decode P v ≡ i → 1 ≤ j
+        → let n = min (P .most) j in
+        step P sound m c u (afterBytes P sound m c v j a 0 o z unlatched)
+        ≡ afterFall P sound m c i v (suc j) (pick (leb n (P .addressBytes)) ((a + u * 256 ^ (P .addressBytes - n)) % P .size) a) 0 o unlatched
+    loads : (v j a o : ℕ) → drives P sound m c i j ≡ true
+        → afterFall P sound m c i v j a 0 o unlatched ≡ afterBytes P sound m c v j (past a) 0 (out a) 1 unlatched
+    cell : (A n : ℕ) → Out i A n ≡ pick (outputs P i n (running c)) (out (place A (n - (P .addressBytes + 1)))) 255
+    begins : (A : ℕ) → A ≡ A % P .size → place A 0 ≡ A
+    goes-on : (A d : ℕ) → past (place A d) ≡ place A (suc d)
+
+  module _ {i : Instruction} {out past : ℕ → ℕ} {place : ℕ → ℕ → ℕ} (r : Reader i out past place) where
+    read-off : (j : ℕ) → j < P .addressBytes + 1 → drives P sound m c i j ≡ false
+    read-off j k =
+        r .driven (min (P .most) j) (running c) ∙ and-no-left (leb (P .addressBytes + 1) (min (P .most) j)) (not (running c))
+        (leb-min (P .most) j (P .addressBytes + 1) (omega (arith, sound .counted)) ∙ lt-leb (P .addressBytes + 1) j k)
+
+    cell-off : (A j : ℕ) → j < P .addressBytes + 1 → Out i A j ≡ 255
+    cell-off A j k =
+        r .cell A j
+        ∙ at-no _ _ (r .driven j (running c) ∙ and-no-left (leb (P .addressBytes + 1) j) (not (running c)) (lt-leb (P .addressBytes + 1) j k))
+
+    -- a cycle ran: nothing shows
+    shut : running c ≡ true → Hushed i
+    shut b n = r .driven n (running c) ∙ and-no-right (leb (P .addressBytes + 1) n) (not (running c)) (ap not b)
+
+    -- none ran: the bytes from the address on
+    module _ (b : running c ≡ false) where
+      read-on : (j : ℕ) → P .addressBytes + 1 ≤ j → drives P sound m c i j ≡ true
+      read-on j k =
+          r .driven (min (P .most) j) (running c) ∙ and-both (leb (P .addressBytes + 1) (min (P .most) j)) (not (running c))
+          (leb-min (P .most) j (P .addressBytes + 1) (omega (arith, sound .counted)) ∙ le-leb (P .addressBytes + 1) j k) (ap not b)
+
+      cell-on : (A j : ℕ) → P .addressBytes + 1 ≤ j → Out i A j ≡ out (place A (j - (P .addressBytes + 1)))
+      cell-on A j k =
+          r .cell A j
+          ∙ at-yes _ _ (r .driven j (running c) ∙ and-both (leb (P .addressBytes + 1) j) (not (running c)) (le-leb (P .addressBytes + 1) j k) (ap not b))
+
+      -- the byte at a is loaded
+      abbrev loaded : ℕ → ℕ → ℕ → Frame
+      loaded v j a = afterBytes P sound m c v j (past a) 0 (out a) 1 unlatched
+
+      read-cells : (us : List ℕ) (v j a A : ℕ) → decode P v ≡ i → P .addressBytes + 1 ≤ j → a ≡ place A (j - (P .addressBytes + 1))
+          → bytesSeen P sound m c onQ (loaded v j a) us ≡ from j (length us) (Out i A)
+      unfolding bytesSeen from
+      read-cells [] v j a A e k q = refl
+      read-cells (u ∷ us) v j a A e k q =
+          let n = min (P .most) j in
+          let past-address : leb n (P .addressBytes) ≡ false =
+          min-leb (P .most) j (P .addressBytes) (omega (arith, sound .counted)) ∙ lt-leb j (P .addressBytes) (omega arith) in
+          let next : suc (j - (P .addressBytes + 1)) ≡ suc j - (P .addressBytes + 1) = omega arith in
+          ap₂ (λ x l. x ∷ l)
+          (ap (λ t. onQ t (loaded v j a)) (drives-bytes i v j (past a) 0 (out a) 1 unlatched e ∙ read-on j k) ∙ ap out q ∙ sym (cell-on A j k))
+          (ap (λ f. bytesSeen P sound m c onQ f us) (r .steps u v j (past a) (out a) 1 e (omega arith)
+          ∙ ap (λ y. afterFall P sound m c i v (suc j) y 0 (out a) unlatched) (at-no _ _ past-address)
+          ∙ r .loads v (suc j) (past a) (out a) (read-on (suc j) (omega arith)))
+          ∙ read-cells us v (suc j) (past a) A e (omega arith)
+          (ap past q ∙ r .goes-on A (j - (P .addressBytes + 1)) ∙ ap (place A) next))
+
+      module _ (s : List ℕ) where
+        address-mod : (k : ℕ) → addressTo P s k ≡ addressTo P s k % P .size
+        address-mod zero = sym (zero-mod (P .size))
+        address-mod (suc k) = sym (mod-mod (addressTo P s k + getD s (suc k) 0 * 256 ^ (P .addressBytes - suc k)) (P .size))
+
+        -- n address bytes to come; or the byte that is loaded
+        abbrev reading : ℕ → ℕ → ℕ → Frame
+        reading v zero k = loaded v (suc k) (addressTo P s k)
+        reading v (suc n) k = afterBytes P sound m c v (suc k) (addressTo P s k) 0 0 0 unlatched
+
+        -- an address byte
+        read-address : (u v n k : ℕ) → decode P v ≡ i → k + suc n ≡ P .addressBytes → u ≡ getD s (suc k) 0
+            → step P sound m c u (afterBytes P sound m c v (suc k) (addressTo P s k) 0 0 0 unlatched) ≡ reading v n (suc k)
+        read-address u v n k e q h =
+            let t = min (P .most) (suc k) in
+            let a = addressTo P s k in
+            let all : t ≡ suc k = omega (arith, sound .counted) in
+            let more : leb t (P .addressBytes) ≡ true =
+            min-leb (P .most) (suc k) (P .addressBytes) (omega (arith, sound .counted)) ∙ le-leb (suc k) (P .addressBytes) (omega arith) in
+            r .steps u v (suc k) a 0 0 e (omega arith)
+            ∙ ap (λ y. afterFall P sound m c i v (suc (suc k)) y 0 0 unlatched)
+            (at-yes _ _ more ∙ ap₂ (λ y x. (a + y * 256 ^ (P .addressBytes - x)) % P .size) h all)
+            ∙ onward n q
+          where
+            onward : (n : ℕ) → k + suc n ≡ P .addressBytes
+                → afterFall P sound m c i v (suc (suc k)) (addressTo P s (suc k)) 0 0 unlatched ≡ reading v n (suc k)
+            onward zero q = r .loads v (suc (suc k)) (addressTo P s (suc k)) 0 (read-on (suc (suc k)) (omega arith))
+            onward (suc n) q = quiet-fall i v (suc (suc k)) (addressTo P s (suc k)) 0 0 unlatched (read-off (suc (suc k)) (omega arith))
+
+        read-seen : (us : List ℕ) (v n k : ℕ) → decode P v ≡ i → k + n ≡ P .addressBytes → ((x : ℕ) → getD us x 0 ≡ getD s (suc k + x) 0)
+            → bytesSeen P sound m c onQ (reading v n k) us ≡ from (suc k) (length us) (Out i (address P s))
+        unfolding bytesSeen from
+        read-seen us v zero k e q tail =
+            let all : k ≡ P .addressBytes = omega arith in
+            let none : 0 ≡ suc k - (P .addressBytes + 1) = omega arith in
+            read-cells us v (suc k) (addressTo P s k) (addressTo P s k) e (omega arith)
+            (sym (r .begins (addressTo P s k) (address-mod k)) ∙ ap (place (addressTo P s k)) none)
+            ∙ ap (λ y. from (suc k) (length us) (Out i (addressTo P s y))) all
+        read-seen [] v (suc n) k e q tail = refl
+        read-seen (u ∷ us) v (suc n) k e q tail =
+            let a = addressTo P s k in
+            let here : suc k + 0 ≡ suc k = omega arith in
+            ap₂ (λ x l. x ∷ l)
+            (ap (λ t. onQ t (afterBytes P sound m c v (suc k) a 0 0 0 unlatched)) (drives-bytes i v (suc k) a 0 0 0 unlatched e ∙ read-off (suc k) (omega arith))
+            ∙ sym (cell-off (address P s) (suc k) (omega arith)))
+            (ap (λ f. bytesSeen P sound m c onQ f us) (read-address u v n k e q (tail 0 ∙ ap (λ y. getD s y 0) here))
+            ∙ read-seen us v n (suc k) e (omega arith)
+            (λ x. let there : suc k + suc x ≡ suc (suc k) + x = omega arith in tail (suc x) ∙ ap (λ y. getD s y 0) there))
+
+      read-table : (v k : ℕ) (vs : List ℕ) → decode P v ≡ i → k ≡ P .addressBytes
+          → bytesSeen P sound m c onQ (step P sound m c v (noFrame P)) vs ≡ from 1 (length vs) (Out i (address P (v ∷ vs)))
+      read-table v zero vs e q = absurd (omega (arith, sound .bytes-some))
+      read-table v (suc n) vs e q =
+          let quiet = quiet-fall i v 1 0 0 0 unlatched (read-off 1 (omega (arith, sound .bytes-some))) in
+          ap (λ f. bytesSeen P sound m c onQ f vs) (step-first P sound m c i v e ∙ quiet)
+          ∙ read-seen (v ∷ vs) vs v (suc n) 0 e (omega arith) (λ x. let next : suc x ≡ suc 0 + x = omega arith in ap (λ y. getD (v ∷ vs) y 0) next)
+
+  -- READ: the cells from the address up, rolling over
+  reads : Reader Read (λ a. getD (m .memory) a 0) (λ a. (a + 1) % P .size) (λ A d. (A + d) % P .size)
+  unfolding pick
+  reads =
+      record {
+        driven = λ n ran. refl;
+        steps = λ u v j a o z e k. step-more P sound m c Read u v j a 0 o z unlatched e k;
+        loads = λ v j a o q. rw q;
+        cell = λ A n. refl;
+        begins = λ A e. let same : A + 0 ≡ A = omega arith in ap (λ y. y % P .size) same ∙ sym e;
+        goes-on = λ A d. let next : A + d + 1 ≡ A + suc d = omega arith in mod-add-mod (A + d) (P .size) 1 ∙ ap (λ y. y % P .size) next;
+      }
+
+  -- ---- any frame
 
   hush-table : (i : Instruction) (v A : ℕ) (vs : List ℕ) → decode P v ≡ i → Hushed i → ((n : ℕ) → 255 ≡ Out i A n)
       → bytesSeen P sound m c onQ (step P sound m c v (noFrame P)) vs ≡ from 1 (length vs) (Out i A)
@@ -192,14 +226,6 @@ module _ (P : Part) (sound : Sound P) (m : Lent) (c : Core) where
       ap (λ f. bytesSeen P sound m c onQ f vs) (step-first P sound m c i v e)
       ∙ hush-seen i vs 1 v 1 _ _ _ _ _ e (omega arith) q
       ∙ ap (λ g. from 1 (length vs) g) (fun-ext d)
-
-  read-table : (v k : ℕ) (vs : List ℕ) → decode P v ≡ Read → running c ≡ false → k ≡ P .addressBytes
-      → bytesSeen P sound m c onQ (step P sound m c v (noFrame P)) vs ≡ from 1 (length vs) (Cell (address P (v ∷ vs)))
-  read-table v zero vs e b q = absurd (omega (arith, sound .bytes-some))
-  read-table v (suc r) vs e b q =
-      let quiet = quiet-fall Read v 1 0 0 0 unlatched (read-off 1 (omega (arith, sound .bytes-some))) in
-      ap (λ f. bytesSeen P sound m c onQ f vs) (step-first P sound m c Read v e ∙ quiet)
-      ∙ read-seen (v ∷ vs) vs v (suc r) 0 e b (omega arith) (λ i. let next : suc i ≡ suc 0 + i = omega arith in ap (λ y. getD (v ∷ vs) y 0) next)
 
   tail-table : (i : Instruction) (b : Bool) (v : ℕ) (vs : List ℕ) → decode P v ≡ i → running c ≡ b
       → bytesSeen P sound m c onQ (step P sound m c v (noFrame P)) vs ≡ from 1 (length vs) (Out i (address P (v ∷ vs)))
@@ -211,9 +237,8 @@ module _ (P : Part) (sound : Sound P) (m : Lent) (c : Core) where
       ∙ rdsr-seen vs v 1 0 0 (address P (v ∷ vs)) unlatched e (omega arith)
   tail-table Wrsr b v vs e r = hush-table Wrsr v (address P (v ∷ vs)) vs e (λ n. refl) (λ n. refl)
   tail-table Read true v vs e r =
-      hush-table Read v (address P (v ∷ vs)) vs e (λ n. and-no-right (leb (P .addressBytes + 1) n) (not (running c)) (ap not r))
-      (λ n. sym (at-no _ _ (and-no-right (leb (P .addressBytes + 1) n) (not (running c)) (ap not r))))
-  tail-table Read false v vs e r = read-table v (P .addressBytes) vs e r refl
+      hush-table Read v (address P (v ∷ vs)) vs e (shut reads r) (λ n. sym (at-no _ _ (shut reads r n)))
+  tail-table Read false v vs e r = read-table reads r v (P .addressBytes) vs e refl
   tail-table Write b v vs e r = hush-table Write v (address P (v ∷ vs)) vs e (λ n. refl) (λ n. refl)
   tail-table Silence b v vs e r = hush-table Silence v (address P (v ∷ vs)) vs e (λ n. refl) (λ n. refl)
 
@@ -224,7 +249,7 @@ module _ (P : Part) (sound : Sound P) (m : Lent) (c : Core) where
   head-table Wrdi A = refl
   head-table Rdsr A = refl
   head-table Wrsr A = refl
-  head-table Read A = sym (cell-off A 0 (omega arith))
+  head-table Read A = sym (cell-off reads A 0 (omega arith))
   head-table Write A = refl
   head-table Silence A = refl
 
