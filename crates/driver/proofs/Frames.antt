@@ -1,4 +1,4 @@
--- The driver's frames and readings through the models' promises, for any part: none is refused.
+-- The driver's frames through the frame model's promises, for any part: none is refused.
 use mathlib.Core.Path.{_≡_, ap, sym, _∙_}
 use mathlib.Core.Bool.{true}
 use mathlib.Core.List.{List, _++_, append-assoc}
@@ -15,8 +15,7 @@ use Rattle.codes.specs.Part.{Part}
 use Rattle.chip.specs.Records.{running}
 use Rattle.chip.specs.Ranges.{inRanges}
 use Rattle.codes.specs.Refusals.{isDone}
-use Rattle.chip.specs.Time.{lentFits, timed, timedMemory, timedIdentification, clockReading, clockMemory, clockIdentification}
-use Rattle.chip.proofs.Readings.{reading-taken}
+use Rattle.chip.specs.Time.{lentFits}
 use Rattle.chip.specs.declared.Core.{Core}
 use Rattle.fields.specs.Counts.{bitsFit, longestFrame}
 use Rattle.frames.proofs.Outcomes.{accepted}
@@ -68,15 +67,3 @@ module _ (P : Part) (c : Core) (m i s : List ℕ) (fits : lentFits P (length m) 
   unfolding framed
   sent-core room e =
       at-yes _ _ (ap isDone (accepted P c (length m) (length i) (length s) (8 * length s) room fits ranges short (whole-fits (length s)) e))
-
--- ---- a clock reading
-
-module _ (P : Part) (c : Core) (m i : List ℕ) (t : ℕ) (fits : lentFits P (length m) (length i) ≡ true) (ranges : inRanges P c ≡ true) where
-  pub reading-core : clockReading P t c m i .core ≡ timed P t c
-  reading-core = at-yes _ _ (ap isDone (reading-taken P c m i fits ranges))
-
-  pub reading-memory : clockMemory P t c m i ≡ timedMemory P t c m
-  reading-memory = at-yes _ _ (ap isDone (reading-taken P c m i fits ranges))
-
-  pub reading-identification : clockIdentification P t c m i ≡ timedIdentification P t c i
-  reading-identification = at-yes _ _ (ap isDone (reading-taken P c m i fits ranges))

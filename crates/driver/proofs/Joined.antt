@@ -5,10 +5,10 @@ use mathlib.Core.List.{List, [], _∷_, _++_}
 use Prim.Native.Nat.{ℕ, _+_, _-_, _≤_}
 use native.Mathlib.Omega.{arith}
 use Rattle.codes.specs.Part.{Part}
-use Rattle.chip.specs.Records.{status}
 use Rattle.chip.specs.declared.Core.{Core}
 use Rattle.frames.specs.Play.{Act, FrameBench, acted, actedAll, frameBench}
 use Rattle.driver.specs.Sequence.{sent, rdsr, moved, latePoll, pollsOn, firstWait, pageWait, wrenAndWrite, pageActs}
+use Rattle.driver.specs.Told.{Told}
 use Rattle.driver.specs.declared.waiting.Waited.{Waited}
 use Rattle.driver.proofs.Playing.{acted-all-append, sent-append}
 use Rattle.frames.proofs.Polls.{poll-leaves}
@@ -28,12 +28,6 @@ follows P first rest d x e =
     }
 
 -- what a wait hands back, beside the n frames before it
-abbrev pub Told : Part → List Act → FrameBench → Waited → List ℕ → List ℕ → Type 0
-Told P acts d r m i =
-    (r .core ≡ actedAll P acts d .core)
-    × ((r .status ≡ status (r .core))
-    × ((r .frames ≡ sent acts) × ((m ≡ actedAll P acts d .memory) × (i ≡ actedAll P acts d .identification))))
-
 pub told : (P : Part) (all : List Act) (d : FrameBench) (rest : List Act) (x : FrameBench) (n : ℕ) → Follows P all d rest x n
     → (w r : Waited) (m i : List ℕ) → Told P rest x w m i → r ≡ record { status = w .status; core = w .core; frames = w .frames + n }
     → Told P all d r m i

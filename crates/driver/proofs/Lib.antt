@@ -2,6 +2,7 @@
 pub mod Playing
 pub mod Frames
 pub mod Ready
+pub mod Left
 pub mod Waits
 pub mod Joined
 pub mod Parts

@@ -21,8 +21,10 @@ use Rattle.driver.specs.declared.Driven.{Driven}
 use Rattle.driver.specs.Sequence.{sent, pageActs, Ending, allDone, timedOut, Run, stopped, pageDone, pagesFrom}
 use Rattle.driver.specs.Answers.{endingAnswer, partsAnswer}
 use Rattle.driver.specs.declared.waiting.Waited.{Waited}
-use Rattle.driver.proofs.Joined.{Told}
+use Rattle.driver.specs.Told.{Told}
 use Rattle.driver.proofs.Playing.{acted-all-append, sent-append}
+use Rattle.driver.proofs.Ready.{Ready}
+use Rattle.driver.proofs.Left.{Left, left}
 
 module _ (P : Part) (i limit a : ℕ) (bytes : List ℕ) where
   -- part k's acts, and the device after them
@@ -135,10 +137,14 @@ module _ (P : Part) (i limit a : ℕ) (bytes : List ℕ) where
   pub ended-of : {r : Driven} {m p : List ℕ} (parts n before : ℕ) (d₀ : FrameBench) → parts ≡ n → Ended parts before d₀ r m p → Ended n before d₀ r m p
   ended-of {r} {m} {p} parts n before d₀ e t = subst (λ (k : ℕ). Ended k before d₀ r m p) e t
 
--- a part that was written at its record's own part, which is P
-pub part-told : (P : Part) (i limit a : ℕ) (bytes : List ℕ) (k : ℕ) (d : FrameBench) {r : Waited} {m p : List ℕ} → ownPart (d .core) ≡ P
-    → Told (ownPart (d .core)) (partActs (ownPart (d .core)) i limit a bytes k d) d r m p → Told P (partActs P i limit a bytes k d) d r m p
-part-told P i limit a bytes k d {r} {m} {p} same t = subst (λ (Q : Part). Told Q (partActs Q i limit a bytes k d) d r m p) same t
+-- what a part leaves that was written at its record's own part, which is P
+pub part-left : (P : Part) (sound : Sound P) (i limit a : ℕ) (bytes : List ℕ) (k : ℕ) (d : FrameBench) (r : Waited) (m p : List ℕ)
+    → ownPart (d .core) ≡ P → Ready P d
+    → Told (ownPart (d .core)) (partActs (ownPart (d .core)) i limit a bytes k d) d r m p
+    → Left P (partActs P i limit a bytes k d) d r m p
+part-left P sound i limit a bytes k d r m p same ready t =
+    left P sound (partActs P i limit a bytes k d) d r m p same ready
+    (subst (λ (Q : Part). Told Q (partActs Q i limit a bytes k d) d r m p) same t)
 
 -- a run has at most as many parts as the memory has pages
 pub parts-few : (P : Part) (sound : Sound P) (a n : ℕ) → count (P .size) (P .page) a n ≤ pages P

@@ -14,7 +14,7 @@ use Rattle.codes.specs.Status.{on, bitOf}
 use Rattle.chip.specs.Records.{running}
 use Rattle.chip.specs.Questions.{lowest}
 use Rattle.chip.specs.declared.Core.{Core}
-use Rattle.frames.specs.Play.{Act, frame, reading, FrameBench, acted, actedAll, frameBench}
+use Rattle.frames.specs.Play.{Act, frame, reading, FrameBench, acted, actedAll}
 use Rattle.split.specs.Split.{count, splitAddress}
 use Rattle.split.specs.Pieces.{piece}
 
@@ -47,10 +47,6 @@ abbrev pub sent : List Act → ℕ
 sent [] = 0
 sent (frame w s n ∷ acts) = suc (sent acts)
 sent (reading t ∷ acts) = sent acts
-
--- what acts that depend on the bench leave
-abbrev pub playedFrom : Part → (FrameBench → List Act) → Core → List ℕ → List ℕ → FrameBench
-playedFrom P acts c m i = actedAll P (acts (frameBench c m i)) (frameBench c m i)
 
 -- ---- a wait
 

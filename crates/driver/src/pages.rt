@@ -4,10 +4,11 @@ ghost use mathlib.Core.Bool.{true};
 ghost use Prim.Native.Nat.{_+_, _≤_, _<_};
 ghost use lib.ListN.{length};
 ghost use Rattle.chip.specs.Ranges.{inRanges};
-ghost use Rattle.chip.specs.Records.{ownPart, status};
+ghost use Rattle.chip.specs.Records.{ownPart};
 ghost use Rattle.split.specs.Split.{count};
 ghost use Rattle.frames.specs.Play.{frameBench};
-ghost use Rattle.driver.specs.Sequence.{sent, playedFrom, pageActs, partActs, allParts};
+ghost use Rattle.driver.specs.Sequence.{pageActs, partActs, allParts};
+ghost use Rattle.driver.specs.Told.{ToldFrom};
 ghost use Rattle.driver.specs.Answers.{leaves, partsDriven};
 use crate::Driven;
 use crate::RunReply;
@@ -39,19 +40,9 @@ fn write_page(
     requires { ⌜ address < ownPart core .size ⌝ }
     requires { ⌜ length (now bytes) ≤ ownPart core .page ⌝ }
     requires { ⌜ (1 ≤ limit) × (limit ≤ ownPart core .longest + 1) ⌝ }
-    ensures { λ r. ⌜ r .core
-        ≡ playedFrom (ownPart core) (pageActs (ownPart core) interval limit address (now (bytes .entry))) core
-        (now (memory .entry)) (now (identification .entry)) .core ⌝ }
-    ensures { λ r. ⌜ r .status ≡ status (r .core) ⌝ }
-    ensures { λ r. ⌜ r .frames
-        ≡ sent (pageActs (ownPart core) interval limit address (now (bytes .entry))
-        (frameBench core (now (memory .entry)) (now (identification .entry)))) ⌝ }
-    ensures { λ _. ⌜ now (memory .exit)
-        ≡ playedFrom (ownPart core) (pageActs (ownPart core) interval limit address (now (bytes .entry))) core
-        (now (memory .entry)) (now (identification .entry)) .memory ⌝ }
-    ensures { λ _. ⌜ now (identification .exit)
-        ≡ playedFrom (ownPart core) (pageActs (ownPart core) interval limit address (now (bytes .entry))) core
-        (now (memory .entry)) (now (identification .entry)) .identification ⌝ }
+    ensures { λ r. ⌜ ToldFrom (ownPart core) (pageActs (ownPart core) interval limit address (now (bytes .entry)))
+        (frameBench core (now (memory .entry)) (now (identification .entry))) r (now (memory .exit))
+        (now (identification .exit)) ⌝ }
 {
     let wren = [WREN];
     let enabled = send(core, memory, identification, &wren);
@@ -75,19 +66,9 @@ fn write_part(
     requires { ⌜ inRanges (ownPart core) core ≡ true ⌝ }
     requires { ⌜ (1 ≤ limit) × (limit ≤ ownPart core .longest + 1) ⌝ }
     requires { ⌜ k < count (ownPart core .size) (ownPart core .page) address (length (now bytes)) ⌝ }
-    ensures { λ r. ⌜ r .core
-        ≡ playedFrom (ownPart core) (partActs (ownPart core) interval limit address (now (bytes .entry)) k) core
-        (now (memory .entry)) (now (identification .entry)) .core ⌝ }
-    ensures { λ r. ⌜ r .status ≡ status (r .core) ⌝ }
-    ensures { λ r. ⌜ r .frames
-        ≡ sent (partActs (ownPart core) interval limit address (now (bytes .entry)) k
-        (frameBench core (now (memory .entry)) (now (identification .entry)))) ⌝ }
-    ensures { λ _. ⌜ now (memory .exit)
-        ≡ playedFrom (ownPart core) (partActs (ownPart core) interval limit address (now (bytes .entry)) k) core
-        (now (memory .entry)) (now (identification .entry)) .memory ⌝ }
-    ensures { λ _. ⌜ now (identification .exit)
-        ≡ playedFrom (ownPart core) (partActs (ownPart core) interval limit address (now (bytes .entry)) k) core
-        (now (memory .entry)) (now (identification .entry)) .identification ⌝ }
+    ensures { λ r. ⌜ ToldFrom (ownPart core) (partActs (ownPart core) interval limit address (now (bytes .entry)) k)
+        (frameBench core (now (memory .entry)) (now (identification .entry))) r (now (memory .exit))
+        (now (identification .exit)) ⌝ }
 {
     let n = bytes.len() as u64;
     let start = cartvesper_split_address(address, n, k);

@@ -6,7 +6,8 @@ ghost use lib.ListN.{length};
 ghost use Rattle.chip.specs.Ranges.{inRanges};
 ghost use Rattle.chip.specs.Records.{ownPart, status};
 ghost use Rattle.frames.specs.Play.{acted, frameBench};
-ghost use Rattle.driver.specs.Sequence.{sent, playedFrom, moved, pollsOn, firstWait, pageWait};
+ghost use Rattle.driver.specs.Sequence.{moved, pollsOn, firstWait, pageWait};
+ghost use Rattle.driver.specs.Told.{ToldFrom};
 use crate::sending::poll;
 use chip::Core;
 use chip::elapsed;
@@ -66,19 +67,9 @@ fn poll_on(
     requires { ⌜ length (now identification) ≡ ownPart start .page ⌝ }
     requires { ⌜ inRanges (ownPart start) start ≡ true ⌝ }
     requires { ⌜ seen ≡ status start ⌝ }
-    ensures { λ r. ⌜ r .core
-        ≡ playedFrom (ownPart start) (pollsOn (ownPart start) interval left) start (now (memory .entry))
-        (now (identification .entry)) .core ⌝ }
-    ensures { λ r. ⌜ r .status ≡ status (r .core) ⌝ }
-    ensures { λ r. ⌜ r .frames
-        ≡ sent (pollsOn (ownPart start) interval left
-        (frameBench start (now (memory .entry)) (now (identification .entry)))) ⌝ }
-    ensures { λ _. ⌜ now (memory .exit)
-        ≡ playedFrom (ownPart start) (pollsOn (ownPart start) interval left) start (now (memory .entry))
-        (now (identification .entry)) .memory ⌝ }
-    ensures { λ _. ⌜ now (identification .exit)
-        ≡ playedFrom (ownPart start) (pollsOn (ownPart start) interval left) start (now (memory .entry))
-        (now (identification .entry)) .identification ⌝ }
+    ensures { λ r. ⌜ ToldFrom (ownPart start) (pollsOn (ownPart start) interval left)
+        (frameBench start (now (memory .entry)) (now (identification .entry))) r (now (memory .exit))
+        (now (identification .exit)) ⌝ }
 {
     let mut core = start;
     let mut status = seen;
@@ -115,19 +106,9 @@ pub(crate) fn first_wait(
     requires { ⌜ length (now identification) ≡ ownPart core .page ⌝ }
     requires { ⌜ inRanges (ownPart core) core ≡ true ⌝ }
     requires { ⌜ (1 ≤ limit) × (limit ≤ ownPart core .longest + 1) ⌝ }
-    ensures { λ r. ⌜ r .core
-        ≡ playedFrom (ownPart core) (firstWait (ownPart core) interval limit) core (now (memory .entry))
-        (now (identification .entry)) .core ⌝ }
-    ensures { λ r. ⌜ r .status ≡ status (r .core) ⌝ }
-    ensures { λ r. ⌜ r .frames
-        ≡ sent (firstWait (ownPart core) interval limit
-        (frameBench core (now (memory .entry)) (now (identification .entry)))) ⌝ }
-    ensures { λ _. ⌜ now (memory .exit)
-        ≡ playedFrom (ownPart core) (firstWait (ownPart core) interval limit) core (now (memory .entry))
-        (now (identification .entry)) .memory ⌝ }
-    ensures { λ _. ⌜ now (identification .exit)
-        ≡ playedFrom (ownPart core) (firstWait (ownPart core) interval limit) core (now (memory .entry))
-        (now (identification .entry)) .identification ⌝ }
+    ensures { λ r. ⌜ ToldFrom (ownPart core) (firstWait (ownPart core) interval limit)
+        (frameBench core (now (memory .entry)) (now (identification .entry))) r (now (memory .exit))
+        (now (identification .exit)) ⌝ }
 {
     let seen = poll(core);
     poll_on(core, seen, memory, identification, interval, limit - 1).and_sent(1)
@@ -145,19 +126,9 @@ pub(crate) fn page_wait(
     requires { ⌜ length (now identification) ≡ ownPart core .page ⌝ }
     requires { ⌜ inRanges (ownPart core) core ≡ true ⌝ }
     requires { ⌜ (1 ≤ limit) × (limit ≤ ownPart core .longest + 1) ⌝ }
-    ensures { λ r. ⌜ r .core
-        ≡ playedFrom (ownPart core) (pageWait (ownPart core) interval limit) core (now (memory .entry))
-        (now (identification .entry)) .core ⌝ }
-    ensures { λ r. ⌜ r .status ≡ status (r .core) ⌝ }
-    ensures { λ r. ⌜ r .frames
-        ≡ sent (pageWait (ownPart core) interval limit
-        (frameBench core (now (memory .entry)) (now (identification .entry)))) ⌝ }
-    ensures { λ _. ⌜ now (memory .exit)
-        ≡ playedFrom (ownPart core) (pageWait (ownPart core) interval limit) core (now (memory .entry))
-        (now (identification .entry)) .memory ⌝ }
-    ensures { λ _. ⌜ now (identification .exit)
-        ≡ playedFrom (ownPart core) (pageWait (ownPart core) interval limit) core (now (memory .entry))
-        (now (identification .entry)) .identification ⌝ }
+    ensures { λ r. ⌜ ToldFrom (ownPart core) (pageWait (ownPart core) interval limit)
+        (frameBench core (now (memory .entry)) (now (identification .entry))) r (now (memory .exit))
+        (now (identification .exit)) ⌝ }
 {
     let next = moved(core, memory, identification, interval);
     let seen = poll(next);

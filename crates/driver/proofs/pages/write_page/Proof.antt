@@ -12,7 +12,8 @@ use Rattle.frames.specs.After.{after}
 use Rattle.frames.specs.Play.{FrameBench, actedAll, frameBench}
 use Rattle.driver.specs.Sequence.{wren, writeBytes, wrenAndWrite, pageWait}
 use Rattle.driver.proofs.Ready.{bench-of, ready-acted-all, own-acted, own-ranges}
-use Rattle.driver.proofs.Joined.{Told, told, page-acts, page-most}
+use Rattle.driver.specs.Told.{Told}
+use Rattle.driver.proofs.Joined.{told, page-acts, page-most}
 use borrow.Author.Needs.{needs}
 use Rattle.driver.proofs.pages.write_page.Statement.{statement}
 use Rattle.driver.proofs.pages.write_page.Tie as tie

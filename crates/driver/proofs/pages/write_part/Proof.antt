@@ -8,7 +8,7 @@ use Rattle.codes.proofs.Sound.{sound-of}
 use Rattle.split.specs.Pieces.{piece}
 use Rattle.frames.specs.Play.{FrameBench, frameBench}
 use Rattle.driver.specs.Sequence.{pageActs}
-use Rattle.driver.proofs.Joined.{Told}
+use Rattle.driver.specs.Told.{Told}
 use Rattle.driver.proofs.Parts.{lies, part-bytes}
 use borrow.Author.Needs.{needs}
 use Rattle.driver.proofs.pages.write_part.Statement.{statement}

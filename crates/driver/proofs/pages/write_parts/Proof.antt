@@ -8,10 +8,11 @@ use Rattle.split.specs.Split.{count, splitAddress}
 use Rattle.split.specs.Pieces.{piece}
 use Rattle.split.proofs.Numbers.{parts-asked}
 use Rattle.frames.specs.Play.{FrameBench, frameBench}
-use Rattle.driver.proofs.Ready.{Ready, bench-of, ready-acted-all, own-acted, own-ranges}
+use Rattle.driver.proofs.Ready.{Ready, own-ranges}
+use Rattle.driver.proofs.Left.{Left}
 use Rattle.driver.proofs.Joined.{acts-most}
 use Rattle.driver.proofs.Seen.{seen-wip}
-use Rattle.driver.proofs.Runs.{partActs, afterPart, part-told, Rest, ended-of, rest-first, rest-next, rest-late, rest-done, parts-few}
+use Rattle.driver.proofs.Runs.{partActs, part-left, Rest, ended-of, rest-first, rest-next, rest-late, rest-done, parts-few}
 use Rattle.driver.proofs.pages.write_parts.Statement.{statement}
 use Rattle.driver.proofs.pages.write_parts.Tie as tie
 use Rattle.driver.proofs.pages.write_parts.Reads as reads
@@ -53,24 +54,41 @@ write-part-requires c κs =
     let below = subst (λ (n : ℕ). l .k < n) (l .inv .1 .1 .0) (c .before .before .loop-test .taken) in
     (ready .whole, (ready .page, (own-ranges (l .inv .1 .1 .1 .0) refl (ready .ranges), (start .pre .1 .1 .1 .0, below))))
 
+-- after part k: what it left
+went : (w : tie.After-write-part Inv-loop μ-loop) → let a = w .before .before .before .before .before .before .before .before .before .args in
+    let l = w .before .before .before .before .loop in
+    let P = ownPart (a .core) in
+    let d : FrameBench = frameBench (l .next) (l .memory) (l .identification) in
+    Left P (partActs P (a .interval) (a .limit) (a .address) (a .bytes .now) (l .k) d) d (w .write-part .result) (w .write-part .last .1 .0)
+    (w .write-part .last .1 .1 .0)
+went w =
+    let a = w .before .before .before .before .before .before .before .before .before .args in
+    let inv = w .before .before .before .before .loop .inv in
+    part-left (ownPart (a .core)) (sound-of (a .core .part)) (a .interval) (a .limit) (a .address) (a .bytes .now) _ _ _ _ _ (inv .1 .1 .1 .0)
+    (inv .1 .1 .1 .1 .0) (w .write-part .ensures)
+
+-- and that it sent few frames
+few-frames : (w : tie.After-write-part Inv-loop μ-loop)
+    → w .write-part .result .frames ≤ w .before .before .before .before .before .before .before .before .before .args .limit + 2
+few-frames w =
+    let a = w .before .before .before .before .before .before .before .before .before .args in
+    let l = w .before .before .before .before .loop in
+    let sends =
+    acts-most (ownPart (a .core)) (a .interval) (a .limit) (splitAddress 65536 128 (a .address) (length (a .bytes .now)) (l .k))
+    (piece 65536 128 (a .address) (a .bytes .now) (l .k)) (frameBench (l .next) (l .memory) (l .identification))
+    (w .before .before .before .before .before .before .before .before .before .pre .1 .1 .1 .0 .0) in
+    omega (arith, went w .told .1 .1 .0)
+
 add-frames : tie.Need-add-frames Inv-loop μ-loop
 add-frames c =
-    let start = c .before .before .before .before .before .before .before .before .before .before .before .before .before .before .before in
+    let w = c .before .before .before .before .before .before in
+    let start = w .before .before .before .before .before .before .before .before .before in
     let a = start .args in
-    let l = c .before .before .before .before .before .before .before .before .before .before .loop in
-    let part = c .before .before .before .before .before .before .write-part in
-    let d : FrameBench = frameBench (l .next) (l .memory) (l .identification) in
-    let x : FrameBench = frameBench (part .result .core) (part .last .1 .0) (part .last .1 .1 .0) in
-    let P = ownPart (a .core) in
-    let told = part-told P (a .interval) (a .limit) (a .address) (a .bytes .now) (l .k) d (l .inv .1 .1 .1 .0) (part .ensures) in
-    let e = bench-of (afterPart P (a .interval) (a .limit) (a .address) (a .bytes .now) (l .k) d) (told .0) (told .1 .1 .1 .0) (told .1 .1 .1 .1) in
-    let most =
-    acts-most P (a .interval) (a .limit) (splitAddress 65536 128 (a .address) (length (a .bytes .now)) (l .k))
-    (piece 65536 128 (a .address) (a .bytes .now) (l .k)) d (start .pre .1 .1 .1 .0 .0) in
+    let l = w .before .before .before .before .loop in
+    let most = few-frames w in
     let few = parts-few (ownPart (a .core)) (sound-of (a .core .part)) (a .address) (length (a .bytes .now)) in
     let all = l .inv .1 .1 .0 in
     let below = c .before .before .before .before .before .before .before .before .before .loop-test .taken in
-    let counts = told .1 .1 .0 in
     omega (arith, l .inv .1 .0)
 
 wip-requires : tie.Need-wip-requires Inv-loop μ-loop
@@ -87,55 +105,32 @@ cast-t22 c =
 
 same-length : tie.Need-same-length Inv-loop μ-loop
 same-length c =
-    let start = c .before .before .before .before .before .before .before .before .before .before .before .before .before .before .before .before .before in
-    let a = start .args in
-    let l = c .before .before .before .before .before .before .before .before .before .before .before .before .loop in
-    let part = c .before .before .before .before .before .before .before .before .write-part in
-    let d : FrameBench = frameBench (l .next) (l .memory) (l .identification) in
-    let x : FrameBench = frameBench (part .result .core) (part .last .1 .0) (part .last .1 .1 .0) in
-    let P = ownPart (a .core) in
-    let told = part-told P (a .interval) (a .limit) (a .address) (a .bytes .now) (l .k) d (l .inv .1 .1 .1 .0) (part .ensures) in
-    let e = bench-of (afterPart P (a .interval) (a .limit) (a .address) (a .bytes .now) (l .k) d) (told .0) (told .1 .1 .1 .0) (told .1 .1 .1 .1) in
-    let ready : Ready P x =
-    subst (Ready P) (sym e)
-    (ready-acted-all P (sound-of (a .core .part)) (partActs P (a .interval) (a .limit) (a .address) (a .bytes .now) (l .k) d) d (l .inv .1 .1 .1 .1 .0)) in
-    ready .whole ∙ sym (start .pre .0)
+    let w = c .before .before .before .before .before .before .before .before in
+    went w .ready .whole ∙ sym (w .before .before .before .before .before .before .before .before .before .pre .0)
 
 same-length-2 : tie.Need-same-length-2 Inv-loop μ-loop
 same-length-2 c =
-    let start = c .before .before .before .before .before .before .before .before .before .before .before .before .before .before .before .before .before in
-    let a = start .args in
-    let l = c .before .before .before .before .before .before .before .before .before .before .before .before .loop in
-    let part = c .before .before .before .before .before .before .before .before .write-part in
-    let d : FrameBench = frameBench (l .next) (l .memory) (l .identification) in
-    let x : FrameBench = frameBench (part .result .core) (part .last .1 .0) (part .last .1 .1 .0) in
-    let P = ownPart (a .core) in
-    let told = part-told P (a .interval) (a .limit) (a .address) (a .bytes .now) (l .k) d (l .inv .1 .1 .1 .0) (part .ensures) in
-    let e = bench-of (afterPart P (a .interval) (a .limit) (a .address) (a .bytes .now) (l .k) d) (told .0) (told .1 .1 .1 .0) (told .1 .1 .1 .1) in
-    let ready : Ready P x =
-    subst (Ready P) (sym e)
-    (ready-acted-all P (sound-of (a .core .part)) (partActs P (a .interval) (a .limit) (a .address) (a .bytes .now) (l .k) d) d (l .inv .1 .1 .1 .1 .0)) in
-    ready .page ∙ sym (start .pre .1 .0)
+    let w = c .before .before .before .before .before .before .before .before in
+    went w .ready .page ∙ sym (w .before .before .before .before .before .before .before .before .before .pre .1 .0)
 
 returns : tie.Need-returns Inv-loop μ-loop
 returns c =
-    let start = c .before .before .before .before .before .before .before .before .before .before .before .before .before .before .before .before .before in
+    let w = c .before .before .before .before .before .before .before .before in
+    let start = w .before .before .before .before .before .before .before .before .before in
     let a = start .args in
-    let l = c .before .before .before .before .before .before .before .before .before .before .before .before .loop in
-    let part = c .before .before .before .before .before .before .before .before .write-part in
+    let l = w .before .before .before .before .loop in
+    let part = w .write-part in
     let d : FrameBench = frameBench (l .next) (l .memory) (l .identification) in
-    let x : FrameBench = frameBench (part .result .core) (part .last .1 .0) (part .last .1 .1 .0) in
     let P = ownPart (a .core) in
-    let told = part-told P (a .interval) (a .limit) (a .address) (a .bytes .now) (l .k) d (l .inv .1 .1 .1 .0) (part .ensures) in
-    let e = bench-of (afterPart P (a .interval) (a .limit) (a .address) (a .bytes .now) (l .k) d) (told .0) (told .1 .1 .1 .0) (told .1 .1 .1 .1) in
+    let left = went w in
     ended-of P (a .interval) (a .limit) (a .address) (a .bytes .now)
     (c .before .before .before .before .before .before .before .before .before .before .before .before .before .cartvesper-split-parts .result) _
     (a .sent) (frameBench (a .core) (a .memory .now) (a .identification .now)) (l .inv .1 .1 .0)
     (rest-late P (a .interval) (a .limit) (a .address) (a .bytes .now)
     (c .before .before .before .before .before .before .before .before .before .before .before .before .before .cartvesper-split-parts .result)
-    (a .sent) _ (l .k) (l .frames) (part .result .frames) d x
-    (c .before .before .before .before .before .before .before .before .before .before .before .loop-test .taken) e (told .1 .1 .0)
-    (sym (seen-wip (part .result .status) (x .core) (part .ensures .1 .0)) ∙ sym (c .before .wip .ensures) ∙ c .if1 .taken) (l .inv .1 .1 .1 .1 .1))
+    (a .sent) _ (l .k) (l .frames) (part .result .frames) d _
+    (c .before .before .before .before .before .before .before .before .before .before .before .loop-test .taken) (left .leaves) (left .told .1 .1 .0)
+    (sym (seen-wip (part .result .status) (part .result .core) (part .ensures .1 .0)) ∙ sym (c .before .wip .ensures) ∙ c .if1 .taken) (l .inv .1 .1 .1 .1 .1))
 
 add-k : tie.Need-add-k Inv-loop μ-loop
 add-k c =
@@ -157,30 +152,23 @@ loop-less c =
 
 loop-again : tie.Need-loop-again Inv-loop μ-loop
 loop-again c =
-    let start = c .before .before .before .before .before .before .before .before .before .before .before .before .before .before .before .before .before in
+    let w = c .before .before .before .before .before .before .before .before in
+    let start = w .before .before .before .before .before .before .before .before .before in
     let a = start .args in
-    let l = c .before .before .before .before .before .before .before .before .before .before .before .before .loop in
-    let part = c .before .before .before .before .before .before .before .before .write-part in
+    let l = w .before .before .before .before .loop in
+    let part = w .write-part in
     let d : FrameBench = frameBench (l .next) (l .memory) (l .identification) in
-    let x : FrameBench = frameBench (part .result .core) (part .last .1 .0) (part .last .1 .1 .0) in
     let P = ownPart (a .core) in
-    let told = part-told P (a .interval) (a .limit) (a .address) (a .bytes .now) (l .k) d (l .inv .1 .1 .1 .0) (part .ensures) in
-    let e = bench-of (afterPart P (a .interval) (a .limit) (a .address) (a .bytes .now) (l .k) d) (told .0) (told .1 .1 .1 .0) (told .1 .1 .1 .1) in
-    let most =
-    acts-most P (a .interval) (a .limit) (splitAddress 65536 128 (a .address) (length (a .bytes .now)) (l .k))
-    (piece 65536 128 (a .address) (a .bytes .now) (l .k)) d (start .pre .1 .1 .1 .0 .0) in
-    let ready : Ready P x =
-    subst (Ready P) (sym e)
-    (ready-acted-all P (sound-of (a .core .part)) (partActs P (a .interval) (a .limit) (a .address) (a .bytes .now) (l .k) d) d (l .inv .1 .1 .1 .1 .0)) in
+    let left = went w in
+    let most = few-frames w in
     let below = c .before .before .before .before .before .before .before .before .before .before .before .loop-test .taken in
-    let counts = told .1 .1 .0 in
-    let stays = own-acted P (partActs P (a .interval) (a .limit) (a .address) (a .bytes .now) (l .k) d) d (told .0) ∙ l .inv .1 .1 .1 .0 in
+    let counts = left .told .1 .1 .0 in
     let parts = c .before .before .before .before .before .before .before .before .before .before .before .before .before .cartvesper-split-parts .result in
-    let idle = sym (seen-wip (part .result .status) (x .core) (part .ensures .1 .0)) ∙ sym (c .before .wip .ensures) ∙ c .if1 .left in
+    let idle = sym (seen-wip (part .result .status) (part .result .core) (part .ensures .1 .0)) ∙ sym (c .before .wip .ensures) ∙ c .if1 .left in
     let rest =
-    rest-next P (a .interval) (a .limit) (a .address) (a .bytes .now) parts (a .sent) _ (l .k) (l .frames) (part .result .frames) d x below e counts idle
+    rest-next P (a .interval) (a .limit) (a .address) (a .bytes .now) parts (a .sent) _ (l .k) (l .frames) (part .result .frames) d _ below (left .leaves) counts idle
     (l .inv .1 .1 .1 .1 .1) in
-    (omega arith, (omega (arith, l .inv .1 .0), (l .inv .1 .1 .0, (stays, (ready, rest)))))
+    (omega arith, (omega (arith, l .inv .1 .0, start .pre .1 .1 .1 .0 .1), (l .inv .1 .1 .0, (left .stays, (left .ready, rest)))))
 
 cast-t25 : tie.Need-cast-t25 Inv-loop μ-loop
 cast-t25 c =

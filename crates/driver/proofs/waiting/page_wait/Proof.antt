@@ -10,7 +10,8 @@ use Rattle.frames.specs.Play.{FrameBench, acted, frameBench}
 use Rattle.driver.specs.Sequence.{moved, pollsOn}
 use Rattle.driver.proofs.Ready.{bench-of, ready-acted-all, own-acted, own-ranges}
 use Rattle.driver.proofs.Waits.{sent-most}
-use Rattle.driver.proofs.Joined.{Told, told, late-poll-leaves, page-wait}
+use Rattle.driver.specs.Told.{Told}
+use Rattle.driver.proofs.Joined.{told, late-poll-leaves, page-wait}
 use borrow.Author.Needs.{needs}
 use Rattle.driver.proofs.waiting.page_wait.Statement.{statement}
 use Rattle.driver.proofs.waiting.page_wait.Tie as tie
