@@ -34,7 +34,13 @@ returns c =
     let es = a .events .now in
     let x = a .device in
     let m = lent (a .memory .now) (a .identification .now) in
-    let o = play-done (devicePart x) x m es (length (a .out .now)) (sym (c .before .before .before .before .before .before .before .before .before .before .before .before .before .before .before .before .lent-fits .ensures) ∙ c .before .before .before .before .before .before .before .before .before .before .before .before .before .before .before .if1 .taken) (sym (c .before .before .before .before .before .before .before .before .before .before .before .before .before .before .in-ranges .ensures) ∙ c .before .before .before .before .before .before .before .before .before .before .before .before .before .if2 .taken) (sym (c .before .before .before .before .before .before .before .before .before .before .before .before .are-events .ensures) ∙ c .before .before .before .before .before .before .before .before .before .before .before .if3 .taken) (c .before .before .before .before .before .before .before .before .before .before .if4 .taken) in
+    let room = c .before .before .before .before .before .before .before .before .before .before in
+    let events = room .before in
+    let ranges = events .before .before in
+    let fits = ranges .before .before in
+    let o = play-done (devicePart x) x m es (length (a .out .now)) (sym (fits .before .lent-fits .ensures) ∙ fits .if1 .taken)
+    (sym (ranges .before .in-ranges .ensures) ∙ ranges .if2 .taken) (sym (events .before .are-events .ensures) ∙ events .if3 .taken)
+    (room .if4 .taken) in
     let r = c .before .before .before .before .before .before .play-all .ensures in
     play-taken (devicePart x) x m es (length (a .out .now)) (a .out .now) o (r .0) (r .1 .0) (r .1 .1 .0) (r .1 .1 .1)
 

@@ -1,6 +1,7 @@
 use native.Mathlib.Numerals.{add-one}
 use native.Mathlib.Omega.{arith}
 use Prim.Native.Nat.{ℕ, suc, _≤_, _-_}
+use mathlib.Core.Bool.{Bool, false}
 use mathlib.Core.List.{List}
 use mathlib.Core.Logic.{⊎-elim}
 use mathlib.Core.Path.{_≡_, refl, ap, sym, _∙_}
@@ -17,6 +18,7 @@ use Rattle.pins.specs.Devices.{devicePart, q}
 use Rattle.edges.specs.Falling.{levelNumber}
 use Rattle.chip.specs.Records.{ownPart, waitsPage, waitsIdentification}
 use Rattle.chip.specs.declared.Core.{Core}
+use Rattle.chip.specs.declared.Waiting.{Waiting}
 use Rattle.latch.specs.declared.Latch.{Latch}
 use Rattle.pins.specs.declared.Device.{Device}
 use Rattle.pins.specs.declared.Event.{Event}
@@ -159,125 +161,111 @@ no-q : (P : Part) {x : Device} (y : Device) {s h : ℕ} → x ≡ withoutFrame P
 unfolding q
 no-q P y {s = s} {h = h} e = rw e (sym (none-shown s h 0))
 
+-- what a way leaves of lent cells: those after it, and as many
+abbrev Cells : (Waiting → Bool) → Event → Way → Device → List ℕ → List ℕ → Type 0
+Cells theirs e w x m n = (n ≡ afterWayCells theirs (devicePart x) e w x m) × (length n ≡ length m)
+
+-- of both that are lent
+abbrev Lents : Event → Way → PinBench → List ℕ → List ℕ → Type 0
+Lents e w b m d = Cells waitsPage e w (b .device) (b .memory) m × Cells waitsIdentification e w (b .device) (b .identification) d
+
+-- by an arm that hands them on
+cells-same : (theirs : Waiting → Bool) (e : Event) (w : Way) (x : Device) {m n : List ℕ} → isWhole w ≡ false → n ≡ m
+    → Cells theirs e w x m n
+cells-same theirs e w x h p = (no-so _ h p, ap length p)
+
+lents-same : (e : Event) (w : Way) (b : PinBench) {m d : List ℕ} → isWhole w ≡ false → m ≡ b .memory → d ≡ b .identification
+    → Lents e w b m d
+lents-same e w b h p r = (cells-same waitsPage e w (b .device) h p, cells-same waitsIdentification e w (b .device) h r)
+
 -- by each arm: the device and what is lent are those after the way, and Q is what the device shows
 gone : (c : tie.At-match-came Inv-loop μ-loop) → let e = c .before .before .before .event-of .result in let w = c .before .way-for .result in
     (Moved c ≡ afterWay (devicePart (Head c .device)) (lentTo (Head c)) e w (Head c .device))
-    × (c .match .memory ≡ afterWayCells waitsPage (devicePart (Head c .device)) e w (Head c .device) (Head c .memory))
-    × (c .match .identification ≡ afterWayCells waitsIdentification (devicePart (Head c .device)) e w (Head c .device) (Head c .identification))
-    × (c .match .q ≡ levelNumber (q (Moved c)))
-    × (length (c .match .memory) ≡ length (Head c .memory)) × (length (c .match .identification) ≡ length (Head c .identification))
+    × (c .match .q ≡ levelNumber (q (Moved c))) × Lents e w (Head c) (c .match .memory) (c .match .identification)
 unfolding q zeros
 gone c =
+    let event = c .before .before .before .event-of .result in
+    let way = c .before .way-for .result in
     let l = c .before .before .before .before .before .before .loop in
     let a : Latch = record { bytes = l .bytes; marks = l .marks } in
     ⊎-elim
     -- Data
     (λ w. (
       rw (w .5, w .6, w .7, w .8, w .1 .given .1) refl,
-      w .3 ∙ no-so _ (ap isWhole (w .1 .given .1)) refl,
-      w .4 ∙ no-so _ (ap isWhole (w .1 .given .1)) refl,
       rw (w .9, w .5) (l .inv .6),
-      ap length (w .3),
-      ap length (w .4),
+      lents-same event way (Head c) (ap isWhole (w .1 .given .1)) (w .3) (w .4),
     ))
     (⊎-elim
     -- Set
     (λ w. (
       rw (w .6, w .7, w .8, w .9, w .1 .given .1) refl,
-      w .4 ∙ no-so _ (ap isWhole (w .1 .given .1)) refl,
-      w .5 ∙ no-so _ (ap isWhole (w .1 .given .1)) refl,
       rw (w .10, w .6) (w .3 .ensures a (l .core)),
-      ap length (w .4),
-      ap length (w .5),
+      lents-same event way (Head c) (ap isWhole (w .1 .given .1)) (w .4) (w .5),
     ))
     (⊎-elim
     -- Rise
     (λ w. (
       rw (w .5, w .6, w .7, w .8, w .1 .given .1) refl,
-      w .3 ∙ no-so _ (ap isWhole (w .1 .given .1)) refl,
-      w .4 ∙ no-so _ (ap isWhole (w .1 .given .1)) refl,
       rw (w .9, w .5) (l .inv .6),
-      ap length (w .3),
-      ap length (w .4),
+      lents-same event way (Head c) (ap isWhole (w .1 .given .1)) (w .3) (w .4),
     ))
     (⊎-elim
     -- Code
     (λ w. (
       rw (w .7, w .8, w .9, w .10, w .4 .ensures, w .1 .given .1) refl,
-      w .5 ∙ no-so _ (ap isWhole (w .1 .given .1)) refl,
-      w .6 ∙ no-so _ (ap isWhole (w .1 .given .1)) refl,
       rw (w .11, w .7) (l .inv .6),
-      ap length (w .5),
-      ap length (w .6),
+      lents-same event way (Head c) (ap isWhole (w .1 .given .1)) (w .5) (w .6),
     ))
     (⊎-elim
     -- Byte
     (λ w. (
       rw (w .5, w .6, w .7, w .8, w .1 .given .1) refl,
-      w .3 ∙ no-so _ (ap isWhole (w .1 .given .1)) refl,
-      w .4 ∙ no-so _ (ap isWhole (w .1 .given .1)) refl,
       rw (w .9, w .5) (l .inv .6),
-      ap length (w .3),
-      ap length (w .4),
+      lents-same event way (Head c) (ap isWhole (w .1 .given .1)) (w .3) (w .4),
     ))
     (⊎-elim
     -- Latched
     (λ w. (
       rw (w .9, w .10, w .11, w .12, w .6 .ensures .0, w .6 .ensures .1, w .1 .given .1) refl,
-      w .7 ∙ no-so _ (ap isWhole (w .1 .given .1)) refl,
-      w .8 ∙ no-so _ (ap isWhole (w .1 .given .1)) refl,
       rw (w .13, w .9) (l .inv .6),
-      ap length (w .7),
-      ap length (w .8),
+      lents-same event way (Head c) (ap isWhole (w .1 .given .1)) (w .7) (w .8),
     ))
     (⊎-elim
     -- Fall
     (λ w. (
       rw (w .6, w .7, w .8, w .9, w .1 .given .1) refl,
-      w .4 ∙ no-so _ (ap isWhole (w .1 .given .1)) refl,
-      w .5 ∙ no-so _ (ap isWhole (w .1 .given .1)) refl,
       rw (w .10, w .6) (w .3 .ensures a (l .core)),
-      ap length (w .4),
-      ap length (w .5),
+      lents-same event way (Head c) (ap isWhole (w .1 .given .1)) (w .4) (w .5),
     ))
     (⊎-elim
     -- Select
     (λ w. (
       rw (w .6, w .7, w .8, w .9, w .1 .given .1) (w .3 .ensures _),
-      w .4 ∙ no-so _ (ap isWhole (w .1 .given .1)) refl,
-      w .5 ∙ no-so _ (ap isWhole (w .1 .given .1)) refl,
       rw (w .10, w .6) (no-q (devicePart (Head c .device)) (Head c .device) (w .3 .ensures (l .core))),
-      ap length (w .4),
-      ap length (w .5),
+      lents-same event way (Head c) (ap isWhole (w .1 .given .1)) (w .4) (w .5),
     ))
     (⊎-elim
     -- Drop
     (λ w. (
       rw (w .6, w .7, w .8, w .9, w .1 .given .1) (w .3 .ensures _),
-      w .4 ∙ no-so _ (ap isWhole (w .1 .given .1)) refl,
-      w .5 ∙ no-so _ (ap isWhole (w .1 .given .1)) refl,
       rw (w .10, w .6) (no-q (devicePart (Head c .device)) (Head c .device) (w .3 .ensures (l .core))),
-      ap length (w .4),
-      ap length (w .5),
+      lents-same event way (Head c) (ap isWhole (w .1 .given .1)) (w .4) (w .5),
     ))
     (⊎-elim
     -- Pass
     (λ w. (
       rw (w .5, w .6, w .7, w .8, w .1 .given .1) refl,
-      w .3 ∙ no-so _ (ap isWhole (w .1 .given .1)) refl,
-      w .4 ∙ no-so _ (ap isWhole (w .1 .given .1)) refl,
       rw (w .9, w .5) (l .inv .6),
-      ap length (w .3),
-      ap length (w .4),
+      lents-same event way (Head c) (ap isWhole (w .1 .given .1)) (w .3) (w .4),
     ))
     -- Whole
     (λ w. (
       rw (w .19, w .20, w .21, w .22, w .12 .ensures, w .5 .ensures .0, w .2 .ensures, w .1 .given .1) refl,
-      rw (w .17, w .5 .ensures .1 .0, w .2 .ensures) (yes-so _ (ap isWhole (w .1 .given .1)) refl),
-      rw (w .18, w .5 .ensures .1 .1, w .2 .ensures) (yes-so _ (ap isWhole (w .1 .given .1)) refl),
       rw (w .23, w .19) (w .16 .ensures a (l .core)),
-      rw (w .17) (omega (arith, w .6 .given)),
-      rw (w .18) (omega (arith, w .8 .given)),
+      (
+        (rw (w .17, w .5 .ensures .1 .0, w .2 .ensures) (yes-so _ (ap isWhole (w .1 .given .1)) refl), rw (w .17) (omega (arith, w .6 .given))),
+        (rw (w .18, w .5 .ensures .1 .1, w .2 .ensures) (yes-so _ (ap isWhole (w .1 .given .1)) refl), rw (w .18) (omega (arith, w .8 .given))),
+      ),
     )))))))))))
     (c .match .came)
 
@@ -307,9 +295,8 @@ after-event c =
     let told : pinBench (Moved c) (c .match .memory) (c .match .identification) ≡ after event =
     rw (
       gone c .0 ∙ does .0 (l .identification) a,
-      gone c .1 ∙ does .1 waitsPage a (l .memory),
-      gone c .2 ∙ does .1 waitsIdentification a
-          (l .identification),
+      gone c .2 .0 .0 ∙ does .1 waitsPage a (l .memory),
+      gone c .2 .1 .0 ∙ does .1 waitsIdentification a (l .identification),
     ) refl in
     told ∙ ap after (c .before .before .before .event-of .ensures)
 
@@ -328,15 +315,15 @@ loop-again c =
     after-event c ∙ ap (λ (n : ℕ). afterEvent (partOf n) (getD es (l .i) 0) (Head c)) kept
     ∙ ap (afterEvent P (getD es (l .i) 0)) (l .inv .4) ∙ sym (played-more P es (l .i) b (omega arith)) in
     let level : c .match .q ≡ getD (playedQ P es b) (l .i) 0 =
-    gone c .3 ∙ ap (λ (x : PinBench). levelNumber (q (x .device))) more ∙ sym (q-at P es (l .i) b (omega arith)) in (
+    gone c .1 ∙ ap (λ (x : PinBench). levelNumber (q (x .device))) more ∙ sym (q-at P es (l .i) b (omega arith)) in (
       omega arith,
       simp length-set (omega arith),
-      gone c .4 ∙ l .inv .2,
-      gone c .5 ∙ l .inv .3,
+      gone c .2 .0 .1 ∙ l .inv .2,
+      gone c .2 .1 .1 ∙ l .inv .3,
       rw add-one more,
       rw (l .inv .5) (filled-more (a .out .now) (playedQ P es b) 0 (l .i) (c .match .q)
           (sym (q-length P es b ∙ sym (c .before .before .before .before .before .before .before .before .before .before .before .before .before .before .before .before .before .before .pre))) (omega arith) level),
-      gone c .3,
+      gone c .1,
     )
 
 whole-requires-2 : tie.Need-whole-requires-2 Inv-loop μ-loop
