@@ -4,7 +4,7 @@
  *
  * The device is a record. Its cells are the caller's: the memory and, right after it in each call that may look at
  * them, the 128 bytes of the identification page. The M95512 has no such page, but its calls are lent one too, and
- * leave it as it was.
+ * leave it as it was. The M95512-D's instructions 82h and 83h are not there yet: both parts ignore them.
  *
  * Every call answers every input. A caller must guarantee only that a pointer and the length beside it name bytes that
  * are there (a null pointer with length 0 is an empty slice), and that what is lent to be written overlaps nothing else
@@ -12,9 +12,9 @@
  * bytes.
  *
  * Each answer's `number` is CARTVESPER_DONE or a refusal, 1 to 8 or 12. Where several apply the lowest is given.
- * Everything lent and every record then comes back byte for byte as it was, and every count and every `value` is 0. (6
- * comes from power-up alone, which takes no record: it gives the delivered one.) 9 and 13 are of the driver alone, and
- * come after frames were sent: they say how a run ended before its last page.
+ * Everything lent and every record then comes back byte for byte as it was, and every count and every `value` is 0.
+ * (Power-up takes no record: where it refuses, with 2 or 6, it gives the delivered one.) 9 and 13 are of the driver
+ * alone, and come after frames were sent: they say how a run ended before its last page.
  */
 #ifndef CARTVESPER_H
 #define CARTVESPER_H
