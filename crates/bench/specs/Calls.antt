@@ -66,7 +66,7 @@ lowestProtectedCall P c = valueAnswer (lowestNumber P c) (lowestValue P c)
 abbrev pub protectedCall : Part → Core → ℕ → Value
 protectedCall P c a = valueAnswer (questionNumber P c a) (questionValue P c a)
 
--- how many cells the running cycle will touch: the marked ones, 0 where no page waits
+-- how many cells the running cycle will touch: the marked ones, 0 where no latched bytes wait
 abbrev pub touchedCall : Part → Bool → Core → Value
 touchedCall P fits c = valueAnswer (touchedChoice fits 2 0) (touchedChoice fits 0 (cellsMarked P c))
 

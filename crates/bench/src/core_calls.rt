@@ -117,7 +117,7 @@ pub extern "C" fn cartvesper_core_lowest_protected(core: Core) -> Value
     }
 }
 
-// How many cells the running cycle will touch, 0 where no page waits. Refusal 2.
+// How many cells the running cycle will touch, 0 where no latched bytes wait. Refusal 2.
 #[no_mangle]
 pub extern "C" fn cartvesper_core_touched(core: Core) -> Value
     ensures { λ r. ⌜ r ≡ touchedCall (ownPart core) (inRanges (ownPart core) core) core ⌝ }

@@ -208,7 +208,7 @@ pub extern "C" fn cartvesper_device_status(device: Device) -> Value
     }
 }
 
-// How many cells the running cycle will touch, 0 where no page waits. Refusal 2.
+// How many cells the running cycle will touch, 0 where no latched bytes wait. Refusal 2.
 #[no_mangle]
 pub extern "C" fn cartvesper_device_touched(device: Device) -> Value
     ensures { λ r. ⌜ r ≡ touchedCall (devicePart device) (deviceFits (devicePart device) device) (device .core) ⌝ }

@@ -1,4 +1,4 @@
--- How many cells a cycle will touch: an answer with its number and its value; and 0 where no page waits.
+-- How many cells a cycle will touch: an answer with its number and its value; and 0 where no latched bytes wait.
 use Prim.Native.Nat.{ℕ}
 use mathlib.Core.Path.{_≡_, refl, ap, _∙_, sym}
 use mathlib.Core.Bool.{Bool, true, false, _&&_}

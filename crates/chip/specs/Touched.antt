@@ -1,6 +1,6 @@
--- How many cells the running cycle will touch: the marks of the page that waits. Where no page waits nothing is marked,
--- so the answer is 0. The question is asked of the core record and of a device of the pin model: `fits` says whether
--- the record is inside its ranges.
+-- How many cells the running cycle will touch: the marks of the latched bytes that wait. Where none wait nothing is
+-- marked, so the answer is 0. The question is asked of the core record and of a device of the pin model: `fits` says
+-- whether the record is inside its ranges.
 use Prim.Native.Nat.{ℕ}
 use mathlib.Core.Bool.{Bool}
 use Rattle.laws.specs.Pick.{pick}

@@ -18,7 +18,7 @@ impl Core {
         latch.touched()
     }
 
-    // How many cells the running cycle will touch, 0 where no page waits: 2 for a record outside its ranges.
+    // How many cells the running cycle will touch, 0 where no latched bytes wait: 2 for a record outside its ranges.
     pub fn cells_touched(self) -> Touched
         ensures { λ r. ⌜ r ≡ touchedAnswer (ownPart self) (inRanges (ownPart self) self) self ⌝ }
         ensures { λ r. ⌜ touchedNumber r ≡ touchedChoice (inRanges (ownPart self) self) 2 0 ⌝ }

@@ -66,7 +66,7 @@ pub enum Protection {
     Refused(Refusal),
 }
 
-// How many cells the running cycle will touch, 0 where no page waits.
+// How many cells the running cycle will touch, 0 where no latched bytes wait.
 pub enum Touched {
     Cells(u32),
     Refused(Refusal),

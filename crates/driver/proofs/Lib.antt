@@ -1,4 +1,5 @@
--- The facts that the functions' proofs share, and that two results are equal. The theorems on runs are those of `runs`.
+-- The facts that the functions' proofs share, and that two results are equal. The theorems on runs are in
+-- `driver_theorems`.
 pub mod Playing
 pub mod Frames
 pub mod Ready

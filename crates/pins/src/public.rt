@@ -176,7 +176,7 @@ impl Device {
         StatusAnswer::Refused(Refusal::RecordRange)
     }
 
-    // How many cells the running cycle will touch, 0 where no page waits. 2 for a device outside its ranges.
+    // How many cells the running cycle will touch, 0 where no latched bytes wait. 2 for a device outside its ranges.
     pub fn cells_touched(self) -> Touched
         ensures { λ r. ⌜ r ≡ touchedAnswer (devicePart self) (deviceFits (devicePart self) self) (self .core) ⌝ }
         ensures { λ r. ⌜ touchedNumber r ≡ touchedChoice (deviceFits (devicePart self) self) 2 0 ⌝ }
