@@ -1,4 +1,5 @@
-// The driver: writes any run of bytes as page writes, over the frame model and by its promises alone.
+// The driver: writes any run of bytes as page writes. WREN and WRITE go through the frame model's promise; a wait reads
+// the record's status and steps its time (docs/DECISIONS.md, Forms).
 //
 // It waits until no cycle runs, reads from the status byte that ended that wait where protection starts, and refuses a
 // run that touches the block. Else it sends WREN and WRITE for each page part and waits for the end of its cycle. It
