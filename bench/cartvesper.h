@@ -4,7 +4,7 @@
  *
  * The device is a record. Its cells are the caller's: the memory and, right after it in each call that may look at
  * them, the 128 bytes of the identification page. The M95512 has no such page, but its calls are lent one too, and
- * leave it as it was. The M95512-D's instructions 82h and 83h are not there yet: both parts ignore them.
+ * leave it as it was. The M95512-D reads its page and the page's lock with 83h, and writes and sets them with 82h.
  *
  * Every call answers every input. A caller must guarantee only that a pointer and the length beside it name bytes that
  * are there (a null pointer with length 0 is an empty slice), and that what is lent to be written overlaps nothing else
@@ -67,15 +67,26 @@ enum {
 /* Bytes of an exported HEX text. */
 enum { CARTVESPER_HEX_TEXT = 180236 };
 
-/* The instruction codes. */
+/* The instruction codes. Any other waits in silence for deselect; on the M95512 the last two are among those. */
 enum {
     CARTVESPER_WREN = 0x06,
     CARTVESPER_WRDI = 0x04,
     CARTVESPER_RDSR = 0x05,
     CARTVESPER_WRSR = 0x01,
     CARTVESPER_READ = 0x03,
-    CARTVESPER_WRITE = 0x02
+    CARTVESPER_WRITE = 0x02,
+    CARTVESPER_RDID = 0x83, /* of the M95512-D */
+    CARTVESPER_WRID = 0x82
 };
+
+/* RDID (83h) and WRID (82h) take two address bytes, as READ and WRITE do. Bit 10 of the address says what is meant:
+ *   0 the identification page. The low 7 bits pick the cell, and both roll within the page. 83h shows the cells from
+ *     there on. 82h writes them, with the bit counts of WRITE
+ *   1 the lock. 83h shows it again and again, as 00h or 01h (RDLS). 82h sets it for good (LID): with exactly 32 bits,
+ *     and bit 1 of the data byte at 1
+ * 83h is ignored in a cycle, as READ is. 82h needs WEL, no cycle, lock 0, and BP1 and BP0 not both 1; W and SRWD do not
+ * matter to it. It runs a cycle, and the lock shows when that ends. */
+enum { CARTVESPER_LOCK_ADDRESS = 0x400, CARTVESPER_LOCK_DATA = 0x02 };
 
 /* The value of Q where it is not driven. */
 enum { CARTVESPER_Z = 2 };
@@ -140,10 +151,10 @@ typedef struct {
     uint8_t partial; /* their values */
     uint8_t code;    /* the instruction byte */
     uint8_t ran;     /* a cycle ran at the eighth edge */
-    uint8_t value;   /* the WRSR data byte */
+    uint8_t value;   /* the data byte of WRSR, or of an 82h that sets the lock: its first */
     uint8_t out;     /* the output byte */
     uint8_t shown;   /* its bits shown, 0 to 8 */
-    uint32_t address;
+    uint32_t address; /* as taken, then of the next data byte; 82h and 83h keep all but its low 7 bits */
     cartvesper_latch latch;
 } cartvesper_frame_part;
 
@@ -244,7 +255,7 @@ cartvesper_device_answer cartvesper_device_power_up(uint8_t part, uint8_t lock, 
                                                     uint8_t bp1, uint8_t bp0, uint32_t reading);
 /* One pin to a level: S falling selects and S rising ends the frame; C rising takes the bit on D, C falling moves Q,
  * so it is lent the cells that a frame may show; HOLD pauses while C is low. S rising in a pause drops the frame,
- * unless it is a WRITE: that is executed where its count and its conditions allow, as it is outside a pause. */
+ * unless it is a WRITE (02h): that is executed where its count and its conditions allow, as it is outside a pause. */
 cartvesper_device_answer cartvesper_device_set_s(cartvesper_device device, uint8_t level);
 cartvesper_device_answer cartvesper_device_set_c(cartvesper_device device, uint8_t level, const uint8_t *memory,
                                                  size_t size, const uint8_t *identification, size_t cells);

@@ -13,6 +13,7 @@
 
 enum { MEMORY = CARTVESPER_MEMORY, IDENTIFICATION = CARTVESPER_IDENTIFICATION, LONGEST = CARTVESPER_LONGEST_FRAME };
 enum { ROLES = 4, ROOM = 1 << 18 }; /* memory, input, output, identification page; room for the longest slice */
+enum { MOST_DRAWN = 3 + IDENTIFICATION + 4 }; /* bytes of a frame at the pins: around the page's end */
 
 static int on_heap;
 static uint8_t *areas[ROLES];
@@ -102,20 +103,38 @@ static size_t random_length(void)
         return 0;
     case 1:
         return below(20) == 0 ? LONGEST - 1 + below(3) : 3;
+    case 2:
+        return 4; /* of a frame that sets the lock */
     default:
         return 1 + below(300);
     }
 }
 
+static uint8_t random_code(void)
+{
+    static const uint8_t codes[] = {CARTVESPER_WREN, CARTVESPER_WRDI,  CARTVESPER_RDSR, CARTVESPER_WRSR,
+                                    CARTVESPER_READ, CARTVESPER_READ,  CARTVESPER_RDID, CARTVESPER_RDID,
+                                    CARTVESPER_WRID, CARTVESPER_WRITE, CARTVESPER_WRID, CARTVESPER_WRITE};
+    return codes[below(sizeof codes)];
+}
+
+/* WEL and an open lock by hand, so that frames that need them are executed: inside the ranges at any time */
+static void enable(cartvesper_core *one)
+{
+    if (below(2)) {
+        one->wel = 1;
+        one->lock = 0;
+    }
+}
+
 static void check_frame(slices lent)
 {
-    static const uint8_t codes[] = {CARTVESPER_WREN, CARTVESPER_WRDI,  CARTVESPER_RDSR,  CARTVESPER_WRSR,
-                                    CARTVESPER_READ, CARTVESPER_WRITE, CARTVESPER_WRITE, CARTVESPER_READ};
     size_t length = random_length(), room = about(length);
     uint8_t *bytes = lend(1, length, 1), *out = lend(2, room, 1);
     fill(bytes, length);
     if (length > 0)
-        bytes[0] = codes[below(8)];
+        bytes[0] = random_code();
+    enable(&core);
     size_t bits = length == 0 ? 0 : 8 * length - (below(4) ? 0 : below(9));
     cartvesper_frame_answer answer =
         cartvesper_frame(core, LENT(lent), (uint8_t)below(2), bytes, length, bits, out, room);
@@ -133,13 +152,42 @@ static void check_reading(slices lent)
     device = cartvesper_device_set_c(device, (uint8_t)below(2), LENT(lent)).device;
 }
 
+/* a frame of whole bytes drawn in mode 0, from a deselect on: 5 events, and 3 for each bit */
+static void draw(uint64_t *events, size_t length)
+{
+    uint8_t bytes[MOST_DRAWN];
+    fill(bytes, length);
+    bytes[0] = random_code();
+    *events++ = cartvesper_event(CARTVESPER_EVENT_S, 1);
+    *events++ = cartvesper_event(CARTVESPER_EVENT_HOLD, 1);
+    *events++ = cartvesper_event(CARTVESPER_EVENT_C, 0);
+    *events++ = cartvesper_event(CARTVESPER_EVENT_S, 0);
+    for (size_t bit = 0; bit < 8 * length; bit++) {
+        *events++ = cartvesper_event(CARTVESPER_EVENT_D, bytes[bit / 8] >> (7 - bit % 8) & 1);
+        *events++ = cartvesper_event(CARTVESPER_EVENT_C, 1);
+        *events++ = cartvesper_event(CARTVESPER_EVENT_C, 0);
+    }
+    *events = cartvesper_event(CARTVESPER_EVENT_S, 1);
+}
+
+/* mostly clock edges, so that frames come about */
+static void scatter(uint64_t *events, size_t count)
+{
+    for (size_t i = 0; i < count; i++)
+        events[i] = below(5000) ? cartvesper_event(below(3) ? CARTVESPER_EVENT_C : below(6), below(2)) : ~0ULL;
+}
+
 static void check_play(slices lent)
 {
-    size_t count = below(400), room = about(count);
+    size_t drawn = below(2) ? 0 : 1 + below(below(4) ? 12 : MOST_DRAWN);
+    size_t count = drawn ? 5 + 24 * drawn : below(400), room = about(count);
     uint64_t *events = lend(1, count, sizeof *events);
     uint8_t *out = lend(2, room, 1);
-    for (size_t i = 0; i < count; i++) /* mostly clock edges, so that frames come about */
-        events[i] = below(5000) ? cartvesper_event(below(3) ? CARTVESPER_EVENT_C : below(6), below(2)) : ~0ULL;
+    if (drawn)
+        draw(events, drawn);
+    else
+        scatter(events, count);
+    enable(&device.core);
     cartvesper_device_answer answer = cartvesper_device_play(device, LENT(lent), events, count, out, room);
     if (answer.number == 0)
         look(out, room);
@@ -212,7 +260,9 @@ static void begin_cycle(cartvesper_core *idle)
 static void check_write(slices lent)
 {
     size_t length = random_length();
-    uint64_t address = below(4) ? below(MEMORY + 1) : length <= MEMORY ? MEMORY - length + below(2) : 0 - (uint64_t)length;
+    uint64_t address = length <= MEMORY ? MEMORY - length + below(2) : 0 - (uint64_t)length;
+    if (below(4))
+        address = below(MEMORY + 1);
     uint8_t *bytes = lend(1, length, 1);
     fill(bytes, length);
     uint32_t interval = 500 + below(4600), limit = below(3) ? 5001 : below(12);

@@ -10,6 +10,8 @@
 
 enum { WREN = CARTVESPER_WREN, WRDI = CARTVESPER_WRDI, RDSR = CARTVESPER_RDSR };
 enum { WRSR = CARTVESPER_WRSR, READ = CARTVESPER_READ, WRITE = CARTVESPER_WRITE };
+enum { RDID = CARTVESPER_RDID, WRID = CARTVESPER_WRID, M95512D = CARTVESPER_M95512D };
+enum { LOCK_ADDRESS = CARTVESPER_LOCK_ADDRESS, LOCK_DATA = CARTVESPER_LOCK_DATA };
 enum { MEMORY = CARTVESPER_MEMORY, PAGE = CARTVESPER_PAGE, LONGEST = CARTVESPER_LONGEST_FRAME, GUARD = 64 };
 enum { WORD = 64, WORDS = PAGE / WORD }; /* of marks */
 enum { SET_S, SET_C, SET_D, SET_W, SET_HOLD, CLOCK };
@@ -72,15 +74,22 @@ static uint8_t frame_bytes[LONGEST + 3];
 
 /* ---- counts */
 
+/* an 82h of the M95512-D, executed or ignored: the first test that fails */
+enum { EXECUTED, IN_CYCLE, WITHOUT_WEL, BY_COUNT, LOCKED, BP_11, IN_HOLD, BY_DATA, CAUSES };
+
 static struct {
-    uint64_t calls, frames, executed, events, readings, lists, listed, spoiled, cycles, cells, driven, drawn, unreached, damaged, damaged_calls, swept;
+    uint64_t calls, frames, executed, events, readings, lists, listed, spoiled, cycles, cells, driven, drawn;
+    uint64_t unreached, damaged, damaged_calls, swept;
     uint64_t runs, moved, pages, sent, parts; /* of the driver and the split */
     uint64_t asked, some, marked;             /* cells touched: asked for, not 0; latches made cell by cell */
     uint64_t lays, unlaid, laws, ordered;     /* page writes laid over, refused; laws; pairs whose order matters */
-    uint64_t bytewise, stored;                /* WRITEs laid byte by byte; pages stored by two writes and by one */
+    uint64_t bytewise, stored;                /* writes laid byte by byte; pages stored by two of them and by one */
     uint64_t twice, busy;                     /* runs sent twice, both done; a cycle ran at the first one's start */
     uint64_t identified, locked;              /* cycles that stored the identification page, the lock */
     uint64_t kept, parts_swept;               /* its cells changed; records made of each part, lock and kind */
+    uint64_t by_page[CAUSES], by_lock[CAUSES]; /* 82h of the M95512-D, for the page and for the lock */
+    uint64_t page_shown, lock_shown, unshown; /* its 83h past the address; those that drove nothing */
+    uint64_t unknown, fields_swept;           /* 82h and 83h of the M95512; frames in hand made field by field */
     uint64_t numbers[14];                     /* answers by their number */
 } counts;
 
@@ -381,6 +390,79 @@ static void count_cycle_end(const cartvesper_core *before, const cartvesper_core
     counts.locked += before->waits.kind == 4;
 }
 
+/* an 82h or an 83h at its deselect, of the frame model or of the pins: `taken` whole bytes, of more than five five */
+typedef struct {
+    uint8_t code, ran, taken, part_of_byte, data, held, shown;
+    uint32_t address;
+} ended;
+
+static int cause_of(const cartvesper_core *core, ended one)
+{
+    int lock = (one.address & LOCK_ADDRESS) != 0;
+    if (one.ran)
+        return IN_CYCLE;
+    if (!core->wel)
+        return WITHOUT_WEL;
+    if (one.part_of_byte || one.taken < 4 || (lock && one.taken > 4))
+        return BY_COUNT;
+    if (core->lock)
+        return LOCKED;
+    if (core->bp1 && core->bp0)
+        return BP_11;
+    if (one.held)
+        return IN_HOLD;
+    return lock && !(one.data & LOCK_DATA) ? BY_DATA : EXECUTED;
+}
+
+static void count_wrid(const cartvesper_core *before, const cartvesper_core *after, ended one)
+{
+    int cause = cause_of(before, one), lock = (one.address & LOCK_ADDRESS) != 0;
+    if (cause == EXECUTED && (before->left != 0 || after->left == 0 || after->waits.kind != (lock ? 4 : 3)))
+        fail("an 82h that meets every test is not executed");
+    if (cause != EXECUTED && !plain_core_same(before, after))
+        fail("an 82h that fails a test moved the record");
+    (lock ? counts.by_lock : counts.by_page)[cause]++;
+}
+
+static void count_ended(const cartvesper_core *before, const cartvesper_core *after, ended one)
+{
+    if (one.taken == 0 || (one.code != WRID && one.code != RDID))
+        return;
+    if (before->part != M95512D)
+        counts.unknown++;
+    else if (one.code == WRID)
+        count_wrid(before, after, one);
+    else if (!one.shown)
+        counts.unshown++;
+    else if (one.address & LOCK_ADDRESS)
+        counts.lock_shown++;
+    else
+        counts.page_shown++;
+    if ((before->part != M95512D || one.code == RDID) && !plain_core_same(before, after))
+        fail("an 83h, or an 82h of the M95512, moved the record");
+}
+
+static void count_frame_end(const cartvesper_core *before, const cartvesper_core *after, size_t bits, int shown)
+{
+    size_t taken = bits / 8;
+    ended one = {taken ? frame_bytes[0] : 0, before->left > 0, (uint8_t)(taken > 5 ? 5 : taken), bits % 8 != 0, 0, 0,
+                 (uint8_t)shown, 0};
+    if (taken >= 3)
+        one.address = (uint32_t)frame_bytes[1] << 8 | frame_bytes[2];
+    if (taken >= 4)
+        one.data = frame_bytes[3];
+    count_ended(before, after, one);
+}
+
+static void count_deselect(const cartvesper_device *before, const cartvesper_device *after)
+{
+    const cartvesper_frame_part *frame = &before->frame;
+    ended one = {frame->code,  frame->ran,   frame->taken, frame->bits != 0,
+                 frame->value, before->held, frame->shown, frame->taken < 3 ? 0 : frame->address};
+    if (!before->pins.s && after->pins.s)
+        count_ended(&before->core, &after->core, one);
+}
+
 static void keep_page(uint8_t *page, const cartvesper_core *core)
 {
     memcpy(page, waiting_cells(core), PAGE);
@@ -468,6 +550,8 @@ static uint32_t try_frame(cartvesper_core *core, lengths lent, uint8_t w, size_t
     counts.frames++;
     counts.driven += lib.number == 0 ? bits - lib.undriven : 0;
     counts.executed += given.left == 0 && lib.core.left != 0;
+    if (lib.number == 0)
+        count_frame_end(&given, &lib.core, bits, lib.undriven < bits);
     *core = lib.core;
     try_core_touched(core);
     return lib.number;
@@ -558,6 +642,8 @@ static uint32_t try_event(cartvesper_device *device, int kind, uint32_t value, l
     counts.executed += given.core.left == 0 && lib.device.core.left != 0;
     if (kind == CLOCK && lib.number == 0)
         count_cycle_end(&given.core, &lib.device.core, page);
+    if (kind == SET_S && lib.number == 0)
+        count_deselect(&given, &lib.device);
     *device = lib.device;
     if (kind == SET_S || kind == CLOCK) /* what begins or ends a cycle */
         try_device_touched(device);
@@ -754,10 +840,11 @@ static size_t off_by_one(size_t n, uint32_t damage)
 
 static uint8_t random_code(void)
 {
-    static const uint8_t codes[] = {WREN, WREN, WREN, WREN, WRITE, WRITE, WRITE, WRITE, WRSR, WRSR, WRDI, RDSR, RDSR, READ, READ};
-    static const uint8_t others[] = {0x82, 0x83, 0x00, 0x07, 0xFF};
+    static const uint8_t codes[] = {WREN, WREN, WREN, WREN, WREN, WREN, WRITE, WRITE, WRITE, WRITE, WRSR, WRSR,
+                                    WRDI, RDSR, RDSR, READ, READ, WRID, WRID, WRID,  WRID,  RDID,  RDID};
+    static const uint8_t others[] = {0x80, 0x81, 0x84, 0x86, 0x92, 0xC2, 0xC3, 0x00, 0x07, 0xFF};
     if (percent(5))
-        return percent(50) ? others[below(5)] : (uint8_t)random32();
+        return percent(50) ? others[below(sizeof others)] : (uint8_t)random32();
     return codes[below(sizeof codes)];
 }
 
@@ -774,7 +861,12 @@ static size_t random_length(uint8_t code)
     case RDSR:
         return 1 + below(6);
     case READ:
+    case RDID:
         return percent(70) ? 3 + below(12) : 3 + below(280);
+    case WRID:
+        if (percent(40))
+            return 4;
+        /* fall through */
     case WRITE:
         return percent(60) ? 3 + below(12) : 3 + PAGE - 8 + below(16) + (percent(10) ? PAGE : 0);
     default:
@@ -791,6 +883,20 @@ static uint16_t random_address(void)
     return (uint16_t)(edges[below(7)] + below(9) - 4);
 }
 
+/* an address of 82h or 83h: bit 10 either way, cells near the ends of the page, upper bits that are not looked at */
+static uint16_t random_page_address(void)
+{
+    uint32_t ends[] = {below(4), PAGE - 1 - below(4)};
+    if (percent(30))
+        return random_address();
+    return (uint16_t)((random32() & 0xFF80) | (percent(50) ? below(PAGE) : ends[below(2)]));
+}
+
+static int about_page(uint8_t code)
+{
+    return code == WRID || code == RDID;
+}
+
 /* frame_bytes, its length and bit count; a length above 65,540 is refused */
 static size_t random_frame(size_t *bits, int longest)
 {
@@ -800,7 +906,7 @@ static size_t random_frame(size_t *bits, int longest)
         length = LONGEST - 2 + below(4);
     random_bytes(frame_bytes, length);
     if (length >= 3) {
-        uint16_t address = random_address();
+        uint16_t address = about_page(code) ? random_page_address() : random_address();
         frame_bytes[1] = (uint8_t)(address >> 8);
         frame_bytes[2] = (uint8_t)address;
     }
@@ -846,6 +952,8 @@ static void frame_session(int steps)
                         random_clock()) != 0) {
     }
     for (int i = 0; i < steps; i++) {
+        if (percent(3)) /* a frame never opens a lock; whoever has the record may */
+            core.lock = (uint8_t)percent(30);
         if (percent(65))
             frame_step(&core);
         else
@@ -1291,12 +1399,47 @@ static cartvesper_core random_core(void)
     return core;
 }
 
-static int is_output(const cartvesper_frame_part *frame)
+/* 82h and 83h are known to the M95512-D alone */
+static int known_about_page(const cartvesper_frame_part *frame, int part)
 {
-    return (frame->code == RDSR && frame->taken >= 1) || (frame->code == READ && frame->taken >= 3 && !frame->ran);
+    return about_page(frame->code) && part == M95512D;
 }
 
-static void random_frame_fields(cartvesper_frame_part *frame, int cycle_runs)
+static int is_output(const cartvesper_frame_part *frame, int part)
+{
+    if (frame->code == RDSR)
+        return frame->taken >= 1;
+    if (frame->code != READ && !(frame->code == RDID && known_about_page(frame, part)))
+        return 0;
+    return frame->taken >= 3 && !frame->ran;
+}
+
+static int has_address(const cartvesper_frame_part *frame, int part)
+{
+    return (frame->code == READ || frame->code == WRITE || known_about_page(frame, part)) && frame->taken >= 2;
+}
+
+/* an 82h past its first data byte: for the lock it keeps that byte, for the page it latches */
+static int is_wrid(const cartvesper_frame_part *frame, int part)
+{
+    return frame->code == WRID && known_about_page(frame, part) && frame->taken >= 4;
+}
+
+static int has_value(const cartvesper_frame_part *frame, int part)
+{
+    if (frame->code == WRSR)
+        return frame->taken >= 2;
+    return is_wrid(frame, part) && (frame->address & LOCK_ADDRESS) != 0;
+}
+
+static int has_latch(const cartvesper_frame_part *frame, int part)
+{
+    if (frame->code == WRITE)
+        return frame->taken >= 4;
+    return is_wrid(frame, part) && (frame->address & LOCK_ADDRESS) == 0;
+}
+
+static void random_frame_fields(cartvesper_frame_part *frame, int part, int cycle_runs)
 {
     frame->taken = (uint8_t)below(6);
     frame->bits = (uint8_t)(percent(60) ? 7 * below(2) : below(8));
@@ -1305,13 +1448,15 @@ static void random_frame_fields(cartvesper_frame_part *frame, int cycle_runs)
         return;
     frame->code = random_code();
     frame->ran = cycle_runs || percent(30);
-    if (frame->code == WRSR && frame->taken >= 2)
+    if (has_address(frame, part)) {
+        frame->address = about_page(frame->code) ? random_page_address() : random_address();
+        frame->address &= frame->taken == 2 ? 0xFF00 : 0xFFFF;
+    }
+    if (has_value(frame, part))
         frame->value = (uint8_t)random32();
-    if ((frame->code == READ || frame->code == WRITE) && frame->taken >= 2)
-        frame->address = random_address() & (frame->taken == 2 ? 0xFF00 : 0xFFFF);
-    if (frame->code == WRITE && frame->taken >= 4)
+    if (has_latch(frame, part))
         random_latch(&frame->latch);
-    if (is_output(frame)) {
+    if (is_output(frame, part)) {
         frame->shown = (uint8_t)below(9);
         frame->out = frame->shown ? (uint8_t)random32() : 0;
     }
@@ -1330,7 +1475,7 @@ static cartvesper_device random_device(void)
     if (device.pins.s)
         return device;
     device.held = (uint8_t)(device.pins.c ? percent(30) : !device.pins.hold);
-    random_frame_fields(&device.frame, device.core.left > 0);
+    random_frame_fields(&device.frame, device.core.part, device.core.left > 0);
     return device;
 }
 
@@ -1352,6 +1497,8 @@ static void pin_session(int scripts)
     for (int i = 0; i < scripts; i++) {
         if (percent(30))
             begin_idle_cycle(&device);
+        if (percent(30))
+            device.core.lock = (uint8_t)percent(30);
         new_script(&device);
         run_script(&device);
     }
@@ -1680,6 +1827,50 @@ static void sweep_parts(void)
         }
 }
 
+/* a frame in hand of each part and code with each number of whole bytes, and what may stand beside them: a running
+ * cycle, one at the eighth edge, address bit 10, a low and a high address bit, an address above FFFFh, a data byte, a
+ * mark, a byte without one, bits shown, an output byte */
+enum { BESIDE = 1 << 11 };
+
+static cartvesper_device device_of(uint8_t part, uint8_t code, uint8_t taken, uint32_t beside)
+{
+    cartvesper_device device;
+    uint32_t cell = below(PAGE);
+    plain_device_power_up(&device, part, percent(30), random_cycle(), 0, percent(30), percent(30), random_clock());
+    device.pins.s = 0;
+    device.pins.c = (uint8_t)below(2);
+    device.core.wel = (uint8_t)percent(70);
+    if (beside & 1)
+        begin_cycle(&device.core);
+    device.frame.taken = taken;
+    device.frame.code = code;
+    device.frame.ran = beside >> 1 & 1;
+    device.frame.address = (beside & 4 ? LOCK_ADDRESS : 0) | (beside & 8 ? 1u << below(8) : 0);
+    device.frame.address |= (beside & 16 ? 1u << (11 + below(5)) : 0) | (beside & 32 ? 1u << (16 + below(16)) : 0);
+    device.frame.value = (uint8_t)(beside & 64 ? 1u << below(8) : 0);
+    if (beside & 128)
+        device.frame.latch.marks[cell / WORD] = 1ULL << cell % WORD;
+    device.frame.latch.bytes[cell] = (uint8_t)(beside & 256 ? 1 + below(255) : 0);
+    device.frame.shown = (uint8_t)(beside & 512 ? 1 + below(9) : 0);
+    device.frame.out = (uint8_t)(beside & 1024 ? 1 + below(255) : 0);
+    return device;
+}
+
+static void sweep_fields(int some)
+{
+    static const uint8_t codes[] = {WRID, RDID, WRITE, READ, WRSR, RDSR, 0x81};
+    for (uint32_t one = 0; one < 2 * sizeof codes * 6 * BESIDE; one++) {
+        if (some && below(100) != 0)
+            continue;
+        uint32_t place = one / BESIDE;
+        cartvesper_device device = device_of(place & 1, codes[place / 12], (uint8_t)(place / 2 % 6), one % BESIDE);
+        begin_call(NULL, &device, "device_in_ranges");
+        compare_values(cartvesper_device_in_ranges(device), plain_device_in_ranges_call(device));
+        try_event(&device, percent(50) ? SET_S : SET_C, percent(50) ? 1 : !device.pins.c, whole);
+        counts.fields_swept++;
+    }
+}
+
 /* ---- marks cell by cell, in the page that waits and in the frame in hand; what is to be answered is known */
 
 static void expect_touched(const cartvesper_device *device, uint32_t number, uint32_t cells)
@@ -1722,16 +1913,17 @@ static cartvesper_core core_without_bytes(void)
     return core;
 }
 
-/* selected, with a WRITE in hand that its deselect executes */
-static cartvesper_device device_in_write(void)
+/* selected, with a WRITE or an 82h in hand that its deselect executes */
+static cartvesper_device device_in_write(uint8_t code)
 {
     cartvesper_device device;
-    plain_device_power_up(&device, percent(50), percent(50), random_cycle(), 0, 0, 0, random_clock());
+    int part = code == WRID || percent(50), lock = code == WRITE && percent(50);
+    plain_device_power_up(&device, part, lock, random_cycle(), 0, 0, 0, random_clock());
     device.core.wel = 1;
     device.pins.s = 0;
     device.frame.taken = (uint8_t)(4 + below(2));
-    device.frame.code = WRITE;
-    device.frame.address = random_address();
+    device.frame.code = code;
+    device.frame.address = code == WRITE ? random_address() : random_page_address() & ~LOCK_ADDRESS;
     return device;
 }
 
@@ -1752,9 +1944,9 @@ static void try_waiting(const cartvesper_latch *latch, uint8_t kind, uint32_t nu
 }
 
 /* the latch in the frame in hand: it waits from the deselect on */
-static void try_latching(const cartvesper_latch *latch, uint32_t number, uint32_t cells)
+static void try_latching(const cartvesper_latch *latch, uint8_t code, uint32_t number, uint32_t cells)
 {
-    cartvesper_device device = device_in_write();
+    cartvesper_device device = device_in_write(code);
     device.frame.latch = *latch;
     expect_touched(&device, number, 0);
     try_event(&device, SET_S, 1, whole);
@@ -1768,7 +1960,8 @@ static void try_latch(const cartvesper_latch *latch, uint32_t number, uint32_t c
 {
     try_waiting(latch, 2, number, cells);
     try_waiting(latch, 3, number, cells);
-    try_latching(latch, number, cells);
+    try_latching(latch, WRITE, number, cells);
+    try_latching(latch, WRID, number, cells);
     counts.marked++;
 }
 
@@ -1786,7 +1979,7 @@ static void try_stray(const cartvesper_latch *latch)
     expect_touched(&device, 2, 0);
     do
         device = random_device();
-    while (device.frame.code == WRITE && device.frame.taken >= 4);
+    while (has_latch(&device.frame, device.core.part));
     device.frame.latch = *latch;
     expect_touched(&device, 2, 0);
     counts.marked++;
@@ -1978,15 +2171,15 @@ static void try_laws(int count)
     }
 }
 
-/* WREN and a WRITE to the page: what waits is its bytes laid over each other, a page write of one cell for each; then
- * its cycle ends */
-static cartvesper_latch send_write(cartvesper_core *core, uint32_t page)
+/* WREN and a WRITE to the page, or an 82h to the identification page: what waits is its bytes laid over each other, a
+ * page write of one cell for each; then its cycle ends */
+static cartvesper_latch send_write(cartvesper_core *core, uint8_t code, uint32_t page)
 {
     cartvesper_latch bytewise = {{0}, {0}};
     size_t start = below(PAGE), length = 1 + (percent(70) ? below(12) : below(2 * PAGE));
     frame_bytes[0] = WREN;
     try_frame(core, whole, 1, 1, 8, 1);
-    frame_bytes[0] = WRITE;
+    frame_bytes[0] = code;
     frame_bytes[1] = (uint8_t)(page * PAGE >> 8);
     frame_bytes[2] = (uint8_t)(page * PAGE + start);
     random_bytes(frame_bytes + 3, length);
@@ -2014,7 +2207,7 @@ static void compare_kept(const char *what)
     compare_lent(what, &lib_memory, &singles_memory);
 }
 
-/* two page writes stored one after the other are the one laid over the other, stored: by two WRITEs, or any two */
+/* two page writes stored one after the other are the one laid over the other, stored: by two frames, or any two */
 static void try_stored(int count)
 {
     for (int i = 0; i < count; i++) {
@@ -2022,11 +2215,12 @@ static void try_stored(int count)
         uint32_t page = kind == 3 ? 0 : percent(30) ? below(2) * 511 : below(512);
         cartvesper_latch earlier = random_page_write(), later = random_page_write();
         start_memory = lib_memory;
-        if (kind == 2 && percent(50)) {
+        if (percent(50)) {
             cartvesper_core core;
-            try_power_up(&core, random_which(0), random_cycle(), 0, 0, 0, random_clock());
-            earlier = send_write(&core, page);
-            later = send_write(&core, page);
+            which one = kind == 3 ? (which){M95512D, 0} : random_which(0);
+            try_power_up(&core, one, random_cycle(), 0, 0, 0, random_clock());
+            earlier = send_write(&core, kind == 3 ? WRID : WRITE, page);
+            later = send_write(&core, kind == 3 ? WRID : WRITE, page);
         } else {
             store_latch(&earlier, kind, page);
             store_latch(&later, kind, page);
@@ -2193,32 +2387,136 @@ static void cross_tail(const uint8_t *out, size_t length, size_t bits)
             fail("a bit past the bit count is 0 in the frame's output");
 }
 
-static void cross_frame(cartvesper_device *device, int longest)
+/* frame_bytes, by the frame call and drawn at the pins */
+static void cross_given(cartvesper_device *device, size_t length, size_t bits, uint32_t pauses)
 {
     static uint8_t expected[LONGEST + 1];
     cartvesper_core core = device->core;
     uint8_t w = (uint8_t)percent(70);
-    size_t bits, length;
-    do {
-        length = random_frame(&bits, longest);
-    } while (length > LONGEST);
-    if (longest && percent(70))
-        frame_bytes[0] = percent(60) ? READ : WRITE;
     cartvesper_frame_answer answer =
         cartvesper_frame(core, LENT(lib_memory, whole), w, frame_bytes, length, bits, expected, length);
     try_frame(&core, whole, w, length, bits, length);
     compare_numbers("frame number", answer.number, 0);
     cross_tail(expected, length, bits);
     try_event(device, SET_W, w, whole);
-    cross_draw(device, bits, percent(50), longest ? 0 : percent(50) ? below(30) : 0, expected);
-    begin_call(&core, NULL, "frame %02X of %zu bits drawn (record: after the frame)", length ? frame_bytes[0] : 0, bits);
+    cross_draw(device, bits, percent(50), pauses, expected);
+    begin_call(&core, NULL, "frame %02X of %zu bits drawn (record: after the frame)", length ? frame_bytes[0] : 0,
+               bits);
     compare_numbers("leading Z (first: pins, second: frame's undriven)", leading_z, answer.undriven);
-    compare_numbers("status (first: pins, second: frame)", cartvesper_device_status(*device).value, cartvesper_core_status(core).value);
+    compare_numbers("status (first: pins, second: frame)", cartvesper_device_status(*device).value,
+                    cartvesper_core_status(core).value);
     compare_numbers("time left (first: pins, second: frame)", device->core.left, core.left);
     compare_cores("core (library: pins, plain: frame)", &device->core, &core);
     compare_memory();
     if (percent(50))
         cross_memory(device, &core);
+}
+
+static void cross_frame(cartvesper_device *device, int longest)
+{
+    static const uint8_t long_codes[] = {READ, READ, WRITE, RDID, WRID};
+    size_t bits, length;
+    do {
+        length = random_frame(&bits, longest);
+    } while (length > LONGEST);
+    if (longest && percent(70))
+        frame_bytes[0] = long_codes[below(sizeof long_codes)];
+    cross_given(device, length, bits, longest ? 0 : percent(50) ? below(30) : 0);
+}
+
+/* a device with no frame in hand, of a part: half of them would take an 82h */
+static cartvesper_device device_about_page(uint8_t part)
+{
+    cartvesper_device device;
+    plain_device_power_up(&device, part, 0, 1, 0, 0, 0, 0);
+    do
+        device.core = random_core();
+    while (device.core.part != part);
+    if (percent(50)) {
+        plain_core_power_up(&device.core, part, 0, random_cycle(), percent(50), percent(30), 0, random_clock());
+        device.core.wel = 1;
+    }
+    return device;
+}
+
+/* frame_bytes: an instruction with an address whose bit 10 is given, and data */
+static void page_frame(uint8_t code, int lock, size_t length)
+{
+    uint16_t address = random_page_address();
+    address = lock ? address | LOCK_ADDRESS : address & ~LOCK_ADDRESS;
+    random_bytes(frame_bytes, length < 4 ? 4 : length);
+    frame_bytes[0] = code;
+    frame_bytes[1] = (uint8_t)(address >> 8);
+    frame_bytes[2] = (uint8_t)address;
+}
+
+/* 82h and 83h, of each part, with address bit 10 either way and each count from 0 to 48 bits */
+static void sweep_counts(void)
+{
+    for (size_t bits = 0; bits <= 48; bits++)
+        for (unsigned kind = 0; kind < 8; kind++) {
+            cartvesper_device device = device_about_page(kind & 1);
+            page_frame(kind & 4 ? RDID : WRID, kind & 2, 6);
+            cross_given(&device, (bits + 7) / 8, bits, percent(30) ? 10 : 0);
+        }
+}
+
+/* an 82h of the M95512-D that meets every test, or fails one or two: a cycle, WEL, the count, the lock, BP 11, data
+ * bit 1 */
+static void try_conditions(int count)
+{
+    for (int i = 0; i < count; i++) {
+        uint32_t faults = percent(25) ? 0 : 1u << below(6) | (percent(25) ? 1u << below(6) : 0);
+        int lock = percent(50);
+        size_t length = 4 + (lock ? 0 : percent(80) ? below(4) : below(PAGE + 8)), bits = 8 * length;
+        cartvesper_device device;
+        plain_device_power_up(&device, M95512D, faults >> 3 & 1, random_cycle(), percent(50), 0, 0, random_clock());
+        device.core.bp1 = faults & 16 || percent(30);
+        device.core.bp0 = faults & 16 || (!device.core.bp1 && percent(30));
+        device.core.wel = !(faults & 2);
+        if (faults & 1)
+            begin_cycle(&device.core);
+        page_frame(WRID, lock, length + 1);
+        frame_bytes[3] = (uint8_t)(faults & 32 ? frame_bytes[3] & ~LOCK_DATA : frame_bytes[3] | LOCK_DATA);
+        if (faults & 4)
+            bits = bits + (lock && percent(30) ? 8 : percent(50) ? 1 + below(7) : 0 - 1 - (size_t)below(7));
+        cross_given(&device, (bits + 7) / 8, bits, percent(30) ? 10 : 0);
+    }
+}
+
+/* a frame drawn in mode 0, with Q at Z throughout, and dropped in a pause, C either way: of those that would be
+ * executed only a WRITE is */
+static void drop_in_hold(cartvesper_device *device, size_t bits)
+{
+    static const uint8_t undriven[6] = {0xFF, 0xFF, 0xFF, 0xFF, 0xFF, 0xFF};
+    const cartvesper_core before = device->core;
+    try_event(device, SET_C, 0, whole);
+    try_event(device, SET_S, 0, whole);
+    for (size_t bit = 0; bit < bits; bit++)
+        cross_edge(device, bit, 0, 0, undriven);
+    try_event(device, SET_HOLD, 0, whole);
+    if (percent(50))
+        try_event(device, SET_C, 1, whole);
+    try_event(device, SET_S, 1, whole);
+    begin_call(&before, NULL, "frame %02X of %zu bits dropped in Hold (record: before it)", frame_bytes[0], bits);
+    if (frame_bytes[0] == WRITE)
+        compare_numbers("a WRITE dropped in Hold: time left (second: wanted)", device->core.left, before.cycle);
+    else
+        compare_cores("dropped in Hold: pins (first), before it (second)", &device->core, &before);
+}
+
+/* frames that would be executed: of the page, of the lock, and, beside them, of the memory */
+static void try_in_hold(int count)
+{
+    for (int i = 0; i < count; i++) {
+        cartvesper_device device;
+        int lock = percent(40), write = percent(20);
+        plain_device_power_up(&device, M95512D, 0, random_cycle(), 0, 0, 0, random_clock());
+        device.core.wel = 1;
+        page_frame(write ? WRITE : WRID, lock, 6);
+        frame_bytes[3] |= LOCK_DATA;
+        drop_in_hold(&device, lock ? 32 : 8 * (4 + below(3)));
+    }
 }
 
 static void cross_session(int frames)
@@ -2243,13 +2541,18 @@ static void case_frame(cartvesper_core *core, const char *hex, size_t bits)
     try_frame(core, whole, 1, length, bits ? bits : 8 * length, length);
 }
 
-static void case_start(cartvesper_core *core, int bits)
+static void case_start_of(cartvesper_core *core, uint8_t part, int bits)
 {
     memset(&lib_memory, 0xFF, sizeof lib_memory);
     plain_memory = lib_memory;
-    try_power_up(core, (which){0, 0}, 5000, (uint8_t)bits >> 2 & 1, (uint8_t)bits >> 1 & 1, (uint8_t)bits & 1,
+    try_power_up(core, (which){part, 0}, 5000, (uint8_t)bits >> 2 & 1, (uint8_t)bits >> 1 & 1, (uint8_t)bits & 1,
                  4294967290);
     case_frame(core, "06", 0);
+}
+
+static void case_start(cartvesper_core *core, int bits)
+{
+    case_start_of(core, CARTVESPER_M95512, bits);
 }
 
 static void case_expect(const char *what, uint32_t got, uint32_t wanted)
@@ -2425,9 +2728,82 @@ static void cases_identification(void)
     case_expect("the status after it (second: wanted)", cartvesper_core_status(core).value, 0x00);
 }
 
+/* 82h and 83h by hand: the identification page */
+static void cases_page(void)
+{
+    cartvesper_core core;
+    case_start_of(&core, M95512D, 0);
+    case_frame(&core, "82 00 7E 11 22 33 44", 55);
+    case_frame(&core, "82 00 7E 11 22 33 44 55", 57);
+    case_frame(&core, "82 00 7E", 0);
+    case_expect("82h with 55, 57 and 24 bits: time left (second: wanted)", core.left, 0);
+    case_frame(&core, "82 00 7E 11 22 33 44", 0);
+    case_expect("82h: time left (second: wanted)", core.left, 5000);
+    case_expect("82h: what waits (second: wanted)", core.waits.kind, 3);
+    case_expect("82h: cells touched (second: wanted)", cartvesper_core_touched(core).value, 4);
+    case_frame(&core, "83 00 7E 00", 0);
+    case_expect("83h in a cycle (second: wanted)", lib_out.bytes[3], 0xFF);
+    try_reading(&core, core.last + 5000, whole);
+    case_expect("82h: cell 126 (second: wanted)", lib_memory.identification[126], 0x11);
+    case_expect("82h: cell 1 (second: wanted)", lib_memory.identification[1], 0x44);
+    case_expect("82h: the memory's cell 007Eh (second: wanted)", lib_memory.bytes[0x7E], 0xFF);
+    case_frame(&core, "83 FB FF 00 00", 0); /* the upper bits do not matter */
+    case_expect("83h: cell 127 (second: wanted)", lib_out.bytes[3], 0x22);
+    case_expect("83h: cell 0 (second: wanted)", lib_out.bytes[4], 0x33);
+    case_start_of(&core, M95512D, 3);
+    case_frame(&core, "82 00 00 55", 0);
+    case_frame(&core, "82 04 00 02", 0);
+    case_expect("BP 11: time left (second: wanted)", core.left, 0);
+    case_expect("BP 11: the status (second: wanted)", cartvesper_core_status(core).value, 0x0E);
+    case_start_of(&core, M95512D, 6);
+    memcpy(frame_bytes, "\x82\xFB\xFF\x55", 4);
+    try_frame(&core, whole, 0, 4, 32, 4);
+    case_expect("SRWD and W low, BP 10: time left (second: wanted)", core.left, 5000);
+}
+
+/* the lock; and the M95512, which knows neither code */
+static void cases_lock(void)
+{
+    cartvesper_core core;
+    case_start_of(&core, M95512D, 0);
+    case_frame(&core, "83 04 00 00 00", 0);
+    case_expect("83h: a lock that is not set (second: wanted)", lib_out.bytes[3], 0x00);
+    case_frame(&core, "82 04 00 FD", 0);
+    case_frame(&core, "82 04 00 02 02", 0);
+    case_frame(&core, "82 04 00 02", 31);
+    case_frame(&core, "82 04 00 02 00", 33);
+    case_expect("no lock: time left (second: wanted)", core.left, 0);
+    case_frame(&core, "82 FF FF 02", 0);
+    case_expect("the lock: what waits (second: wanted)", core.waits.kind, 4);
+    case_expect("the lock in its cycle (second: wanted)", core.lock, 0);
+    try_reading(&core, core.last + 5000, whole);
+    case_expect("the lock after it (second: wanted)", core.lock, 1);
+    case_frame(&core, "83 04 00 00 00", 0);
+    case_expect("83h: the lock (second: wanted)", lib_out.bytes[3], 0x01);
+    case_expect("83h: again (second: wanted)", lib_out.bytes[4], 0x01);
+    case_frame(&core, "06", 0);
+    case_frame(&core, "82 00 00 55", 0);
+    case_frame(&core, "82 04 00 02", 0);
+    case_expect("82h when locked: the status (second: wanted)", cartvesper_core_status(core).value, 0x02);
+    case_start_of(&core, CARTVESPER_M95512, 0);
+    case_frame(&core, "82 00 00 55", 0);
+    case_frame(&core, "82 04 00 02", 0);
+    case_expect("82h on the M95512: the status (second: wanted)", cartvesper_core_status(core).value, 0x02);
+    case_frame(&core, "83 04 00 00", 0);
+    case_expect("83h on the M95512 (second: wanted)", lib_out.bytes[3], 0xFF);
+}
+
 /* one thing outside its range, alone; 1 before 2 */
 static void case_refused(const char *what, cartvesper_core core, lengths lent, uint32_t number)
 {
+    cartvesper_core sent = core;
+    cartvesper_device device;
+    plain_device_power_up(&device, 0, 0, 1, 0, 0, 0, 0);
+    device.core = core;
+    memset(frame_bytes, 0, 4);
+    for (frame_bytes[0] = WRID; frame_bytes[0] <= RDID; frame_bytes[0]++)
+        case_expect(what, try_frame(&sent, lent, 1, 4, 32, 4), number);
+    case_expect(what, try_event(&device, SET_C, 1, lent), number);
     case_expect(what, try_reading(&core, core.last + core.left, lent), number);
 }
 
@@ -2491,22 +2867,45 @@ static void run_round(void)
     sweep_device();
     sweep_marks();
     sweep_parts();
+    sweep_fields(1);
     try_power_ups(40);
     cross_session(12);
+    sweep_counts();
+    try_conditions(60);
+    try_in_hold(20);
     lay_session();
     twice_session(100);
 }
 
+/* 82h of the M95512-D at deselect, by frame calls and at the pins; the page's has no last cause */
+static void print_causes(const char *what, const uint64_t *causes, int count)
+{
+    static const char *const names[CAUSES] = {"executed", "in a cycle", "without WEL", "by the count",
+                                              "locked",   "at BP 11",   "in Hold",     "without data bit 1"};
+    printf("82h of the M95512-D for the %s:", what);
+    for (int i = 0; i < count; i++)
+        printf("%s %s %" PRIu64, i == 0 ? "" : i == 1 ? "; ignored" : ",", names[i], causes[i]);
+    printf("\n");
+}
+
 static void print_summary(uint64_t rounds)
 {
-    printf("no difference: seed %" PRIu64 ", %" PRIu64 " rounds, %" PRIu64 " calls compared\n", seed, rounds, counts.calls);
-    printf("frames %" PRIu64 ", executed writes %" PRIu64 ", bits driven %" PRIu64 "\n", counts.frames, counts.executed, counts.driven);
+    printf("no difference: seed %" PRIu64 ", %" PRIu64 " rounds, %" PRIu64 " calls compared\n", seed, rounds,
+           counts.calls);
+    printf("frames %" PRIu64 ", executed writes %" PRIu64 ", bits driven %" PRIu64 "\n", counts.frames,
+           counts.executed, counts.driven);
     printf("events %" PRIu64 ", in lists again %" PRIu64 " (%" PRIu64 " lists, %" PRIu64 " spoiled by a number), clock readings %" PRIu64 "\n", counts.events,
            counts.listed, counts.lists, counts.spoiled, counts.readings);
     printf("cycles ended %" PRIu64 ", cells changed %" PRIu64 "\n", counts.cycles, counts.cells);
     printf("identification pages stored %" PRIu64 ", their cells changed %" PRIu64 ", locks set %" PRIu64,
            counts.identified, counts.kept, counts.locked);
     printf(", records made of each part and kind %" PRIu64 "\n", counts.parts_swept);
+    print_causes("page", counts.by_page, BY_DATA);
+    print_causes("lock", counts.by_lock, CAUSES);
+    printf("83h of the M95512-D: page shown %" PRIu64 ", lock shown %" PRIu64 ", nothing shown %" PRIu64,
+           counts.page_shown, counts.lock_shown, counts.unshown);
+    printf("; 82h and 83h of the M95512 %" PRIu64 "\n", counts.unknown);
+    printf("frames in hand made field by field %" PRIu64 "\n", counts.fields_swept);
     printf("frames drawn at the pins against the frame call %" PRIu64 "\n", counts.drawn);
     printf("records inside the ranges built by hand %" PRIu64 ", damaged records %" PRIu64 " (%" PRIu64 " calls), fields set to an edge %" PRIu64 "\n",
            counts.unreached, counts.damaged, counts.damaged_calls, counts.swept);
@@ -2515,7 +2914,7 @@ static void print_summary(uint64_t rounds)
     printf("page writes laid over another %" PRIu64 ", refused %" PRIu64 ", laws %" PRIu64, counts.lays, counts.unlaid,
            counts.laws);
     printf(", pairs whose order matters %" PRIu64 "\n", counts.ordered);
-    printf("WRITEs laid byte by byte %" PRIu64 ", pages stored by two writes and by one %" PRIu64 "\n",
+    printf("writes laid byte by byte %" PRIu64 ", pages stored by two writes and by one %" PRIu64 "\n",
            counts.bytewise, counts.stored);
     printf("runs sent twice, both done %" PRIu64 ", a cycle at the first one's start %" PRIu64 "\n",
            counts.twice, counts.busy);
@@ -2541,7 +2940,10 @@ int main(int argc, char **argv)
     cases_h_l();
     cases_protected();
     cases_identification();
+    cases_page();
+    cases_lock();
     cases_parts();
+    sweep_fields(0);
     for (current_round = 0; current_round < rounds; current_round++)
         run_round();
     print_summary(rounds);

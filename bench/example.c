@@ -205,15 +205,62 @@ static void refusals(const cartvesper_core *core)
 
 /* ---- the M95512-D: an identification page, and a lock that closes it for good */
 
+/* WREN, and then an 82h of four bytes: an address and one data byte. Gives the status byte after it. */
+static uint8_t send_82h(cartvesper_core *core, uint16_t address, uint8_t data)
+{
+    const uint8_t wren[1] = {CARTVESPER_WREN};
+    const uint8_t wrid[4] = {CARTVESPER_WRID, (uint8_t)(address >> 8), (uint8_t)address, data};
+    uint8_t out[4];
+    send("WREN", core, wren, 1, out);
+    send("82h", core, wrid, 4, out);
+    return poll(core);
+}
+
+/* An 83h, and two bytes that it shows. */
+static void print_83h(const char *what, cartvesper_core *core, uint16_t address)
+{
+    const uint8_t rdid[5] = {CARTVESPER_RDID, (uint8_t)(address >> 8), (uint8_t)address};
+    uint8_t out[5];
+    send("83h", core, rdid, 5, out);
+    printf("%s: %02X %02X\n", what, out[3], out[4]);
+}
+
+static void identification_page(cartvesper_core *core)
+{
+    /* address bit 10 at 0: the page. The low 7 bits pick the cell, here its last one */
+    printf("82h for the page: status %02X\n", send_82h(core, 0x007F, 0x2A));
+    print_touched(core);
+    print_83h("83h in the cycle, not driven", core, 0x007F);
+    pass_time(core, core->left);
+    print_83h("83h at 7F, rolling to 00", core, 0x007F);
+    printf("identification page 7F %02X, memory 007F %02X\n", identification[0x7F], memory[0x7F]);
+    /* address bit 10 at 1: the lock. Data bit 1 sets it, and it shows when the cycle has ended */
+    print_83h("the lock, twice", core, CARTVESPER_LOCK_ADDRESS);
+    printf("82h for the lock: status %02X\n", send_82h(core, CARTVESPER_LOCK_ADDRESS, CARTVESPER_LOCK_DATA));
+    pass_time(core, core->left);
+    print_83h("the lock, twice", core, CARTVESPER_LOCK_ADDRESS);
+    /* From now on 82h is ignored: that is no refusal. No cycle runs, WEL stays, and the page is as it was */
+    printf("82h for the page, locked: status %02X\n", send_82h(core, 0x007F, 0x2B));
+    print_83h("83h at 7F", core, 0x007F);
+}
+
 static void other_part(void)
 {
+    cartvesper_core_answer powered = cartvesper_power_up(CARTVESPER_M95512D, 0, CARTVESPER_LONGEST_CYCLE, 0, 0, 0, 0);
+    must_be_done("power-up", powered.number);
+    identification_page(&powered.core);
     /* the lock is the second argument, kept from one power-up to the next as the status bits are */
-    cartvesper_core_answer powered = cartvesper_power_up(CARTVESPER_M95512D, 1, CARTVESPER_LONGEST_CYCLE, 0, 0, 0, 0);
+    powered = cartvesper_power_up(CARTVESPER_M95512D, powered.core.lock, CARTVESPER_LONGEST_CYCLE, 0, 0, 0, 0);
     must_be_done("power-up", powered.number);
     printf("an M95512-D: part %u, lock %u, status %02X\n", powered.core.part, powered.core.lock, poll(&powered.core));
     /* the page's length is judged as the memory's is, and by the same number */
     printf("an identification page one byte short: %u\n", read_clock(&powered.core, MEMORY, IDENTIFICATION - 1));
     printf("part 2: %u\n", cartvesper_power_up(2, 0, CARTVESPER_LONGEST_CYCLE, 0, 0, 0, 0).number);
+    /* the M95512 knows neither code */
+    powered = cartvesper_power_up(CARTVESPER_M95512, 0, CARTVESPER_LONGEST_CYCLE, 0, 0, 0, 0);
+    must_be_done("power-up", powered.number);
+    printf("82h on an M95512: status %02X\n", send_82h(&powered.core, 0x007F, 0x2C));
+    print_83h("83h on an M95512, not driven", &powered.core, 0x007F);
 }
 
 int main(void)

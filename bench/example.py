@@ -1,10 +1,10 @@
-# The library from Python: the records as ctypes structures, a WRITE by frames, a run of the driver, and two retries in
-# a row. Argument: the shared object (docs/LINKING.md says how to make it from the archive).
+# The library from Python: the records as ctypes structures, a WRITE by frames, a run of the driver, two retries in a
+# row, and the M95512-D's lock. Argument: the shared object (docs/LINKING.md says how to make it from the archive).
 import ctypes
 import sys
 from ctypes import POINTER, Structure, c_size_t, c_uint8, c_uint32, c_uint64
 
-MEMORY, IDENTIFICATION, M95512 = 65536, 128, 0
+MEMORY, IDENTIFICATION, M95512, M95512D = 65536, 128, 0, 1
 
 
 class Latch(Structure):
@@ -99,3 +99,15 @@ damaged.wel = 2
 page_write.bytes[2] = 1  # not marked
 print("a record outside its ranges", reading(damaged, 0, *lent).number, touched(damaged).number,
       lay(page_write, page_write).number)
+
+other = power_up(M95512D, 0, 5000, 0, 0, 0, 0).core
+other, open_lock = send(other, [0x83, 0x04, 0x00, 0])  # address bit 10: the lock
+other, _ = send(other, [0x06])
+other, _ = send(other, [0x82, 0x04, 0x00, 0x02])  # data bit 1 sets it
+other = reading(other, 5000, *lent).core
+other, lock = send(other, [0x83, 0x04, 0x00, 0])
+other, _ = send(other, [0x06])
+other, _ = send(other, [0x82, 0x00, 0x00, 0x2A])  # to the page: ignored from now on
+other, out = send(other, [0x05, 0x00])
+print("M95512-D: lock", open_lock[3:].hex(), "then", lock[3:].hex(), "in the record", other.lock,
+      "status", out[1:].hex())

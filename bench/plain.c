@@ -3,7 +3,9 @@
 #include <string.h>
 
 enum { WREN = 0x06, WRDI = 0x04, RDSR = 0x05, WRSR = 0x01, READ = 0x03, WRITE = 0x02 };
-enum { M95512 = 0, M95512D = 1 }; /* the parts: the second has an identification page and a lock */
+enum { RDID = 0x83, WRID = 0x82 };               /* of the M95512-D: its identification page, or the page's lock */
+enum { LOCK_ADDRESS = 0x400, LOCK_DATA = 0x02 }; /* address bit 10 asks for the lock, data bit 1 sets it */
+enum { M95512 = 0, M95512D = 1 };                /* the parts: the second has an identification page and a lock */
 enum { MEMORY = 65536, PAGE = 128, PAGES = 512, LONGEST_FRAME = 65540, LONGEST_CYCLE = 5000 };
 enum { MOST = 5 };                       /* whole bytes counted of a frame */
 enum { WORD = 64, WORDS = PAGE / WORD }; /* a word of marks has a bit for each of 64 cells */
@@ -120,36 +122,82 @@ int plain_core_ok(const cartvesper_core *core)
 
 static int frame_empty(const cartvesper_frame_part *frame)
 {
-    return frame->taken == 0 && frame->bits == 0 && frame->partial == 0 && frame->code == 0 && frame->ran == 0 && frame->value == 0 &&
-           frame->out == 0 && frame->shown == 0 && frame->address == 0 && latch_empty(&frame->latch);
+    return frame->taken == 0 && frame->bits == 0 && frame->partial == 0 && frame->code == 0 && frame->ran == 0 &&
+           frame->value == 0 && frame->out == 0 && frame->shown == 0 && frame->address == 0 &&
+           latch_empty(&frame->latch);
 }
 
-/* the address: READ and WRITE only, its high byte from two whole bytes, its low byte from three */
-static int address_ok(const cartvesper_frame_part *frame)
+/* 02, Item 4: the plain part knows neither 82h nor 83h */
+static inline int is_wrid(int part, uint8_t code)
 {
-    if ((frame->code != READ && frame->code != WRITE) || frame->taken < 2)
+    return code == WRID && part == M95512D;
+}
+
+static inline int is_rdid(int part, uint8_t code)
+{
+    return code == RDID && part == M95512D;
+}
+
+static inline int has_address(int part, uint8_t code)
+{
+    return code == READ || code == WRITE || is_rdid(part, code) || is_wrid(part, code);
+}
+
+/* of an 82h or an 83h: its address bit 10, which stays as it was taken */
+static inline int of_lock(uint32_t address)
+{
+    return (address & LOCK_ADDRESS) != 0;
+}
+
+/* the address: its high byte from two whole bytes, its low byte from three */
+static int address_ok(const cartvesper_frame_part *frame, int part)
+{
+    if (!has_address(part, frame->code) || frame->taken < 2)
         return frame->address == 0;
     if (frame->taken == 2 && (frame->address & 0xFF) != 0)
         return 0;
     return frame->address < MEMORY;
 }
 
-/* data output: RDSR from one whole byte, READ from three if no cycle ran at the eighth edge */
-static inline int in_output(const cartvesper_frame_part *frame)
+/* the data byte of WRSR, or of an 82h that asks for the lock */
+static int has_value(const cartvesper_frame_part *frame, int part)
 {
-    if (frame->code == RDSR)
-        return frame->taken >= 1;
-    return frame->code == READ && frame->taken >= 3 && !frame->ran;
+    if (frame->code == WRSR)
+        return frame->taken >= 2;
+    return is_wrid(part, frame->code) && frame->taken >= 4 && of_lock(frame->address);
 }
 
-static int output_ok(const cartvesper_frame_part *frame)
+/* the data bytes of WRITE, or of an 82h that asks for the identification page */
+static int has_latch(const cartvesper_frame_part *frame, int part)
 {
-    if (!in_output(frame) || frame->shown == 0)
+    if (frame->taken < 4)
+        return 0;
+    return frame->code == WRITE || (is_wrid(part, frame->code) && !of_lock(frame->address));
+}
+
+/* data output: RDSR from one whole byte, READ and 83h from three if no cycle ran at the eighth edge */
+static inline int in_output(const cartvesper_frame_part *frame, int part)
+{
+    switch (frame->code) {
+    case RDSR:
+        return frame->taken >= 1;
+    case READ:
+        return frame->taken >= 3 && !frame->ran;
+    case RDID:
+        return part == M95512D && frame->taken >= 3 && !frame->ran;
+    default:
+        return 0;
+    }
+}
+
+static int output_ok(const cartvesper_frame_part *frame, int part)
+{
+    if (!in_output(frame, part) || frame->shown == 0)
         return frame->out == 0 && frame->shown == 0;
     return frame->shown <= 8;
 }
 
-static int frame_ok(const cartvesper_frame_part *frame, int cycle_runs)
+static int frame_ok(const cartvesper_frame_part *frame, int part, int cycle_runs)
 {
     if (frame->taken > MOST || frame->bits > 7 || frame->partial >> frame->bits != 0 || frame->ran > 1)
         return 0;
@@ -157,11 +205,11 @@ static int frame_ok(const cartvesper_frame_part *frame, int cycle_runs)
         return 0;
     if (frame->taken >= 1 && cycle_runs && !frame->ran)
         return 0;
-    if ((frame->code != WRSR || frame->taken < 2) && frame->value != 0)
+    if (!has_value(frame, part) && frame->value != 0)
         return 0;
-    if (!address_ok(frame) || !output_ok(frame))
+    if (!address_ok(frame, part) || !output_ok(frame, part))
         return 0;
-    return frame->code == WRITE && frame->taken >= 4 ? latch_ok(&frame->latch) : latch_empty(&frame->latch);
+    return has_latch(frame, part) ? latch_ok(&frame->latch) : latch_empty(&frame->latch);
 }
 
 int plain_device_ok(const cartvesper_device *device)
@@ -175,7 +223,7 @@ int plain_device_ok(const cartvesper_device *device)
         return !device->held && frame_empty(&device->frame);
     if (!pins->c && device->held != !pins->hold)
         return 0;
-    return frame_ok(&device->frame, device->core.left > 0);
+    return frame_ok(&device->frame, device->core.part, device->core.left > 0);
 }
 
 /* ---- the status byte, protection, time */
@@ -302,6 +350,20 @@ static void start_page_cycle(cartvesper_core *core, uint32_t address)
     core->left = core->cycle;
 }
 
+/* 82h, for the page or for the lock: BP 11 stops both, and a set lock does for good. W and SRWD do not matter, and no
+ * address is looked at */
+static int identification_write_allowed(const cartvesper_core *core)
+{
+    return core->wel && !core->lock && !(core->bp1 && core->bp0);
+}
+
+/* the identification page has no number to wait with, and the lock no value */
+static void start_identification_cycle(cartvesper_core *core, uint8_t kind)
+{
+    core->waits.kind = kind;
+    core->left = core->cycle;
+}
+
 /* ---- the frame level */
 
 /* bits past the count are written as 1 */
@@ -331,6 +393,22 @@ static uint64_t frame_read(const uint8_t *memory, const uint8_t *bytes, size_t l
     memset(out, 0xFF, 3);
     memcpy(out + 3, memory + address, first);
     memcpy(out + 3 + first, memory, data - first); /* rolls from FFFFh to 0000h, once at most: data is 65,537 at most */
+    fill_tail(out, length, bits);
+    return 24;
+}
+
+/* 83h: the identification page's cells, again from its start after its end; or the lock, again and again */
+static uint64_t frame_rdid(const cartvesper_core *core, const uint8_t *identification, const uint8_t *bytes,
+                           size_t length, size_t bits, uint8_t *out)
+{
+    if (length <= 3) {
+        memset(out, 0xFF, length);
+        return bits;
+    }
+    uint32_t address = (uint32_t)bytes[1] << 8 | bytes[2];
+    memset(out, 0xFF, 3);
+    for (size_t i = 3; i < length; i++)
+        out[i] = of_lock(address) ? core->lock : identification[(address + i - 3) % PAGE];
     fill_tail(out, length, bits);
     return 24;
 }
@@ -382,6 +460,19 @@ static void frame_write(cartvesper_core *core, const uint8_t *bytes, size_t leng
     start_page_cycle(core, address);
 }
 
+static void frame_wrid(cartvesper_core *core, const uint8_t *bytes, size_t length, size_t bits)
+{
+    if (length < 4 || bits != 8 * length || !identification_write_allowed(core))
+        return;
+    uint32_t address = (uint32_t)bytes[1] << 8 | bytes[2];
+    if (!of_lock(address)) {
+        frame_latch(&core->waits.latch, address % PAGE, bytes + 3, length - 3);
+        start_identification_cycle(core, IDENTIFICATION);
+    } else if (bits == 32 && (bytes[3] & LOCK_DATA)) {
+        start_identification_cycle(core, LOCK);
+    }
+}
+
 /* what a frame without output does; in a cycle nothing */
 static void frame_execute(cartvesper_core *core, int w, const uint8_t *bytes, size_t length, size_t bits)
 {
@@ -400,10 +491,15 @@ static void frame_execute(cartvesper_core *core, int w, const uint8_t *bytes, si
     case WRITE:
         frame_write(core, bytes, length, bits);
         break;
+    case WRID:
+        if (core->part == M95512D)
+            frame_wrid(core, bytes, length, bits);
+        break;
     }
 }
 
-uint64_t plain_frame(cartvesper_core *core, const uint8_t *memory, int w, const uint8_t *bytes, size_t length, size_t bits, uint8_t *out)
+uint64_t plain_frame(cartvesper_core *core, const uint8_t *memory, const uint8_t *identification, int w,
+                     const uint8_t *bytes, size_t length, size_t bits, uint8_t *out)
 {
     if (bits >= 8) {
         if (bytes[0] == RDSR)
@@ -411,6 +507,8 @@ uint64_t plain_frame(cartvesper_core *core, const uint8_t *memory, int w, const 
         if (core->left == 0) {
             if (bytes[0] == READ)
                 return frame_read(memory, bytes, length, bits, out);
+            if (is_rdid(core->part, bytes[0]))
+                return frame_rdid(core, identification, bytes, length, bits, out);
             frame_execute(core, w, bytes, length, bits);
         }
     }
@@ -431,21 +529,37 @@ void plain_device_power_up(cartvesper_device *device, int part, int lock, uint32
     plain_core_power_up(&device->core, part, lock, cycle, srwd, bp1, bp0, reading);
 }
 
-/* the page's next cell: back to its start, not into the next page */
+/* the cell after this one: at the page's end its start, not the next page */
+static uint32_t next_in_page(uint32_t address)
+{
+    uint32_t offset = address % PAGE;
+    return address - offset + (offset + 1) % PAGE;
+}
+
 static void latch_byte(cartvesper_frame_part *frame, uint8_t byte)
 {
     uint32_t offset = frame->address % PAGE;
     frame->latch.bytes[offset] = byte;
     frame->latch.marks[offset / WORD] |= (uint64_t)1 << offset % WORD;
-    frame->address = frame->address - offset + (offset + 1) % PAGE;
+    frame->address = next_in_page(frame->address);
 }
 
 /* the second whole byte: high address byte, or the WRSR data byte */
-static void second_byte(cartvesper_frame_part *frame, uint8_t byte)
+static void second_byte(cartvesper_frame_part *frame, int part, uint8_t byte)
 {
-    if (frame->code == READ || frame->code == WRITE)
+    if (has_address(part, frame->code))
         frame->address = (uint32_t)byte << 8;
     else if (frame->code == WRSR)
+        frame->value = byte;
+}
+
+/* from the fourth whole byte on; of a lock frame's data bytes the first is kept */
+static void data_byte(cartvesper_frame_part *frame, int part, uint8_t byte)
+{
+    int wrid = is_wrid(part, frame->code);
+    if (frame->code == WRITE || (wrid && !of_lock(frame->address)))
+        latch_byte(frame, byte);
+    else if (wrid && frame->taken == 3)
         frame->value = byte;
 }
 
@@ -453,21 +567,21 @@ static void second_byte(cartvesper_frame_part *frame, uint8_t byte)
 static void whole_byte(cartvesper_device *device, uint8_t byte)
 {
     cartvesper_frame_part *frame = &device->frame;
+    int part = device->core.part;
     switch (frame->taken) {
     case 0:
         frame->code = byte;
         frame->ran = device->core.left > 0; /* 01: "No cycle" is judged at the eighth counted edge */
         break;
     case 1:
-        second_byte(frame, byte);
+        second_byte(frame, part, byte);
         break;
     case 2:
-        if (frame->code == READ || frame->code == WRITE)
+        if (has_address(part, frame->code))
             frame->address |= byte;
         break;
     default:
-        if (frame->code == WRITE)
-            latch_byte(frame, byte);
+        data_byte(frame, part, byte);
         break;
     }
     if (frame->taken < MOST)
@@ -489,22 +603,47 @@ static void take_bit(cartvesper_device *device)
     whole_byte(device, partial);
 }
 
-/* an unheld falling edge: bits shown 1 to 7 step, 0 and 8 load the next byte */
-static void move_q(cartvesper_device *device, const uint8_t *memory)
+/* the next byte of RDSR, READ or 83h */
+static void load_byte(cartvesper_device *device, const uint8_t *memory, const uint8_t *identification)
 {
     cartvesper_frame_part *frame = &device->frame;
-    if (!in_output(frame))
-        return;
+    if (frame->code == RDSR) {
+        frame->out = plain_status(&device->core);
+    } else if (frame->code == READ) {
+        frame->out = memory[frame->address];
+        frame->address = (frame->address + 1) % MEMORY;
+    } else if (of_lock(frame->address)) {
+        frame->out = device->core.lock;
+    } else {
+        frame->out = identification[frame->address % PAGE];
+        frame->address = next_in_page(frame->address);
+    }
+}
+
+/* an unheld falling edge: bits shown 1 to 7 step, 0 and 8 load the next byte; outside data output they are 0 */
+static void move_q(cartvesper_device *device, const uint8_t *memory, const uint8_t *identification)
+{
+    cartvesper_frame_part *frame = &device->frame;
     if (frame->shown >= 1 && frame->shown <= 7) {
         frame->shown++;
         return;
     }
+    if (!in_output(frame, device->core.part))
+        return;
     frame->shown = 1;
-    if (frame->code == RDSR) {
-        frame->out = plain_status(&device->core);
-    } else {
-        frame->out = memory[frame->address];
-        frame->address = (frame->address + 1) % MEMORY;
+    load_byte(device, memory, identification);
+}
+
+/* an 82h of four whole bytes or more */
+static void execute_wrid(cartvesper_core *core, const cartvesper_frame_part *frame)
+{
+    if (!identification_write_allowed(core))
+        return;
+    if (!of_lock(frame->address)) {
+        core->waits.latch = frame->latch;
+        start_identification_cycle(core, IDENTIFICATION);
+    } else if (frame->taken == 4 && (frame->value & LOCK_DATA)) {
+        start_identification_cycle(core, LOCK);
     }
 }
 
@@ -535,12 +674,16 @@ static void execute(cartvesper_device *device)
             start_page_cycle(core, frame->address);
         }
         break;
+    case WRID:
+        if (core->part == M95512D && frame->taken >= 4)
+            execute_wrid(core, frame);
+        break;
     }
 }
 
 static void empty_frame(cartvesper_frame_part *frame)
 {
-    if (frame->code == WRITE && frame->taken >= 4) /* else the latch is empty */
+    if ((frame->code == WRITE || frame->code == WRID) && frame->taken >= 4) /* else the latch is empty */
         memset(&frame->latch, 0, sizeof frame->latch);
     memset(frame, 0, offsetof(cartvesper_frame_part, latch));
 }
@@ -551,7 +694,7 @@ void plain_s(cartvesper_device *device, int level)
         return;
     device->pins.s = (uint8_t)level;
     if (level) {
-        if (!device->held || device->frame.code == WRITE) /* deselecting while held drops every frame but a WRITE */
+        if (!device->held || device->frame.code == WRITE) /* deselecting while held drops every frame but 02h */
             execute(device);
         device->held = 0;
         empty_frame(&device->frame);
@@ -560,7 +703,7 @@ void plain_s(cartvesper_device *device, int level)
     }
 }
 
-void plain_c(cartvesper_device *device, int level, const uint8_t *memory)
+void plain_c(cartvesper_device *device, int level, const uint8_t *memory, const uint8_t *identification)
 {
     if (device->pins.c == level)
         return;
@@ -572,7 +715,7 @@ void plain_c(cartvesper_device *device, int level, const uint8_t *memory)
             take_bit(device);
     } else {
         if (!device->held)
-            move_q(device, memory);
+            move_q(device, memory, identification);
         device->held = !device->pins.hold; /* the edge acts by the old held value, then held is renewed */
     }
 }
@@ -615,7 +758,7 @@ void plain_event(cartvesper_device *device, uint8_t *memory, uint8_t *identifica
         plain_s(device, level);
         break;
     case 1:
-        plain_c(device, level, memory);
+        plain_c(device, level, memory, identification);
         break;
     case 2:
         plain_d(device, level);
@@ -665,7 +808,8 @@ typedef struct {
 
 static void send(driver_run *run, const uint8_t *bytes, size_t length, uint8_t *out)
 {
-    plain_frame(run->core, run->memory, 1, bytes, length, 8 * length, out); /* W does not matter */
+    /* W does not matter */
+    plain_frame(run->core, run->memory, run->identification, 1, bytes, length, 8 * length, out);
     run->frames++;
 }
 
@@ -840,9 +984,8 @@ cartvesper_frame_answer plain_frame_call(cartvesper_core core, const uint8_t *me
                                          size_t length, size_t bits, uint8_t *out, size_t room)
 {
     cartvesper_frame_answer answer = {frame_refusal(&core, size, cells, w, length, bits, room), 0, core};
-    (void)identification; /* no frame looks at it */
     if (answer.number == 0)
-        answer.undriven = plain_frame(&answer.core, memory, w, bytes, length, bits, out);
+        answer.undriven = plain_frame(&answer.core, memory, identification, w, bytes, length, bits, out);
     return answer;
 }
 
@@ -909,9 +1052,8 @@ cartvesper_device_answer plain_device_set_c_call(cartvesper_device device, uint8
                                                  size_t size, const uint8_t *identification, size_t cells)
 {
     cartvesper_device_answer answer = {!lent_ok(size, cells) ? 1 : level_refusal(&device, level), device};
-    (void)identification;
     if (answer.number == 0)
-        plain_c(&answer.device, level, memory);
+        plain_c(&answer.device, level, memory, identification);
     return answer;
 }
 

@@ -25,14 +25,15 @@ void plain_core_power_up(cartvesper_core *core, int part, int lock, uint32_t cyc
                          uint32_t reading);
 void plain_time(cartvesper_core *core, uint8_t *memory, uint8_t *identification, uint32_t reading);
 /* a whole frame; out has the slice's length; gives back how many leading bits were undriven */
-uint64_t plain_frame(cartvesper_core *core, const uint8_t *memory, int w, const uint8_t *bytes, size_t length, size_t bits, uint8_t *out);
+uint64_t plain_frame(cartvesper_core *core, const uint8_t *memory, const uint8_t *identification, int w,
+                     const uint8_t *bytes, size_t length, size_t bits, uint8_t *out);
 
 /* ---- the pin level */
 
 void plain_device_power_up(cartvesper_device *device, int part, int lock, uint32_t cycle, int srwd, int bp1, int bp0,
                            uint32_t reading);
 void plain_s(cartvesper_device *device, int level);
-void plain_c(cartvesper_device *device, int level, const uint8_t *memory);
+void plain_c(cartvesper_device *device, int level, const uint8_t *memory, const uint8_t *identification);
 void plain_d(cartvesper_device *device, int level);
 void plain_w(cartvesper_device *device, int level);
 void plain_hold(cartvesper_device *device, int level);

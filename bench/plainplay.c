@@ -94,7 +94,7 @@ static int one(uint32_t whole)
         plain_s(&device, level);
         return 1;
     case 'C':
-        plain_c(&device, level, memory);
+        plain_c(&device, level, memory, identification);
         return 1;
     case 'D':
         plain_d(&device, level);

@@ -48,9 +48,11 @@ aarch64)
     need "$tools/bin/clang" "of the Rattle toolchain for Arm"
     need "$kit/bin/rattle-link" "of the Rattle toolchain for Arm"
     need "$tools/bin/qemu-x86_64" "of the Rattle toolchain for Arm"
+    need cc "a C compiler, whose headers serve"
+    headers=$(cc -E -Wp,-v -xc /dev/null 2>&1 | sed -n 's/^ \(\/.*\)$/-isystem \1/p')
     objects=
     for source in $sources; do
-        "$tools/bin/clang" --target=x86_64-unknown-linux-gnu -fPIE -std=gnu11 -O2 -c "$source" -o "$out/$source.o"
+        "$tools/bin/clang" --target=x86_64-unknown-linux-gnu $headers -fPIE -std=gnu11 -O2 -c "$source" -o "$out/$source.o"
         objects="$objects $out/$source.o"
     done
     "$kit/bin/rattle-link" --target x86_64-unknown-linux-gnu --toolchain "$tools" -o "$out/$program" $objects "$archive" 2>"$out/$program.log" || {

@@ -74,10 +74,16 @@ static void lib_frames(size_t n)
     }
 }
 
+/* one frame of the plain model in place, W high */
+static void plain_send(const uint8_t *bytes, size_t length)
+{
+    plain_frame(&plain.core, plain.memory, plain.identification, 1, bytes, length, 8 * length, plain.out);
+}
+
 static void plain_frames(size_t n)
 {
     while (n-- > 0)
-        plain_frame(&plain.core, plain.memory, 1, frame_bytes, frame_length, 8 * frame_length, plain.out);
+        plain_send(frame_bytes, frame_length);
 }
 
 static void test_core(void)
@@ -90,7 +96,7 @@ static void tested_frames(size_t n)
 {
     while (n-- > 0) {
         test_core();
-        plain_frame(&plain.core, plain.memory, 1, frame_bytes, frame_length, 8 * frame_length, plain.out);
+        plain_send(frame_bytes, frame_length);
     }
 }
 
@@ -162,8 +168,8 @@ static void plain_writes(size_t n)
 {
     while (n-- > 0) {
         next_address(n);
-        plain_frame(&plain.core, plain.memory, 1, wren_byte, 1, 8, plain.out);
-        plain_frame(&plain.core, plain.memory, 1, frame_bytes, frame_length, 8 * frame_length, plain.out);
+        plain_send(wren_byte, 1);
+        plain_send(frame_bytes, frame_length);
         plain_time(&plain.core, plain.memory, plain.identification, plain.core.last + CYCLE);
     }
 }
@@ -173,9 +179,9 @@ static void tested_writes(size_t n)
     while (n-- > 0) {
         next_address(n);
         test_core();
-        plain_frame(&plain.core, plain.memory, 1, wren_byte, 1, 8, plain.out);
+        plain_send(wren_byte, 1);
         test_core();
-        plain_frame(&plain.core, plain.memory, 1, frame_bytes, frame_length, 8 * frame_length, plain.out);
+        plain_send(frame_bytes, frame_length);
         test_core();
         plain_time(&plain.core, plain.memory, plain.identification, plain.core.last + CYCLE);
     }

@@ -9,10 +9,10 @@ use borrow.Author.Tests.{eq-eqb, le-leb, eqb-true, leb-true}
 use native.Mathlib.Omega.{arith}
 use Rattle.laws.specs.Pick.{at-yes, and-left, and-right}
 use Rattle.laws.specs.Table.{table}
-use Rattle.codes.specs.Part.{Part, m95512}
+use Rattle.codes.specs.Part.{Part, partOf}
 use Rattle.codes.specs.Status.{on}
 use Rattle.chip.specs.Lents.{Lent}
-use Rattle.chip.specs.Records.{running, status}
+use Rattle.chip.specs.Records.{running, status, lockByte}
 use Rattle.codes.specs.Refusals.{isDone}
 use Rattle.chip.specs.Ranges.{inRanges}
 use Rattle.chip.specs.declared.Core.{Core}
@@ -20,7 +20,7 @@ use Rattle.codes.specs.declared.Outcome.the-variants.{Done}
 use Rattle.chip.proofs.Readings.{lent-both}
 use Rattle.chip.proofs.Within.{Within, within, in-ranges}
 use Rattle.fields.specs.Bytes.{instruction, address}
-use Rattle.shown.specs.Shown.{byteOut, output}
+use Rattle.shown.specs.Shown.{Sights, sights, byteOut, output}
 use Rattle.shown.proofs.Padding.{few-unused}
 use Rattle.frames.specs.After.{after}
 use Rattle.frames.specs.Answers.{frameOutcome, framed, framedOutput}
@@ -36,7 +36,7 @@ use Rattle.pins.specs.Ranges.{pinsFit, heldFits, emptyFits, ranFits, deviceFits
 use Rattle.edges.specs.Ranges.{frameFits}
 use Rattle.agree.specs.Drawings.{Sendable, flat, bitsOf}
 use Rattle.agree.specs.Reports.{shared, asOne, watched, outputBits, levelled, outputLevels, framesPlayed, SameSeen, Agreement, LevelAgreement}
-use Rattle.codes.proofs.Sound.{Sound, m95512-sound}
+use Rattle.codes.proofs.Sound.{Sound, sound-of}
 use Rattle.laws.specs.Flags.{bit-on}
 use Rattle.agree.proofs.Ticks.{seenOf, endOf, decides}
 use Rattle.agree.proofs.Bytes.{onQ, shown-bit, none, seen-bytes, end-bytes}
@@ -61,7 +61,10 @@ module _ (P : Part) (sound : Sound P) where
     unfolding framed
     framed-acted = at-yes _ _ (ap isDone (done (length s) refl))
 
-    framed-output : framedOutput P c (m .memory) (m .identification) s n (replicate (length s) 0) ≡ output P (running c) (λ j. status c) (m .memory) s n
+    abbrev v : Sights
+    v = sights (status c) (lockByte c) (m .memory) (m .identification)
+
+    framed-output : framedOutput P c (m .memory) (m .identification) s n (replicate (length s) 0) ≡ output P (running c) v s n
     unfolding framedOutput
     framed-output = at-yes _ _ (ap isDone (done (length (replicate (length s) 0)) (length-replicate (length s) 0)))
 
@@ -73,10 +76,10 @@ module _ (P : Part) (sound : Sound P) where
         ∙ sym (ap (λ l. take n (flat l)) framed-output ∙ padding (few .0) (few .1))
       where
         shown : ℕ → ℕ
-        shown = byteOut P (instruction P s) (running c) (λ j. status c) (m .memory) (address P s)
+        shown = byteOut P (instruction P s) (running c) v (address P s)
 
         padding : n ≤ 8 * length s → 8 * length s - n < 8
-            → take n (flat (output P (running c) (λ j. status c) (m .memory) s n)) ≡ take n (flat (table (length s) shown))
+            → take n (flat (output P (running c) v s n)) ≡ take n (flat (table (length s) shown))
         padding h k = unfold output table in pad-bits shown (length s) (8 * length s - n) k (length s) 0 n (omega arith) (omega arith)
 
     frame-levels-seen : seenOf (λ l. l) P m c (noFrame P) (bitsOf s n) ≡ outputLevels P (lentBench c m) s n
@@ -150,8 +153,9 @@ module _ (P : Part) (sound : Sound P) where
   pub levels-agree : LevelAgreement P
   levels-agree = same-seen (λ l. l) outputLevels frame-levels-seen
 
-pub agreement : Agreement m95512
-agreement = agrees m95512 m95512-sound
+-- and so for each part, by its number
+pub agreement : (n : ℕ) → Agreement (partOf n)
+agreement n = agrees (partOf n) (sound-of n)
 
-pub level-agreement : LevelAgreement m95512
-level-agreement = levels-agree m95512 m95512-sound
+pub level-agreement : (n : ℕ) → LevelAgreement (partOf n)
+level-agreement n = levels-agree (partOf n) (sound-of n)

@@ -213,7 +213,7 @@ module _ (P : Part) (sound : Sound P) (m : Lent) (c : Core) where
 
   pub step-more : (i : Instruction) (u v j a x o z : ℕ) (l : Latch) → decode P v ≡ i → 1 ≤ j
       → let n = min (P .most) j in
-      step u (afterBytes P sound m c v j a x o z l) ≡ afterFall P sound m c i v (suc j) (addressOf P i n u a) (valueOf i n u x) o (latchOf P i n u a l)
+      step u (afterBytes P sound m c v j a x o z l) ≡ afterFall P sound m c i v (suc j) (addressOf P i n u a) (valueOf P i n u a x) o (latchOf P i n u a l)
   unfolding step
   step-more i u v j a x o z l e k =
       ap₂ (λ d r. stepByte P sound m c (outputs P d (min (P .most) j) r) u (afterBytes P sound m c v j a x o z l)) e (on-bit (running c))

@@ -16,7 +16,7 @@ use Rattle.codes.specs.Status.{on, bitOf}
 use Rattle.codes.specs.Instructions.{decode}
 use Rattle.codes.specs.Output.{outputs}
 use Rattle.codes.specs.declared.Instruction.{Instruction}
-use Rattle.codes.specs.declared.Instruction.the-variants.{Wren, Wrdi, Rdsr, Wrsr, Read, Write, Silence}
+use Rattle.codes.specs.declared.Instruction.the-variants.{Wren, Wrdi, Rdsr, Wrsr, Read, Write, Rdid, Wrid, Silence}
 use Rattle.latch.specs.declared.Latch.{Latch}
 use Rattle.chip.specs.Lents.{Lent}
 use Rattle.chip.specs.Records.{running}
@@ -141,17 +141,22 @@ module _ (k n : ℕ) (h : n ≤ 8 * k) where
   unfolding table
   from-byte b = ap (take n) (marks-from b k 0) ∙ marks-take (8 * (b - 0)) (8 * k) n h ∙ marks-min (8 * (b - 0)) n (min (8 * b) n) (omega arith)
 
+  read-marks : (P : Part) (ran : Bool) → take n (flat (table k (λ j. eight (outputs P Read j ran)))) ≡ marks (undriven P Read ran n) n
+  unfolding pick
+  read-marks P true = ap (λ (g : ℕ → ℕ). take n (flat (table k g))) (fun-ext (λ j. ap eight (and-false (leb (P .addressBytes + 1) j)))) ∙ never
+  read-marks P false =
+      ap (λ (g : ℕ → ℕ). take n (flat (table k g))) (fun-ext (λ j. ap eight (and-true (leb (P .addressBytes + 1) j)))) ∙ from-byte (P .addressBytes + 1)
+
   pub undriven-marks : (P : Part) (i : Instruction) (ran : Bool) → take n (flat (table k (λ j. eight (outputs P i j ran)))) ≡ marks (undriven P i ran n) n
   unfolding pick
   undriven-marks P Wren ran = never
   undriven-marks P Wrdi ran = never
   undriven-marks P Rdsr ran = from-byte 1
   undriven-marks P Wrsr ran = never
-  undriven-marks P Read true =
-      ap (λ (g : ℕ → ℕ). take n (flat (table k g))) (fun-ext (λ j. ap eight (and-false (leb (P .addressBytes + 1) j)))) ∙ never
-  undriven-marks P Read false =
-      ap (λ (g : ℕ → ℕ). take n (flat (table k g))) (fun-ext (λ j. ap eight (and-true (leb (P .addressBytes + 1) j)))) ∙ from-byte (P .addressBytes + 1)
+  undriven-marks P Read ran = read-marks P ran
   undriven-marks P Write ran = never
+  undriven-marks P Rdid ran = read-marks P ran
+  undriven-marks P Wrid ran = never
   undriven-marks P Silence ran = never
 
 -- ---- a frame
@@ -178,6 +183,8 @@ module _ (P : Part) (sound : Sound P) (m : Lent) (c : Core) where
   drives-count Wrsr j = refl
   drives-count Read j = ap (λ t. t && not (running c)) (leb-min (P .most) j (P .addressBytes + 1) (omega (arith, sound .counted)))
   drives-count Write j = refl
+  drives-count Rdid j = ap (λ t. t && not (running c)) (leb-min (P .most) j (P .addressBytes + 1) (omega (arith, sound .counted)))
+  drives-count Wrid j = refl
   drives-count Silence j = refl
 
   none-first : (i : Instruction) → false ≡ outputs P i 0 (running c)
@@ -187,6 +194,8 @@ module _ (P : Part) (sound : Sound P) (m : Lent) (c : Core) where
   none-first Wrsr = refl
   none-first Read = sym (and-no-left (leb (P .addressBytes + 1) 0) (not (running c)) (lt-leb (P .addressBytes + 1) 0 (omega arith)))
   none-first Write = refl
+  none-first Rdid = sym (and-no-left (leb (P .addressBytes + 1) 0) (not (running c)) (lt-leb (P .addressBytes + 1) 0 (omega arith)))
+  none-first Wrid = refl
   none-first Silence = refl
 
   driven-more : (i : Instruction) (us : List ℕ) (v j a x o z : ℕ) (l : Latch) → decode P v ≡ i → 1 ≤ j

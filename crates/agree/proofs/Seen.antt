@@ -1,38 +1,45 @@
 -- What Q shows over each byte is what the frame model says of its position: by induction on the bytes, for each instruction.
-use Prim.Native.Nat.{ℕ, zero, suc, _+_, _*_, _-_, _%_, _<_, _≤_, min, _^_}
+use Prim.Native.Nat.{ℕ, zero, suc, _+_, _*_, _-_, _/_, _%_, _<_, _≤_, min, _^_}
 use mathlib.Core.Bool.{Bool, true, false, not, _&&_}
 use mathlib.Core.List.{List, [], _∷_}
 use mathlib.Core.Path.{_≡_, refl, sym, ap, ap₂, _∙_, fun-ext}
 use lib.Dec.{leb}
 use lib.ListN.{getD, length}
 use borrow.Author.Tests.{le-leb, lt-leb}
-use native.Mathlib.Nat.{mod-add-mod, mod-mod, zero-mod}
+use native.Mathlib.Nat.{mod-add-mod, mod-mod, zero-mod, div-add-mod'}
 use native.Mathlib.Omega.{arith}
-use Rattle.laws.specs.Pick.{pick, at-yes, at-no, and-both, and-no-left, and-no-right}
+use Rattle.laws.specs.Pick.{pick, pick-case, at-yes, at-no, and-both, and-no-left, and-no-right}
 use Rattle.laws.specs.Table.{from, table}
 use Rattle.codes.specs.Part.{Part}
 use Rattle.latch.specs.Latches.{noLatch}
+use Rattle.latch.specs.Identification.{identificationAt, identificationByte, identificationNext}
 use Rattle.chip.specs.Lents.{Lent}
-use Rattle.chip.specs.Records.{running, status}
-use Rattle.codes.specs.Instructions.{decode}
+use Rattle.chip.specs.Records.{running, status, lockByte}
+use Rattle.codes.specs.Instructions.{decode, picksLock}
 use Rattle.chip.specs.declared.Core.{Core}
 use Rattle.latch.specs.declared.Latch.{Latch}
 use Rattle.codes.specs.declared.Instruction.{Instruction}
-use Rattle.codes.specs.declared.Instruction.the-variants.{Wren, Wrdi, Rdsr, Wrsr, Read, Write, Silence}
+use Rattle.codes.specs.declared.Instruction.the-variants.{Wren, Wrdi, Rdsr, Wrsr, Read, Write, Rdid, Wrid, Silence}
 use Rattle.edges.specs.declared.Frame.{Frame}
 use Rattle.edges.specs.Frames.{noFrame}
 use Rattle.codes.specs.Output.{outputs}
 use Rattle.fields.specs.Bytes.{instruction, addressTo, address}
-use Rattle.shown.specs.Shown.{byteOut}
+use Rattle.shown.specs.Shown.{sights, byteOut}
 use Rattle.codes.proofs.Sound.{Sound}
+use Rattle.codes.proofs.Starts.{picks-page}
 use Rattle.laws.specs.Flags.{on-bit}
 use Rattle.agree.proofs.Facts.{leb-min, min-leb}
+use Rattle.agree.proofs.Pages.{cell, cell-mod, cell-div, cell-next}
 use Rattle.agree.proofs.Steps.{afterBytes, drives, afterFall}
 use Rattle.agree.proofs.Bytes.{onQ, drivesOf, step, bytesSeen, step-first, step-more}
 
 module _ (P : Part) (sound : Sound P) (m : Lent) (c : Core) where
   abbrev unlatched : Latch
   unlatched = noLatch P
+
+  -- what the frame model says of byte n
+  abbrev Out : Instruction → ℕ → ℕ → ℕ
+  Out i A n = byteOut P i (running c) (sights (status c) (lockByte c) (m .memory) (m .identification)) A n
 
   -- ---- data output or not
 
@@ -70,8 +77,7 @@ module _ (P : Part) (sound : Sound P) (m : Lent) (c : Core) where
   rdsr-on j k = leb-min (P .most) j 1 (omega (arith, sound .counted)) ∙ le-leb 1 j k
 
   rdsr-seen : (us : List ℕ) (v j a x A : ℕ) (l : Latch) → decode P v ≡ Rdsr → 1 ≤ j
-      → bytesSeen P sound m c onQ (afterBytes P sound m c v j a x (status c) 1 l) us ≡ from j (length us)
-      (byteOut P Rdsr (running c) (λ _. status c) (m .memory) A)
+      → bytesSeen P sound m c onQ (afterBytes P sound m c v j a x (status c) 1 l) us ≡ from j (length us) (Out Rdsr A)
   unfolding bytesSeen from
   rdsr-seen [] v j a x A l e k = refl
   rdsr-seen (u ∷ us) v j a x A l e k =
@@ -83,9 +89,6 @@ module _ (P : Part) (sound : Sound P) (m : Lent) (c : Core) where
       ∙ rdsr-seen us v (suc j) a x A l e (omega arith))
 
   -- ---- an instruction that reads
-
-  abbrev Out : Instruction → ℕ → ℕ → ℕ
-  Out i A n = byteOut P i (running c) (λ _. status c) (m .memory) A n
 
   -- the byte at an address, the address after it, and the address after so many of them
   record Reader (i : Instruction) (out past : ℕ → ℕ) (place : ℕ → ℕ → ℕ) : Type 0 where
@@ -218,6 +221,59 @@ module _ (P : Part) (sound : Sound P) (m : Lent) (c : Core) where
         goes-on = λ A d. let next : A + d + 1 ≡ A + suc d = omega arith in mod-add-mod (A + d) (P .size) 1 ∙ ap (λ y. y % P .size) next;
       }
 
+  -- 83h: the identification page from the address up, rolling within it, or the lock, whose address does not move
+  abbrev placed : ℕ → ℕ → ℕ
+  placed A d = pick (picksLock A) A (cell P sound (A / P .page) (A % P .page + d))
+
+  abbrev shownId : ℕ → ℕ
+  shownId a = identificationByte P (lockByte c) (m .identification) a
+
+  -- an address of the page picks as the start does
+  picks-cell : (A i : ℕ) → picksLock (cell P sound (A / P .page) i) ≡ picksLock A
+  picks-cell A i = picks-page sound (cell P sound (A / P .page) i) A (cell-div P sound (A / P .page) i)
+
+  placed-shows : (A d : ℕ) → identificationAt P (lockByte c) (m .identification) A d ≡ shownId (placed A d)
+  placed-shows A d = go (picksLock A) refl
+    where
+      a : ℕ
+      a = cell P sound (A / P .page) (A % P .page + d)
+
+      go : (t : Bool) → picksLock A ≡ t → identificationAt P (lockByte c) (m .identification) A d ≡ shownId (placed A d)
+      go true p = at-yes _ _ p ∙ sym (ap shownId (at-yes _ _ p) ∙ at-yes _ _ p)
+      go false p =
+          at-no _ _ p ∙ ap (λ n. getD (m .identification) n 0) (sym (cell-mod P sound (A / P .page) (A % P .page + d)))
+          ∙ sym (ap shownId (at-no _ _ p) ∙ at-no _ _ (picks-cell A (A % P .page + d) ∙ p))
+
+  placed-begins : (A : ℕ) → placed A 0 ≡ A
+  placed-begins A =
+      pick-case (λ n. n ≡ A) (picksLock A) (λ p. refl)
+      (λ p. let same : A % P .page + 0 ≡ A % P .page = omega arith in
+      ap (λ n. A / P .page * P .page + n) (ap (λ n. n % P .page) same ∙ mod-mod A (P .page)) ∙ div-add-mod' A (P .page))
+
+  placed-goes-on : (A d : ℕ) → identificationNext P (placed A d) ≡ placed A (suc d)
+  placed-goes-on A d = go (picksLock A) refl
+    where
+      next : suc (A % P .page + d) ≡ A % P .page + suc d
+      next = omega arith
+
+      go : (t : Bool) → picksLock A ≡ t → identificationNext P (placed A d) ≡ placed A (suc d)
+      go true p = ap (identificationNext P) (at-yes _ _ p) ∙ at-yes _ _ p ∙ sym (at-yes _ _ p)
+      go false p =
+          ap (identificationNext P) (at-no _ _ p) ∙ at-no _ _ (picks-cell A (A % P .page + d) ∙ p)
+          ∙ cell-next P sound (A / P .page) (A % P .page + d) ∙ ap (cell P sound (A / P .page)) next ∙ sym (at-no _ _ p)
+
+  identifies : Reader Rdid shownId (identificationNext P) placed
+  unfolding pick
+  identifies =
+      record {
+        driven = λ n ran. refl;
+        steps = λ u v j a o z e k. step-more P sound m c Rdid u v j a 0 o z unlatched e k;
+        loads = λ v j a o q. rw q;
+        cell = λ A n. ap (λ y. pick (outputs P Rdid n (running c)) y 255) (placed-shows A (n - (P .addressBytes + 1)));
+        begins = λ A e. placed-begins A;
+        goes-on = placed-goes-on;
+      }
+
   -- ---- any frame
 
   hush-table : (i : Instruction) (v A : ℕ) (vs : List ℕ) → decode P v ≡ i → Hushed i → ((n : ℕ) → 255 ≡ Out i A n)
@@ -240,6 +296,10 @@ module _ (P : Part) (sound : Sound P) (m : Lent) (c : Core) where
       hush-table Read v (address P (v ∷ vs)) vs e (shut reads r) (λ n. sym (at-no _ _ (shut reads r n)))
   tail-table Read false v vs e r = read-table reads r v (P .addressBytes) vs e refl
   tail-table Write b v vs e r = hush-table Write v (address P (v ∷ vs)) vs e (λ n. refl) (λ n. refl)
+  tail-table Rdid true v vs e r =
+      hush-table Rdid v (address P (v ∷ vs)) vs e (shut identifies r) (λ n. sym (at-no _ _ (shut identifies r n)))
+  tail-table Rdid false v vs e r = read-table identifies r v (P .addressBytes) vs e refl
+  tail-table Wrid b v vs e r = hush-table Wrid v (address P (v ∷ vs)) vs e (λ n. refl) (λ n. refl)
   tail-table Silence b v vs e r = hush-table Silence v (address P (v ∷ vs)) vs e (λ n. refl) (λ n. refl)
 
   -- over the first byte Q shows nothing
@@ -251,6 +311,8 @@ module _ (P : Part) (sound : Sound P) (m : Lent) (c : Core) where
   head-table Wrsr A = refl
   head-table Read A = sym (cell-off reads A 0 (omega arith))
   head-table Write A = refl
+  head-table Rdid A = sym (cell-off identifies A 0 (omega arith))
+  head-table Wrid A = refl
   head-table Silence A = refl
 
   pub seen-table : (s : List ℕ) → bytesSeen P sound m c onQ (noFrame P) s ≡ table (length s) (Out (instruction P s) (address P s))

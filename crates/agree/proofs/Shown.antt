@@ -7,14 +7,15 @@ use lib.ListN.{getD, length-replicate}
 use Rattle.laws.specs.Pick.{pick}
 use Rattle.laws.specs.Each.{each}
 use Rattle.laws.specs.Table.{from, table}
-use Rattle.codes.specs.Part.{m95512}
+use Rattle.codes.specs.Part.{m95512, m95512d}
 use Rattle.laws.specs.Bits.{bitOn}
 use Rattle.latch.specs.Latches.{zeros, stored}
-use Rattle.chip.specs.Records.{status}
+use Rattle.chip.specs.Records.{status, idle}
 use Rattle.codes.specs.Instructions.{decode}
 use Rattle.codes.specs.Verdicts.{verdictBy}
 use Rattle.chip.specs.Ranges.{inRanges}
 use Rattle.chip.specs.Time.{timed, timedCells}
+use Rattle.chip.specs.declared.Core.{Core}
 use Rattle.chip.specs.Power.{delivered, deliveredMemory, deliveredIdentification}
 use Rattle.fields.specs.Bytes.{latchedFrom}
 use Rattle.shown.specs.Shown.{output}
@@ -87,4 +88,75 @@ unselected =
 
 pub pins-seen : (es : List Event) → Wave m95512 (between false) false true [] acts es → Seen (watched asOne m95512 es [] deliveredBench)
 unfolding SameSeen run
-pins-seen es r = subst Seen (sym (agreement deliveredBench acts es unselected r)) frames-seen
+pins-seen es r = subst Seen (sym (agreement 0 deliveredBench acts es unselected r)) frames-seen
+
+-- ---- the identification page of an M95512-D, and its lock
+
+-- as delivered
+abbrev pub deliveredD : Core
+deliveredD = idle 1 false false false false (m95512d .longest) 0
+
+-- WREN; 82h of 11h and 22h at cell 7Fh; the clock reads 5,000; 83h at 7Fh, two bytes; WREN; 82h for the lock; the clock reads 10,000; 83h for the lock;
+-- WREN; 82h of 33h at cell 7Fh; 83h at 7Fh
+abbrev pub pageActs : List Act
+pageActs =
+    frame true (0x06 ∷ []) 8 ∷ frame true (0x82 ∷ 0x00 ∷ 0x7f ∷ 0x11 ∷ 0x22 ∷ []) 40 ∷ reading 5000
+    ∷ frame true (0x83 ∷ 0x00 ∷ 0x7f ∷ 0x00 ∷ 0x00 ∷ []) 40 ∷ frame true (0x06 ∷ []) 8 ∷ frame true (0x82 ∷ 0x04 ∷ 0x00 ∷ 0x02 ∷ []) 32 ∷ reading 10000
+    ∷ frame true (0x83 ∷ 0x04 ∷ 0x00 ∷ 0x00 ∷ []) 32 ∷ frame true (0x06 ∷ []) 8 ∷ frame true (0x82 ∷ 0x00 ∷ 0x7f ∷ 0x33 ∷ []) 32
+    ∷ frame true (0x83 ∷ 0x00 ∷ 0x7f ∷ 0x00 ∷ []) 32 ∷ []
+
+pub pageRun : List (Report Bool)
+pageRun = framesPlayed outputBits m95512d pageActs (frameBench deliveredD (deliveredMemory m95512d) (deliveredIdentification m95512d))
+
+abbrev pub pageCells : ℕ → List (Report Bool) → List ℕ
+pageCells i [] = []
+pageCells i (r ∷ rs) = getD (r .bench .identification) i 0 ∷ pageCells i rs
+
+abbrev pub lockBits : List (Report Bool) → List ℕ
+lockBits [] = []
+lockBits (r ∷ rs) = r .bench .core .lock ∷ lockBits rs
+
+-- 11h, 22h; 01h
+abbrev pub elevens : List Bool
+elevens = false ∷ false ∷ false ∷ true ∷ false ∷ false ∷ false ∷ true ∷ []
+
+abbrev pub twenties : List Bool
+twenties = false ∷ false ∷ true ∷ false ∷ false ∷ false ∷ true ∷ false ∷ []
+
+abbrev pub one : List Bool
+one = false ∷ false ∷ false ∷ false ∷ false ∷ false ∷ false ∷ true ∷ []
+
+-- what a bench sees: both bytes on Q, rolled within the page, then the lock, then the first byte again; WEL stays after the write that the lock stops
+pub record PageSeen (rs : List (Report Bool)) : Type 0 where
+  pub bits :
+      bitsSeen rs
+      ≡ ones ∷ (ones ++ ones ++ ones ++ ones ++ ones) ∷ (ones ++ ones ++ ones ++ elevens ++ twenties) ∷ ones ∷ (ones ++ ones ++ ones ++ ones)
+      ∷ (ones ++ ones ++ ones ++ one) ∷ ones ∷ (ones ++ ones ++ ones ++ ones) ∷ (ones ++ ones ++ ones ++ elevens) ∷ []
+  pub registers : statuses rs ≡ 2 ∷ 3 ∷ 0 ∷ 2 ∷ 3 ∷ 0 ∷ 2 ∷ 2 ∷ 2 ∷ []
+  pub last : pageCells 0x7f rs ≡ 0xff ∷ 0xff ∷ 0x11 ∷ 0x11 ∷ 0x11 ∷ 0x11 ∷ 0x11 ∷ 0x11 ∷ 0x11 ∷ []
+  pub first : pageCells 0x00 rs ≡ 0xff ∷ 0xff ∷ 0x22 ∷ 0x22 ∷ 0x22 ∷ 0x22 ∷ 0x22 ∷ 0x22 ∷ 0x22 ∷ []
+  pub locked : lockBits rs ≡ 0 ∷ 0 ∷ 0 ∷ 0 ∷ 0 ∷ 1 ∷ 1 ∷ 1 ∷ 1 ∷ []
+
+pub page-frames-seen : PageSeen pageRun
+unfolding pageRun framesPlayed framedOutput inRanges each pick verdictBy decode latchedFrom zeros bitOn timed timedCells stored table from output flat
+page-frames-seen = record { bits = refl; registers = refl; last = refl; first = refl; locked = refl }
+
+-- and so the pin model, from the same device
+
+abbrev pub deliveredBenchD : PinBench
+deliveredBenchD = pinBench (resting m95512d deliveredD) (deliveredMemory m95512d) (deliveredIdentification m95512d)
+
+unselectedD : Unselected m95512d deliveredBenchD
+unfolding deviceFits inRanges each pick decode zeros bitOn
+unselectedD =
+    record {
+      fits = refl;
+      up = refl;
+      free = refl;
+      memory = length-replicate {A = ℕ} (m95512d .size) 0xff;
+      identification = length-replicate {A = ℕ} (m95512d .page) 0xff;
+    }
+
+pub page-pins-seen : (es : List Event) → Wave m95512d (between false) false true [] pageActs es → PageSeen (watched asOne m95512d es [] deliveredBenchD)
+unfolding SameSeen pageRun
+page-pins-seen es r = subst PageSeen (sym (agreement 1 deliveredBenchD pageActs es unselectedD r)) page-frames-seen

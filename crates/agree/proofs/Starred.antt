@@ -39,7 +39,7 @@ read-answer m d e k = ap (λ (o : Outcome). frameReply o 24) (read-taken (length
 read-rolls : (m d out : List ℕ) → length m ≡ m95512 .size → length d ≡ m95512 .page → length out ≡ 5
     → framedOutput m95512 delivered m d bytesF 40 out ≡ 0xff ∷ 0xff ∷ 0xff ∷ getD m 0xffff 0 ∷ getD m 0x0000 0 ∷ []
 unfolding framedOutput
-read-rolls m d out e k r = at-yes _ _ (ap isDone (read-taken (length m) (length d) (length out) e k r)) ∙ case-f m
+read-rolls m d out e k r = at-yes _ _ (ap isDone (read-taken (length m) (length d) (length out) e k r)) ∙ case-f m d
 
 pub starred : Starred
 unfolding framed pick inRanges each verdictBy decode latchedFrom zeros bitOn timed timedCells stored table from

@@ -10,14 +10,15 @@ use native.Mathlib.Omega.{arith}
 use Rattle.laws.specs.Pick.{pick, at-no, and-left, and-right, and-both}
 use Rattle.codes.specs.Part.{Part}
 use Rattle.codes.specs.Status.{bit, on}
-use Rattle.latch.specs.Latches.{noLatch, latched, nextCell}
+use Rattle.latch.specs.Latches.{noLatch, latched, nextInPage}
+use Rattle.latch.specs.Identification.{identificationByte, identificationNext}
 use Rattle.chip.specs.Lents.{Lent}
-use Rattle.chip.specs.Records.{running, status}
-use Rattle.codes.specs.Instructions.{decode}
+use Rattle.chip.specs.Records.{running, status, lockByte}
+use Rattle.codes.specs.Instructions.{decode, picksLock}
 use Rattle.chip.specs.declared.Core.{Core}
 use Rattle.latch.specs.declared.Latch.{Latch}
 use Rattle.codes.specs.declared.Instruction.{Instruction}
-use Rattle.codes.specs.declared.Instruction.the-variants.{Wren, Wrdi, Rdsr, Wrsr, Read, Write, Silence}
+use Rattle.codes.specs.declared.Instruction.the-variants.{Wren, Wrdi, Rdsr, Wrsr, Read, Write, Rdid, Wrid, Silence}
 use Rattle.edges.specs.declared.Frame.{Frame}
 use Rattle.edges.specs.Frames.{noFrame, withBits, withOut}
 use Rattle.edges.specs.Rising.{wholeByte, taking}
@@ -44,17 +45,22 @@ addressOf P Wrdi n u a = a
 addressOf P Rdsr n u a = a
 addressOf P Wrsr n u a = a
 addressOf P Read n u a = pick (leb n (P .addressBytes)) ((a + u * 256 ^ (P .addressBytes - n)) % P .size) a
-addressOf P Write n u a = pick (leb n (P .addressBytes)) ((a + u * 256 ^ (P .addressBytes - n)) % P .size) (a / P .page * P .page + nextCell P a)
+addressOf P Write n u a = pick (leb n (P .addressBytes)) ((a + u * 256 ^ (P .addressBytes - n)) % P .size) (nextInPage P a)
+addressOf P Rdid n u a = pick (leb n (P .addressBytes)) ((a + u * 256 ^ (P .addressBytes - n)) % P .size) a
+addressOf P Wrid n u a =
+    pick (leb n (P .addressBytes)) ((a + u * 256 ^ (P .addressBytes - n)) % P .size) (pick (picksLock a) a (nextInPage P a))
 addressOf P Silence n u a = a
 
-abbrev pub valueOf : Instruction → ℕ → ℕ → ℕ → ℕ
-valueOf Wren n u x = x
-valueOf Wrdi n u x = x
-valueOf Rdsr n u x = x
-valueOf Wrsr n u x = pick (eqb n 1) u x
-valueOf Read n u x = x
-valueOf Write n u x = x
-valueOf Silence n u x = x
+abbrev pub valueOf : Part → Instruction → ℕ → ℕ → ℕ → ℕ → ℕ
+valueOf P Wren n u a x = x
+valueOf P Wrdi n u a x = x
+valueOf P Rdsr n u a x = x
+valueOf P Wrsr n u a x = pick (eqb n 1) u x
+valueOf P Read n u a x = x
+valueOf P Write n u a x = x
+valueOf P Rdid n u a x = x
+valueOf P Wrid n u a x = pick (leb n (P .addressBytes)) x (pick (picksLock a) (pick (eqb n (P .addressBytes + 1)) u x) x)
+valueOf P Silence n u a x = x
 
 abbrev pub latchOf : Part → Instruction → ℕ → ℕ → ℕ → Latch → Latch
 latchOf P Wren n u a l = l
@@ -63,17 +69,21 @@ latchOf P Rdsr n u a l = l
 latchOf P Wrsr n u a l = l
 latchOf P Read n u a l = l
 latchOf P Write n u a l = pick (leb n (P .addressBytes)) l (latched (a % P .page) u l)
+latchOf P Rdid n u a l = l
+latchOf P Wrid n u a l = pick (leb n (P .addressBytes)) l (pick (picksLock a) l (latched (a % P .page) u l))
 latchOf P Silence n u a l = l
 
 -- what is loaded at a byte's start, and the address after it
-abbrev pub outOf : Lent → Core → Instruction → ℕ → ℕ → ℕ
-outOf m c Wren a o = o
-outOf m c Wrdi a o = o
-outOf m c Rdsr a o = status c
-outOf m c Wrsr a o = o
-outOf m c Read a o = getD (m .memory) a 0
-outOf m c Write a o = o
-outOf m c Silence a o = o
+abbrev pub outOf : Part → Lent → Core → Instruction → ℕ → ℕ → ℕ
+outOf P m c Wren a o = o
+outOf P m c Wrdi a o = o
+outOf P m c Rdsr a o = status c
+outOf P m c Wrsr a o = o
+outOf P m c Read a o = getD (m .memory) a 0
+outOf P m c Write a o = o
+outOf P m c Rdid a o = identificationByte P (lockByte c) (m .identification) a
+outOf P m c Wrid a o = o
+outOf P m c Silence a o = o
 
 abbrev pub pastOf : Part → Instruction → ℕ → ℕ
 pastOf P Wren a = a
@@ -82,6 +92,8 @@ pastOf P Rdsr a = a
 pastOf P Wrsr a = a
 pastOf P Read a = (a + 1) % P .size
 pastOf P Write a = a
+pastOf P Rdid a = identificationNext P a
+pastOf P Wrid a = a
 pastOf P Silence a = a
 
 module _ (P : Part) (sound : Sound P) (m : Lent) (c : Core) where
@@ -117,25 +129,37 @@ module _ (P : Part) (sound : Sound P) (m : Lent) (c : Core) where
   abbrev pub afterFall : Instruction → ℕ → ℕ → ℕ → ℕ → ℕ → Latch → Frame
   afterFall i v j a x o l =
       let t = drives i j in
-      afterBytes v j (pick t (pastOf P i a) a) x (pick t (outOf m c i a o) o) (shownAt t 0) l
+      afterBytes v j (pick t (pastOf P i a) a) x (pick t (outOf P m c i a o) o) (shownAt t 0) l
 
   -- data output lasts
+  read-on : (j : ℕ) → drives Read j ≡ true → drives Read (suc j) ≡ true
+  read-on j e =
+      let h : P .addressBytes + 1 ≤ min (P .most) j = leb-true _ _ (and-left (leb (P .addressBytes + 1) (min (P .most) j)) (not (running c)) e) in
+      and-both (leb (P .addressBytes + 1) (min (P .most) (suc j))) (not (running c))
+      (le-leb (P .addressBytes + 1) (min (P .most) (suc j)) (omega (arith, sound .counted)))
+      (and-right (leb (P .addressBytes + 1) (min (P .most) j)) (not (running c)) e)
+
   pub drives-on : (i : Instruction) (j : ℕ) → drives i j ≡ true → drives i (suc j) ≡ true
   drives-on Wren j e = e
   drives-on Wrdi j e = e
   drives-on Rdsr j e = let h : 1 ≤ min (P .most) j = leb-true _ _ e in le-leb 1 (min (P .most) (suc j)) (omega (arith, sound .counted))
   drives-on Wrsr j e = e
-  drives-on Read j e =
-      let h : P .addressBytes + 1 ≤ min (P .most) j = leb-true _ _ (and-left (leb (P .addressBytes + 1) (min (P .most) j)) (not (running c)) e) in
-      and-both (leb (P .addressBytes + 1) (min (P .most) (suc j))) (not (running c))
-      (le-leb (P .addressBytes + 1) (min (P .most) (suc j)) (omega (arith, sound .counted)))
-      (and-right (leb (P .addressBytes + 1) (min (P .most) j)) (not (running c)) e)
+  drives-on Read j e = read-on j e
   drives-on Write j e = e
+  drives-on Rdid j e = read-on j e
+  drives-on Wrid j e = e
   drives-on Silence j e = e
+
+  -- an address byte, or none
+  addressed : (t : Bool) (v j a₁ a x o z : ℕ) (l : Latch)
+      → pick t (afterBytes v j a₁ x o z l) (afterBytes v j a x o z l) ≡ afterBytes v j (pick t a₁ a) x o z l
+  unfolding pick
+  addressed true v j a₁ a x o z l = refl
+  addressed false v j a₁ a x o z l = refl
 
   -- the fields, set
   taking-is : (i : Instruction) (n u v j a x o z : ℕ) (l : Latch)
-      → taking P i n u (afterBytes v j a x o z l) ≡ afterBytes v j (addressOf P i n u a) (valueOf i n u x) o z (latchOf P i n u a l)
+      → taking P i n u (afterBytes v j a x o z l) ≡ afterBytes v j (addressOf P i n u a) (valueOf P i n u a x) o z (latchOf P i n u a l)
   unfolding pick
   taking-is Wren n u v j a x o z l = refl
   taking-is Wrdi n u v j a x o z l = refl
@@ -145,28 +169,36 @@ module _ (P : Part) (sound : Sound P) (m : Lent) (c : Core) where
       either : (t : Bool) → pick t (afterBytes v j a u o z l) (afterBytes v j a x o z l) ≡ afterBytes v j a (pick t u x) o z l
       either true = refl
       either false = refl
-  taking-is Read n u v j a x o z l = either (leb n (P .addressBytes))
-    where
-      a₁ : ℕ
-      a₁ = (a + u * 256 ^ (P .addressBytes - n)) % P .size
-
-      either : (t : Bool) → pick t (afterBytes v j a₁ x o z l) (afterBytes v j a x o z l) ≡ afterBytes v j (pick t a₁ a) x o z l
-      either true = refl
-      either false = refl
+  taking-is Read n u v j a x o z l = addressed (leb n (P .addressBytes)) v j _ a x o z l
   taking-is Write n u v j a x o z l = either (leb n (P .addressBytes))
     where
       a₁ : ℕ
       a₁ = (a + u * 256 ^ (P .addressBytes - n)) % P .size
 
-      a₂ : ℕ
-      a₂ = a / P .page * P .page + nextCell P a
+      l₂ : Latch
+      l₂ = latched (a % P .page) u l
+
+      either : (t : Bool) → pick t (afterBytes v j a₁ x o z l) (afterBytes v j (nextInPage P a) x o z l₂)
+          ≡ afterBytes v j (pick t a₁ (nextInPage P a)) x o z (pick t l l₂)
+      either true = refl
+      either false = refl
+  taking-is Rdid n u v j a x o z l = addressed (leb n (P .addressBytes)) v j _ a x o z l
+  taking-is Wrid n u v j a x o z l = either (leb n (P .addressBytes)) (picksLock a) (eqb n (P .addressBytes + 1))
+    where
+      a₁ : ℕ
+      a₁ = (a + u * 256 ^ (P .addressBytes - n)) % P .size
 
       l₂ : Latch
       l₂ = latched (a % P .page) u l
 
-      either : (t : Bool) → pick t (afterBytes v j a₁ x o z l) (afterBytes v j a₂ x o z l₂) ≡ afterBytes v j (pick t a₁ a₂) x o z (pick t l l₂)
-      either true = refl
-      either false = refl
+      either : (t p d : Bool)
+          → pick t (afterBytes v j a₁ x o z l)
+          (pick p (pick d (afterBytes v j a u o z l) (afterBytes v j a x o z l)) (afterBytes v j (nextInPage P a) x o z l₂))
+          ≡ afterBytes v j (pick t a₁ (pick p a (nextInPage P a))) (pick t x (pick p (pick d u x) x)) o z (pick t l (pick p l l₂))
+      either true p d = refl
+      either false true true = refl
+      either false true false = refl
+      either false false d = refl
   taking-is Silence n u v j a x o z l = refl
 
   -- ---- a byte's start; b: in data output before it
@@ -176,28 +208,24 @@ module _ (P : Part) (sound : Sound P) (m : Lent) (c : Core) where
   none-shown true v j a x o l h = absurd (true≢false (sym (h refl)))
   none-shown false v j a x o l h = refl
 
-  starts-rdsr : (t b : Bool) (v j a x o : ℕ) (l : Latch) → (b ≡ true → t ≡ true)
-      → pick t (afterBytes v j a x (status c) 1 l) (afterBytes v j a x o (shownAt b 7) l) ≡ afterBytes v j (pick t a a) x (pick t (status c) o) (shownAt t 0) l
+  -- in it the byte y is loaded, and the address after it is d
+  starts-load : (t b : Bool) (v j a d x y o : ℕ) (l : Latch) → (b ≡ true → t ≡ true)
+      → pick t (afterBytes v j d x y 1 l) (afterBytes v j a x o (shownAt b 7) l) ≡ afterBytes v j (pick t d a) x (pick t y o) (shownAt t 0) l
   unfolding pick
-  starts-rdsr true b v j a x o l h = refl
-  starts-rdsr false b v j a x o l h = none-shown b v j a x o l h
-
-  starts-read : (t b : Bool) (v j a x o : ℕ) (l : Latch) → (b ≡ true → t ≡ true)
-      → pick t (afterBytes v j ((a + 1) % P .size) x (getD (m .memory) a 0) 1 l) (afterBytes v j a x o (shownAt b 7) l)
-      ≡ afterBytes v j (pick t ((a + 1) % P .size) a) x (pick t (getD (m .memory) a 0) o) (shownAt t 0) l
-  unfolding pick
-  starts-read true b v j a x o l h = refl
-  starts-read false b v j a x o l h = none-shown b v j a x o l h
+  starts-load true b v j a d x y o l h = refl
+  starts-load false b v j a d x y o l h = none-shown b v j a x o l h
 
   starts : (i : Instruction) (b : Bool) (v j a x o : ℕ) (l : Latch) → (b ≡ true → drives i j ≡ true)
       → pick (drives i j) (loading P m c i (afterBytes v j a x o (shownAt b 7) l)) (afterBytes v j a x o (shownAt b 7) l) ≡ afterFall i v j a x o l
   unfolding pick
   starts Wren b v j a x o l h = none-shown b v j a x o l h
   starts Wrdi b v j a x o l h = none-shown b v j a x o l h
-  starts Rdsr b v j a x o l h = starts-rdsr (drives Rdsr j) b v j a x o l h
+  starts Rdsr b v j a x o l h = starts-load (drives Rdsr j) b v j a a x (status c) o l h
   starts Wrsr b v j a x o l h = none-shown b v j a x o l h
-  starts Read b v j a x o l h = starts-read (drives Read j) b v j a x o l h
+  starts Read b v j a x o l h = starts-load (drives Read j) b v j a (pastOf P Read a) x (outOf P m c Read a o) o l h
   starts Write b v j a x o l h = none-shown b v j a x o l h
+  starts Rdid b v j a x o l h = starts-load (drives Rdid j) b v j a (pastOf P Rdid a) x (outOf P m c Rdid a o) o l h
+  starts Wrid b v j a x o l h = none-shown b v j a x o l h
   starts Silence b v j a x o l h = none-shown b v j a x o l h
 
   -- the edge that follows a whole byte loads, or does nothing
@@ -221,7 +249,7 @@ module _ (P : Part) (sound : Sound P) (m : Lent) (c : Core) where
 
   pub step-is : (i : Instruction) (u v j a x o z : ℕ) (l : Latch) → decode P v ≡ i → 1 ≤ j
       → let n = min (P .most) j in
-      stepByte (drives i j) u (afterBytes v j a x o z l) ≡ afterFall i v (suc j) (addressOf P i n u a) (valueOf i n u x) o (latchOf P i n u a l)
+      stepByte (drives i j) u (afterBytes v j a x o z l) ≡ afterFall i v (suc j) (addressOf P i n u a) (valueOf P i n u a x) o (latchOf P i n u a l)
   unfolding stepByte wholeByte
   step-is i u v j a x o z l e k =
       let n = min (P .most) j in
@@ -231,4 +259,4 @@ module _ (P : Part) (sound : Sound P) (m : Lent) (c : Core) where
       ∙ ap (λ t. taking P (decode P v) n u (byteStart t v a x o (shownAt b 7) l)) (min-next (P .most) j)
       ∙ ap (λ d. taking P d n u (afterBytes v (suc j) a x o (shownAt b 7) l)) e
       ∙ taking-is i n u v (suc j) a x o (shownAt b 7) l)
-      ∙ fall-starts i b v (suc j) (addressOf P i n u a) (valueOf i n u x) o (latchOf P i n u a l) e (drives-on i j)
+      ∙ fall-starts i b v (suc j) (addressOf P i n u a) (valueOf P i n u a x) o (latchOf P i n u a l) e (drives-on i j)

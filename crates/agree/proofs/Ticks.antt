@@ -1,5 +1,5 @@
 -- A frame as ticks: a rising edge and the falling edge after it. Neither pins nor pauses nor modes stand here.
-use Prim.Native.Nat.{ℕ, _+_, _*_, _-_, _/_}
+use Prim.Native.Nat.{ℕ, _+_, _*_, _-_}
 use mathlib.Core.Bool.{Bool, not, _&&_}
 use mathlib.Core.List.{List, [], _∷_}
 use lib.Dec.{leb}
@@ -9,7 +9,7 @@ use Rattle.codes.specs.Status.{bit, on, bitOf}
 use Rattle.chip.specs.Lents.{Lent}
 use Rattle.chip.specs.Records.{running}
 use Rattle.codes.specs.Instructions.{decode}
-use Rattle.chip.specs.Questions.{protects}
+use Rattle.chip.specs.Questions.{barred}
 use Rattle.codes.specs.Verdicts.{verdict, isExecuted}
 use Rattle.chip.specs.Effects.{effect}
 use Rattle.chip.specs.declared.Core.{Core}
@@ -39,8 +39,9 @@ endOf P m c f (b ∷ bs) = endOf P m c (tick P m c b f) bs
 unfoldable pub decidesAt : Part → Core → Bool → ℕ → Frame → Core
 decidesAt P c w k f =
     let i = decode P (f .code) in
-    pick (isExecuted (verdict P i (8 * f .taken + k) (on (f .ran)) (on (c .wel)) (on (c .srwd) && not (on (bit w))) (protects P c (f .address)) (on 0)))
-    (effect P i (f .value) (f .address / P .page) (f .latch) c) c
+    pick (isExecuted (verdict P i (f .address) (f .value) (8 * f .taken + k) (on (f .ran)) (on (c .wel)) (on (c .srwd) && not (on (bit w)))
+    (barred P c i (f .address)) (on 0)))
+    (effect P i (f .address) (f .value) (f .latch) c) c
 
 unfoldable pub decides : Part → Core → Bool → Frame → Core
 decides P c w f = decidesAt P c w (f .bits) f

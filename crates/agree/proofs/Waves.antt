@@ -1,5 +1,5 @@
 -- Any drawing of a list of frames comes to ticks: by the rule that drew each event, and the events of the pin model.
-use Prim.Native.Nat.{ℕ, _+_, _*_, _/_}
+use Prim.Native.Nat.{ℕ, _+_, _*_}
 use mathlib.Core.Bool.{Bool, true, false, not, _&&_, Bool·beq}
 use mathlib.Core.List.{List, [], _∷_, _++_, append-nil, append-assoc}
 use mathlib.Core.Path.{_≡_, refl, sym, ap, ap₂, _∙_, subst}
@@ -9,7 +9,7 @@ use Rattle.laws.specs.Pick.{pick, pick-case, pick-same}
 use Rattle.codes.specs.Part.{Part}
 use Rattle.codes.specs.Status.{bit, on}
 use Rattle.chip.specs.Lents.{Lent, lent}
-use Rattle.chip.specs.Questions.{protects}
+use Rattle.chip.specs.Questions.{barred}
 use Rattle.codes.specs.Verdicts.{verdict, isExecuted}
 use Rattle.chip.specs.Effects.{effect}
 use Rattle.codes.specs.Instructions.{decode}
@@ -17,7 +17,7 @@ use Rattle.chip.specs.Records.{running, waitsPage, waitsIdentification}
 use Rattle.chip.specs.Time.{timed, timedMemory, timedIdentification}
 use Rattle.chip.specs.declared.Core.{Core}
 use Rattle.codes.specs.declared.Instruction.{Instruction}
-use Rattle.codes.specs.declared.Instruction.the-variants.{Wren, Wrdi, Rdsr, Wrsr, Read, Write, Silence}
+use Rattle.codes.specs.declared.Instruction.the-variants.{Wren, Wrdi, Rdsr, Wrsr, Read, Write, Rdid, Wrid, Silence}
 use Rattle.chip.proofs.Within.{Within}
 use Rattle.chip.proofs.Passing.{timed-within, timed-length}
 use Rattle.frames.specs.After.{after}
@@ -134,12 +134,13 @@ module _ {A : Type 0} (look : Level → A) (note : Part → FrameBench → List 
   stay p w (Hold b) t d f k m es seen = stay-hold p b d w f k m es seen t
   stay p w (Time n) t d f k m es seen = absurd t
 
-  -- ---- a falling edge is nothing to the end of a frame: only a READ moves its address then
+  -- ---- a falling edge is nothing to the end of a frame: only a READ or 83h moves its address then
 
   abbrev decidesAs : Core → Bool → Instruction → Frame → Core
   decidesAs c w i f =
-      pick (isExecuted (verdict P i (8 * f .taken + f .bits) (on (f .ran)) (on (c .wel)) (on (c .srwd) && not (on (bit w))) (protects P c (f .address)) (on 0)))
-      (effect P i (f .value) (f .address / P .page) (f .latch) c) c
+      pick (isExecuted (verdict P i (f .address) (f .value) (8 * f .taken + f .bits) (on (f .ran)) (on (c .wel)) (on (c .srwd) && not (on (bit w)))
+      (barred P c i (f .address)) (on 0)))
+      (effect P i (f .address) (f .value) (f .latch) c) c
 
   decides-loading : (m : Lent) (c : Core) (w : Bool) (i : Instruction) (f : Frame) → decidesAs c w i (loading P m c i f) ≡ decidesAs c w i f
   decides-loading m c w Wren f = refl
@@ -148,6 +149,8 @@ module _ {A : Type 0} (look : Level → A) (note : Part → FrameBench → List 
   decides-loading m c w Wrsr f = refl
   decides-loading m c w Read f = pick-same _ c ∙ sym (pick-same _ c)
   decides-loading m c w Write f = refl
+  decides-loading m c w Rdid f = pick-same _ c ∙ sym (pick-same _ c)
+  decides-loading m c w Wrid f = refl
   decides-loading m c w Silence f = refl
 
   same-code : (m : Lent) (c : Core) (i : Instruction) (f : Frame) → loading P m c i f .code ≡ f .code
@@ -157,6 +160,8 @@ module _ {A : Type 0} (look : Level → A) (note : Part → FrameBench → List 
   same-code m c Wrsr f = refl
   same-code m c Read f = refl
   same-code m c Write f = refl
+  same-code m c Rdid f = refl
+  same-code m c Wrid f = refl
   same-code m c Silence f = refl
 
   decides-fall : (m : Lent) (c : Core) (w : Bool) (f : Frame) → decides P c w (fallen P m c f) ≡ decides P c w f

@@ -1,5 +1,5 @@
 -- The ranges of a device and of a core, a frame and a reading: the same in marks as words and in marks as bytes.
-use Prim.Native.Nat.{ℕ, _/_}
+use Prim.Native.Nat.{ℕ}
 use mathlib.Core.Bool.{Bool, true, false, _&&_, _||_}
 use mathlib.Core.List.{List}
 use mathlib.Core.Path.{_≡_, refl, sym, ap, ap₂, _∙_}
@@ -7,11 +7,11 @@ use lib.Dec.{eqb}
 use lib.ListN.{getD}
 use Rattle.laws.specs.Pick.{pick, pick-ap}
 use Rattle.codes.specs.Part.{Part}
-use Rattle.codes.specs.Instructions.{decode}
+use Rattle.codes.specs.Instructions.{decode, picksLock}
 use Rattle.codes.specs.Verdicts.{isExecuted}
 use Rattle.codes.proofs.Sound.{Sound}
 use Rattle.codes.specs.declared.Instruction.{Instruction}
-use Rattle.codes.specs.declared.Instruction.the-variants.{Wren, Wrdi, Rdsr, Wrsr, Read, Write, Silence}
+use Rattle.codes.specs.declared.Instruction.the-variants.{Wren, Wrdi, Rdsr, Wrsr, Read, Write, Rdid, Wrid, Silence}
 use Rattle.latch.specs.Latches.{noLatch, latchFits}
 use Rattle.latch.specs.declared.Latch.{Latch}
 use Rattle.latch.proofs.Fitting.{none-latched}
@@ -19,6 +19,7 @@ use Rattle.chip.specs.Records.{waitsLatch, waitsStatus, waitsLock, withTime, wi
 use Rattle.chip.specs.Ranges.{flagsFit, timeFits, tied, valueFits, pageFits, waitFits, inRanges}
 use Rattle.chip.specs.Effects.{effect}
 use Rattle.chip.specs.Time.{ends, timed}
+use Rattle.chip.specs.declared.Waiting.{Waiting}
 use Rattle.chip.specs.declared.Core.{Core}
 use Rattle.edges.specs.Frames.{withLatch}
 use Rattle.edges.specs.Ranges.{countsFit, codeFits, addressFits, valued, outFits, latches, frameFits}
@@ -80,13 +81,13 @@ module _ (P : Part) (sound : Sound P) where
       let l = latchFits P (waitsLatch (c .waits)) (c .waits .latch) in
       last-first others waiting l ∙ ap (λ (t : Bool). l && (others && (waiting && t))) (empty-true (waitsLatch (c .waits)))
 
-  frame-first : (f : Frame) → frameFits P f ≡ (latchFits P (latches P (decode P (f .code)) (f .taken)) (f .latch) && frameFits P (withLatch (noLatch P) f))
+  frame-first : (f : Frame) → frameFits P f ≡ (latchFits P (latches P (decode P (f .code)) (f .address) (f .taken)) (f .latch) && frameFits P (withLatch (noLatch P) f))
   frame-first f =
       let i = decode P (f .code) in
       let others = countsFit P f && codeFits f in
-      let fields = addressFits P i (f .taken) (f .address) && (valued i (f .taken) || eqb (f .value) 0) && outFits P i f in
-      let l = latchFits P (latches P i (f .taken)) (f .latch) in
-      last-first others fields l ∙ ap (λ (t : Bool). l && (others && (fields && t))) (empty-true (latches P i (f .taken)))
+      let fields = addressFits P i (f .taken) (f .address) && (valued P i (f .address) (f .taken) || eqb (f .value) 0) && outFits P i f in
+      let l = latchFits P (latches P i (f .address) (f .taken)) (f .latch) in
+      last-first others fields l ∙ ap (λ (t : Bool). l && (others && (fields && t))) (empty-true (latches P i (f .address) (f .taken)))
 
   pub core-fits-same : (c : Core) → inRanges P c ≡ formCoreFits (byteForm P) P (coreViewed P (coreApart P c))
   core-fits-same c =
@@ -96,7 +97,7 @@ module _ (P : Part) (sound : Sound P) where
   pub fits-same : (x : Device) → deviceFits P x ≡ formFits (byteForm P) P (viewed P (apart P x))
   unfolding deviceFits
   fits-same x =
-      let may = latches P (decode P (x .frame .code)) (x .frame .taken) in
+      let may = latches P (decode P (x .frame .code)) (x .frame .address) (x .frame .taken) in
       let pins = pinsFit (x .pins) && heldFits (x .pins) (x .held) in
       let frame = frameFits P (withLatch (noLatch P) (x .frame)) in
       let core = inRanges P (coreWith (noLatch P) (x .core)) in
@@ -113,42 +114,47 @@ module _ (P : Part) (sound : Sound P) where
   abbrev apartOf : Core → Bytewise → CoreApart Bytewise
   apartOf c w = record { rest = c; waits = w }
 
-  effect-waits : (i : Instruction) (v p : ℕ) (l : Latch) (c : Core)
-      → effect P i v p l c .waits .latch ≡ waitsAfter (forms.words P) (executedDeed i) l (c .waits .latch)
-  effect-waits Wren v p l c = refl
-  effect-waits Wrdi v p l c = refl
-  effect-waits Rdsr v p l c = refl
-  effect-waits Wrsr v p l c = refl
-  effect-waits Read v p l c = refl
-  effect-waits Write v p l c = refl
-  effect-waits Silence v p l c = refl
+  effect-waits : (i : Instruction) (a v : ℕ) (l : Latch) (c : Core)
+      → effect P i a v l c .waits .latch ≡ waitsAfter (forms.words P) (executedDeed i a) l (c .waits .latch)
+  effect-waits Wren a v l c = refl
+  effect-waits Wrdi a v l c = refl
+  effect-waits Rdsr a v l c = refl
+  effect-waits Wrsr a v l c = refl
+  effect-waits Read a v l c = refl
+  effect-waits Write a v l c = refl
+  effect-waits Rdid a v l c = refl
+  effect-waits Wrid a v l c =
+      both-ways (picksLock a) (λ (x : Waiting). x .latch) (λ d. waitsAfter (forms.words P) d l (c .waits .latch)) refl refl
+  effect-waits Silence a v l c = refl
 
-  effect-rest : (i : Instruction) (v p : ℕ) (l : Latch) (c : Core)
-      → coreWith (noLatch P) (effect P i v p l c) ≡ coreWith (noLatch P) (effect P i v p l (coreWith (noLatch P) c))
-  effect-rest Wren v p l c = refl
-  effect-rest Wrdi v p l c = refl
-  effect-rest Rdsr v p l c = refl
-  effect-rest Wrsr v p l c = refl
-  effect-rest Read v p l c = refl
-  effect-rest Write v p l c = refl
-  effect-rest Silence v p l c = refl
+  effect-rest : (i : Instruction) (a v : ℕ) (l : Latch) (c : Core)
+      → coreWith (noLatch P) (effect P i a v l c) ≡ coreWith (noLatch P) (effect P i a v l (coreWith (noLatch P) c))
+  effect-rest Wren a v l c = refl
+  effect-rest Wrdi a v l c = refl
+  effect-rest Rdsr a v l c = refl
+  effect-rest Wrsr a v l c = refl
+  effect-rest Read a v l c = refl
+  effect-rest Write a v l c = refl
+  effect-rest Rdid a v l c = refl
+  effect-rest Wrid a v l c = refl
+  effect-rest Silence a v l c = refl
 
   pub framed-same : (ran w : Bool) (c : Core) (s : List ℕ) (n : ℕ)
       → coreViewed P (coreApart P (after P ran w c s n)) ≡ formFramed (byteForm P) P ran w s n (coreViewed P (coreApart P c))
   framed-same ran w c s n =
       let t = isExecuted (judged P ran w c s n) in
       let i = instruction P s in
-      let done = effect P i (getD s 1 0) (address P s / P .page) (written P s) c in
-      let rest-done = effect P i (getD s 1 0) (address P s / P .page) (written P s) (coreWith (noLatch P) c) in
+      let done = effect P i (address P s) (getD s 1 0) (written P s) c in
+      let rest-done = effect P i (address P s) (getD s 1 0) (written P s) (coreWith (noLatch P) c) in
       ap₂ apartOf
       (pick-ap (coreWith (noLatch P)) t done c
-      ∙ ap (λ (d : Core). pick t d (coreWith (noLatch P) c)) (effect-rest i (getD s 1 0) (address P s / P .page) (written P s) c)
+      ∙ ap (λ (d : Core). pick t d (coreWith (noLatch P) c)) (effect-rest i (address P s) (getD s 1 0) (written P s) c)
       ∙ sym (pick-ap (coreWith (noLatch P)) t rest-done (coreWith (noLatch P) c)))
       (pick-ap (λ (d : Core). view P (d .waits .latch)) t done c
       ∙ ap (λ (b : Bytewise). pick t b (view P (c .waits .latch)))
-      (ap (view P) (effect-waits i (getD s 1 0) (address P s / P .page) (written P s) c)
-      ∙ waits-viewed P sound (executedDeed i) (written P s) (c .waits .latch)
-      ∙ ap (λ (b : Bytewise). waitsAfter (byteForm P) (executedDeed i) b (view P (c .waits .latch))) (view-written P sound s)))
+      (ap (view P) (effect-waits i (address P s) (getD s 1 0) (written P s) c)
+      ∙ waits-viewed P sound (executedDeed i (address P s)) (written P s) (c .waits .latch)
+      ∙ ap (λ (b : Bytewise). waitsAfter (byteForm P) (executedDeed i (address P s)) b (view P (c .waits .latch))) (view-written P sound s)))
 
   -- ---- a reading
 

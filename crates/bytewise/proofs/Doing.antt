@@ -1,5 +1,5 @@
 -- What each event does to a device with latches h and w: its deed to them, and all else as with any other latches.
-use Prim.Native.Nat.{ℕ, _/_}
+use Prim.Native.Nat.{ℕ, _+_}
 use mathlib.Core.Bool.{Bool, true, false, not, _&&_}
 use mathlib.Core.List.{List}
 use mathlib.Core.Path.{_≡_, refl}
@@ -7,14 +7,15 @@ use lib.Dec.{eqb, leb, ltb}
 use Rattle.laws.specs.Pick.{pick}
 use Rattle.codes.specs.Part.{Part}
 use Rattle.codes.specs.Status.{bit, on}
-use Rattle.codes.specs.Instructions.{decode}
+use Rattle.codes.specs.Instructions.{decode, picksLock}
 use Rattle.codes.specs.Output.{outputs}
 use Rattle.codes.specs.Verdicts.{isExecuted}
 use Rattle.codes.specs.declared.Instruction.{Instruction}
-use Rattle.codes.specs.declared.Instruction.the-variants.{Wren, Wrdi, Rdsr, Wrsr, Read, Write, Silence}
+use Rattle.codes.specs.declared.Instruction.the-variants.{Wren, Wrdi, Rdsr, Wrsr, Read, Write, Rdid, Wrid, Silence}
 use Rattle.latch.specs.declared.Latch.{Latch}
 use Rattle.chip.specs.Lents.{Lent}
-use Rattle.chip.specs.Records.{running, waitsStatus, waitsLock, withTime, withoutCycle}
+use Rattle.chip.specs.Records.{running, waitsStatus, waitsLock, withCycle, withTime, withoutCycle}
+use Rattle.chip.specs.declared.Waiting.{Waiting}
 use Rattle.chip.specs.Effects.{effect}
 use Rattle.chip.specs.Time.{ends, timed}
 use Rattle.chip.specs.declared.Core.{Core}
@@ -60,15 +61,19 @@ module _ (P : Part) (h w : Latch) where
     abbrev ended : Device → Core → Device
     ended z c = withPins (withS 1 (x .pins)) (withHeld false (withFrame (noFrame P) (withCore c z)))
 
-    does-execute : (i : Instruction) (v p : ℕ)
-        → Does (ended y (effect P i v p h (y .core))) (ended x (effect P i v p (x .frame .latch) (x .core))) (executedDeed i)
-    does-execute Wren v p = record { done = refl }
-    does-execute Wrdi v p = record { done = refl }
-    does-execute Rdsr v p = record { done = refl }
-    does-execute Wrsr v p = record { done = refl }
-    does-execute Read v p = record { done = refl }
-    does-execute Write v p = record { done = refl }
-    does-execute Silence v p = record { done = refl }
+    does-execute : (i : Instruction) (a v : ℕ)
+        → Does (ended y (effect P i a v h (y .core))) (ended x (effect P i a v (x .frame .latch) (x .core))) (executedDeed i a)
+    does-execute Wren a v = record { done = refl }
+    does-execute Wrdi a v = record { done = refl }
+    does-execute Rdsr a v = record { done = refl }
+    does-execute Wrsr a v = record { done = refl }
+    does-execute Read a v = record { done = refl }
+    does-execute Write a v = record { done = refl }
+    does-execute Rdid a v = record { done = refl }
+    does-execute Wrid a v =
+        does-in (picksLock a) (λ (n : Waiting). ended y (withCycle n (y .core))) (λ (n : Waiting). ended x (withCycle n (x .core)))
+        (record { done = refl }) (record { done = refl })
+    does-execute Silence a v = record { done = refl }
 
     does-s : (level : Bool) → Does (onS P level y) (onS P level x) (deedOf P (S level) x)
     unfolding onS
@@ -76,7 +81,7 @@ module _ (P : Part) (h w : Latch) where
         does-in (eqb (x .pins .s) (bit level)) self self (record { done = refl })
         (does-in level self self
         (does-in (isExecuted (judgedNow P x)) (ended y) (ended x)
-        (does-execute (decode P (x .frame .code)) (x .frame .value) (x .frame .address / P .page)) (record { done = refl }))
+        (does-execute (decode P (x .frame .code)) (x .frame .address) (x .frame .value)) (record { done = refl }))
         (record { done = refl }))
 
     -- ---- C
@@ -93,6 +98,11 @@ module _ (P : Part) (h w : Latch) where
     does-byte Wrsr n v = does-same (eqb n 1) (raised y) (raised x) (record { done = refl }) (record { done = refl })
     does-byte Read n v = does-same (leb n (P .addressBytes)) (raised y) (raised x) (record { done = refl }) (record { done = refl })
     does-byte Write n v = does-in (leb n (P .addressBytes)) (raised y) (raised x) (record { done = refl }) (record { done = refl })
+    does-byte Rdid n v = does-same (leb n (P .addressBytes)) (raised y) (raised x) (record { done = refl }) (record { done = refl })
+    does-byte Wrid n v =
+        does-in (leb n (P .addressBytes)) (raised y) (raised x) (record { done = refl })
+        (does-in (picksLock (x .frame .address)) (raised y) (raised x)
+        (does-same (eqb n (P .addressBytes + 1)) (raised y) (raised x) (record { done = refl }) (record { done = refl })) (record { done = refl }))
     does-byte Silence n v = record { done = refl }
 
     does-rise : Does (raised y (risen P (running (x .core)) (x .pins .d) (y .frame)))
@@ -117,6 +127,8 @@ module _ (P : Part) (h w : Latch) where
     does-load m Wrsr = record { done = refl }
     does-load m Read = record { done = refl }
     does-load m Write = record { done = refl }
+    does-load m Rdid = record { done = refl }
+    does-load m Wrid = record { done = refl }
     does-load m Silence = record { done = refl }
 
     does-fall : (m : Lent) → Does (shown y (fallen P m (y .core) (y .frame))) (shown x (fallen P m (x .core) (x .frame))) keep

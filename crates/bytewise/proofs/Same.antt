@@ -10,11 +10,11 @@ use lib.ListN.{length, length-set, length-replicate}
 use Rattle.laws.specs.Pick.{pick, pick-case, pick-ap}
 use Rattle.codes.specs.Part.{Part, words}
 use Rattle.codes.specs.Status.{bit, on}
-use Rattle.codes.specs.Instructions.{decode}
+use Rattle.codes.specs.Instructions.{decode, picksLock}
 use Rattle.codes.specs.Verdicts.{isExecuted}
 use Rattle.codes.proofs.Sound.{Sound}
 use Rattle.codes.specs.declared.Instruction.{Instruction}
-use Rattle.codes.specs.declared.Instruction.the-variants.{Wren, Wrdi, Rdsr, Wrsr, Read, Write, Silence}
+use Rattle.codes.specs.declared.Instruction.the-variants.{Wren, Wrdi, Rdsr, Wrsr, Read, Write, Rdid, Wrid, Silence}
 use Rattle.latch.specs.Latches.{zeros, noLatch, latchFits}
 use Rattle.latch.specs.declared.Latch.{Latch}
 use Rattle.latch.proofs.Fitting.{none-latched}
@@ -100,14 +100,16 @@ module _ (P : Part) (sound : Sound P) where
 
   -- ---- every deed's cell
 
-  executed-small : (i : Instruction) → Small (executedDeed i)
-  executed-small Wren = tt
-  executed-small Wrdi = tt
-  executed-small Rdsr = tt
-  executed-small Wrsr = tt
-  executed-small Read = tt
-  executed-small Write = tt
-  executed-small Silence = tt
+  executed-small : (i : Instruction) (a : ℕ) → Small (executedDeed i a)
+  executed-small Wren a = tt
+  executed-small Wrdi a = tt
+  executed-small Rdsr a = tt
+  executed-small Wrsr a = tt
+  executed-small Read a = tt
+  executed-small Write a = tt
+  executed-small Rdid a = tt
+  executed-small Wrid a = pick-case Small (picksLock a) (λ e. tt) (λ e. tt)
+  executed-small Silence a = tt
 
   byte-small : (i : Instruction) (n v a : ℕ) → Small (byteDeed P i n v a)
   byte-small Wren n v a = tt
@@ -116,13 +118,16 @@ module _ (P : Part) (sound : Sound P) where
   byte-small Wrsr n v a = tt
   byte-small Read n v a = tt
   byte-small Write n v a = pick-case Small (leb n (P .addressBytes)) (λ e. tt) (λ e. mod-lt a (sound .page-some))
+  byte-small Rdid n v a = tt
+  byte-small Wrid n v a =
+      pick-case Small (leb n (P .addressBytes)) (λ e. tt) (λ e. pick-case Small (picksLock a) (λ p. tt) (λ p. mod-lt a (sound .page-some)))
   byte-small Silence n v a = tt
 
   deed-small : (e : Event) (x : Device) → Small (deedOf P e x)
   deed-small (S level) x =
       pick-case Small (eqb (x .pins .s) (bit level)) (λ e. tt)
       (λ e. pick-case Small level
-      (λ l. pick-case Small (isExecuted (judgedNow P x)) (λ k. executed-small (decode P (x .frame .code))) (λ k. tt)) (λ l. tt))
+      (λ l. pick-case Small (isExecuted (judgedNow P x)) (λ k. executed-small (decode P (x .frame .code)) (x .frame .address)) (λ k. tt)) (λ l. tt))
   deed-small (C level) x =
       pick-case Small (eqb (x .pins .c) (bit level)) (λ e. tt)
       (λ e. pick-case Small level

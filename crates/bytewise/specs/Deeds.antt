@@ -1,16 +1,17 @@
 -- What an event does to the two latches, chosen without a look at either; and a device in any form after an event, a
 -- frame or a reading: all else moves as it does with empty latches, and the latches by the deed.
-use Prim.Native.Nat.{ℕ, suc, _/_, _%_}
+use Prim.Native.Nat.{ℕ, suc, _%_}
 use mathlib.Core.Bool.{Bool, _&&_}
 use mathlib.Core.List.{List, [], _∷_}
 use lib.Dec.{eqb, leb, ltb}
 use Rattle.laws.specs.Pick.{pick}
 use Rattle.codes.specs.Part.{Part}
 use Rattle.codes.specs.Status.{bit}
-use Rattle.codes.specs.Instructions.{decode}
+use Rattle.codes.specs.Instructions.{decode, picksLock}
 use Rattle.codes.specs.Verdicts.{isExecuted}
 use Rattle.codes.specs.declared.Instruction.{Instruction}
-use Rattle.codes.specs.declared.Instruction.the-variants.{Wren, Wrdi, Rdsr, Wrsr, Read, Write, Silence}
+use Rattle.codes.specs.declared.Instruction.the-variants.{Wren, Wrdi, Rdsr, Wrsr, Read, Write, Rdid}
+use Rattle.codes.specs.declared.Instruction.the-variants.{Wrid, Silence}
 use Rattle.latch.specs.Latches.{noLatch}
 use Rattle.chip.specs.Lents.{Lent, lent}
 use Rattle.chip.specs.Records.{waitsPage, waitsIdentification, waitsLatch}
@@ -37,9 +38,9 @@ pub data Deed : Type 0 where
   empty : Deed
   -- a data byte for a cell
   latching : ℕ → ℕ → Deed
-  -- an executed WRITE: what was in hand waits
+  -- an executed WRITE, or 82h for the page: what was in hand waits
   send : Deed
-  -- an executed WRSR: a status value waits, and no latch
+  -- an executed WRSR, or 82h for the lock: a status value or the lock waits, and no latch
   clear : Deed
   -- a cycle ended: what waited is stored
   finish : Deed
@@ -64,14 +65,17 @@ waitsAfter F finish h w = F .none
 
 -- ---- which one an event does
 
-abbrev pub executedDeed : Instruction → Deed
-executedDeed Wren = empty
-executedDeed Wrdi = empty
-executedDeed Rdsr = empty
-executedDeed Wrsr = clear
-executedDeed Read = empty
-executedDeed Write = send
-executedDeed Silence = empty
+-- an executed frame, at address a
+abbrev pub executedDeed : Instruction → ℕ → Deed
+executedDeed Wren a = empty
+executedDeed Wrdi a = empty
+executedDeed Rdsr a = empty
+executedDeed Wrsr a = clear
+executedDeed Read a = empty
+executedDeed Write a = send
+executedDeed Rdid a = empty
+executedDeed Wrid a = pick (picksLock a) clear send
+executedDeed Silence a = empty
 
 -- a whole byte v, the n-th of its frame, at address a
 abbrev pub byteDeed : Part → Instruction → ℕ → ℕ → ℕ → Deed
@@ -81,6 +85,8 @@ byteDeed P Rdsr n v a = keep
 byteDeed P Wrsr n v a = keep
 byteDeed P Read n v a = keep
 byteDeed P Write n v a = pick (leb n (P .addressBytes)) keep (latching (a % P .page) v)
+byteDeed P Rdid n v a = keep
+byteDeed P Wrid n v a = pick (leb n (P .addressBytes)) keep (pick (picksLock a) keep (latching (a % P .page) v))
 byteDeed P Silence n v a = keep
 
 abbrev pub risingDeed : Part → Device → Deed
@@ -93,7 +99,7 @@ risingDeed P x =
 abbrev pub deedOf : Part → Event → Device → Deed
 deedOf P (S level) x =
     pick (eqb (x .pins .s) (bit level)) keep
-    (pick level (pick (isExecuted (judgedNow P x)) (executedDeed (decode P (x .frame .code))) empty) empty)
+    (pick level (pick (isExecuted (judgedNow P x)) (executedDeed (decode P (x .frame .code)) (x .frame .address)) empty) empty)
 deedOf P (C level) x =
     pick (eqb (x .pins .c) (bit level)) keep (pick level (pick (counting x) (risingDeed P x) keep) keep)
 deedOf P (D level) x = keep
@@ -127,7 +133,7 @@ formCells theirs F (Time t) a m = readCells theirs F t (a .rest .core) (a .waits
 abbrev pub formFits : {L : Type 0} → Form L → Part → Apart L → Bool
 formFits F P a =
     let f = a .rest .frame in
-    F .fits (latches P (decode P (f .code)) (f .taken)) (a .hand)
+    F .fits (latches P (decode P (f .code)) (f .address) (f .taken)) (a .hand)
     && F .fits (waitsLatch (a .rest .core .waits)) (a .waits)
     && deviceFits P (a .rest)
 
@@ -166,7 +172,7 @@ formFramed F P ran w s n a =
       rest = coreWith (noLatch P) (after P ran w (a .rest) s n);
       waits =
           pick (isExecuted (judged P ran w (a .rest) s n))
-          (waitsAfter F (executedDeed (instruction P s)) (writtenIn F P s) (a .waits)) (a .waits);
+          (waitsAfter F (executedDeed (instruction P s) (address P s)) (writtenIn F P s) (a .waits)) (a .waits);
     }
 
 abbrev pub formRead : {L : Type 0} → Form L → Part → ℕ → CoreApart L → CoreApart L

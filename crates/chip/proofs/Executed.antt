@@ -1,27 +1,27 @@
 -- What an executed instruction leaves is inside the ranges, in both models.
 use mathlib.Core.Path.{_≡_, refl, sym, _∙_}
 use mathlib.Core.Bool.{Bool, true, false, not, _&&_, _||_, true≢false}
-use Prim.Native.Nat.{ℕ, _+_, _*_, _<_, _≤_}
+use Prim.Native.Nat.{ℕ, _+_, _*_, _/_, _<_, _≤_}
 use native.Mathlib.Nat.{mod-lt}
 use native.Mathlib.Omega.{arith}
 use lib.ListN.{length, getD, getD-replicate}
 use lib.Dec.{leb, eqb}
 use borrow.Author.Tests.{le-leb, leb-true, lt-ltb, eq-eqb, not-false}
-use Rattle.laws.specs.Pick.{pick, at-yes, at-no, and-left, and-right, and-both}
+use Rattle.laws.specs.Pick.{pick, at-yes, at-no, pick-case, and-left, and-right, and-both}
 use Rattle.laws.specs.Each.{each-at, each-of}
 use Rattle.codes.specs.Part.{Part, isPart, pages}
 use Rattle.codes.specs.Status.{on, bitOf, writable}
 use Rattle.latch.specs.Latches.{zeros, noLatch, latched, cellFits, latchFits}
-use Rattle.chip.specs.Records.{running, nothing, statusWaits, pageWaits, withWel, withCycle}
+use Rattle.chip.specs.Records.{running, nothing, statusWaits, pageWaits, identificationWaits, lockWaits, withWel, withCycle}
 use Rattle.chip.specs.Ranges.{valueFits, pageFits, waitFits, waitsOne}
 use Rattle.codes.specs.Verdicts.{verdict, isExecuted}
-use Rattle.codes.specs.Instructions.{row}
+use Rattle.codes.specs.Instructions.{row, isWrid, picksLock}
 use Rattle.chip.specs.Effects.{effect}
 use Rattle.latch.specs.declared.Latch.{Latch}
 use Rattle.chip.specs.declared.Waiting.{Waiting}
 use Rattle.chip.specs.declared.Core.{Core}
 use Rattle.codes.specs.declared.Instruction.{Instruction}
-use Rattle.codes.specs.declared.Instruction.the-variants.{Wren, Wrdi, Rdsr, Wrsr, Read, Write, Silence}
+use Rattle.codes.specs.declared.Instruction.the-variants.{Wren, Wrdi, Rdsr, Wrsr, Read, Write, Rdid, Wrid, Silence}
 use Rattle.chip.proofs.Within.{Within, nothing-fits}
 use Rattle.codes.proofs.Judged.{passed}
 
@@ -62,6 +62,15 @@ page-fits P p l h fits =
     and-both (valueFits (pageWaits p l) && pageFits P (pageWaits p l)) (latchFits P true l)
     (and-both (valueFits (pageWaits p l)) (pageFits P (pageWaits p l)) refl (lt-ltb p (pages P) h)) fits
 
+identification-fits : (P : Part) (l : Latch) → latchFits P true l ≡ true → waitFits P (identificationWaits l) ≡ true
+unfolding pick
+identification-fits P l fits =
+    and-both (valueFits (identificationWaits l) && pageFits P (identificationWaits l)) (latchFits P true l) refl fits
+
+lock-fits : (P : Part) → waitFits P (lockWaits P) ≡ true
+unfolding pick
+lock-fits P = nothing-fits P
+
 -- ---- what an executed instruction leaves
 
 module _ (P : Part) (c : Core) where
@@ -91,16 +100,26 @@ module _ (P : Part) (c : Core) where
       }
 
 -- the record, by the instruction: no cycle runs where there must be none, WEL is on where it must be
-module _ (P : Part) (v p : ℕ) (l : Latch) (c : Core) (below : p < pages P) (fits : latchFits P true l ≡ true) where
-  pub effect-within : (i : Instruction) → (row P i .idle && running c) ≡ false → (row P i .wel && not (on (c .wel))) ≡ false → Within P c
-      → Within P (effect P i v p l c)
-  effect-within Wren free wel w = wel-within P c 1 (omega arith) free w
-  effect-within Wrdi free wel w = wel-within P c 0 (omega arith) free w
-  effect-within Rdsr free wel w = w
-  effect-within Wrsr free wel w = cycle-within P c (statusWaits P v) (not-false _ wel) refl (status-fits P v) w
-  effect-within Read free wel w = w
-  effect-within Write free wel w = cycle-within P c (pageWaits p l) (not-false _ wel) refl (page-fits P p l below fits) w
-  effect-within Silence free wel w = w
+module _ (P : Part) (a v x : ℕ) (l : Latch) (c : Core) (below : a / P .page < pages P) (fits : latchFits P true l ≡ true) where
+  -- 82h makes one of two things wait, on a part that has them
+  one-waits : (t : Bool) → P .identified ≡ true → let w = pick t (lockWaits P) (identificationWaits l) in (waitsOne P w ≡ true) × (waitFits P w ≡ true)
+  unfolding pick
+  one-waits true known = (and-both (P .identified) true known refl, lock-fits P)
+  one-waits false known = (and-both (P .identified) true known refl, identification-fits P l fits)
+
+  pub effect-within : (i : Instruction) → (isWrid i ≡ true → P .identified ≡ true)
+      → (row P i a x .idle && running c) ≡ false → (row P i a x .wel && not (on (c .wel))) ≡ false → Within P c → Within P (effect P i a v l c)
+  effect-within Wren known free wel w = wel-within P c 1 (omega arith) free w
+  effect-within Wrdi known free wel w = wel-within P c 0 (omega arith) free w
+  effect-within Rdsr known free wel w = w
+  effect-within Wrsr known free wel w = cycle-within P c (statusWaits P v) (not-false _ wel) refl (status-fits P v) w
+  effect-within Read known free wel w = w
+  effect-within Write known free wel w = cycle-within P c (pageWaits (a / P .page) l) (not-false _ wel) refl (page-fits P (a / P .page) l below fits) w
+  effect-within Rdid known free wel w = w
+  effect-within Wrid known free wel w =
+      let one = one-waits (picksLock a) (known refl) in
+      cycle-within P c _ (not-false _ wel) (one .0) (one .1) w
+  effect-within Silence known free wel w = w
 
 -- a cycle that runs did so at the eighth edge
 still-free : (t ran run : Bool) → (run ≡ true → ran ≡ true) → (t && ran) ≡ false → (t && run) ≡ false
@@ -109,9 +128,9 @@ still-free true ran false h e = refl
 still-free false ran run h e = refl
 
 -- a frame that is judged executed leaves a record inside the ranges: its page is one of the memory's, its latch fits
-pub executed-within : (P : Part) (i : Instruction) (n : ℕ) (ran locked protected held : Bool) (v p : ℕ) (l : Latch) (c : Core)
-    → isExecuted (verdict P i n ran (on (c .wel)) locked protected held) ≡ true → (running c ≡ true → ran ≡ true)
-    → p < pages P → latchFits P true l ≡ true → Within P c → Within P (effect P i v p l c)
-executed-within P i n ran locked protected held v p l c e h below fits w =
-    let t = passed P i n ran (on (c .wel)) locked protected held e in
-    effect-within P v p l c below fits i (still-free (row P i .idle) ran (running c) h (t .free)) (t .enabled) w
+pub executed-within : (P : Part) (i : Instruction) (a v x n : ℕ) (ran locked protected held : Bool) (l : Latch) (c : Core)
+    → (isWrid i ≡ true → P .identified ≡ true) → isExecuted (verdict P i a x n ran (on (c .wel)) locked protected held) ≡ true
+    → (running c ≡ true → ran ≡ true) → a / P .page < pages P → latchFits P true l ≡ true → Within P c → Within P (effect P i a v l c)
+executed-within P i a v x n ran locked protected held l c known e h below fits w =
+    let t = passed P i a x n ran (on (c .wel)) locked protected held e in
+    effect-within P a v x l c below fits i known (still-free (row P i a x .idle) ran (running c) h (t .free)) (t .enabled) w

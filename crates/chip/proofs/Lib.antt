@@ -2,6 +2,8 @@
 pub mod Readings
 pub mod Within
 pub mod Passing
+pub mod Locking
+pub mod Awaiting
 pub mod Cases
 pub mod Touching
 pub mod Ones

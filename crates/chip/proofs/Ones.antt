@@ -35,18 +35,24 @@ use Rattle.chip.proofs.Core.begin_status.Kinds as core-begin-status
 use Rattle.chip.proofs.Core.begin_status.Reads as core-begin-status-reads
 use Rattle.chip.proofs.Core.begin_page.Kinds as core-begin-page
 use Rattle.chip.proofs.Core.begin_page.Reads as core-begin-page-reads
+use Rattle.chip.proofs.Core.begin_identification.Kinds as core-begin-identification
+use Rattle.chip.proofs.Core.begin_identification.Reads as core-begin-identification-reads
 use Rattle.chip.proofs.Core.delivered.Kinds as core-delivered
 use Rattle.chip.proofs.Core.delivered.Reads as core-delivered-reads
 use Rattle.chip.proofs.Core.lowest.Kinds as core-lowest
 use Rattle.chip.proofs.Core.lowest.Reads as core-lowest-reads
 use Rattle.chip.proofs.Core.protects.Kinds as core-protects
 use Rattle.chip.proofs.Core.protects.Reads as core-protects-reads
+use Rattle.chip.proofs.Core.barred.Kinds as core-barred
+use Rattle.chip.proofs.Core.barred.Reads as core-barred-reads
 use Rattle.chip.proofs.ranges.cycle_fits.Kinds as cycle-fits
 use Rattle.chip.proofs.ranges.cycle_fits.Reads as cycle-fits-reads
 use Rattle.chip.proofs.Core.running.Kinds as core-running
 use Rattle.chip.proofs.Core.running.Reads as core-running-reads
 use Rattle.chip.proofs.Core.status.Kinds as core-status
 use Rattle.chip.proofs.Core.status.Reads as core-status-reads
+use Rattle.chip.proofs.Core.lock_byte.Kinds as core-lock-byte
+use Rattle.chip.proofs.Core.lock_byte.Reads as core-lock-byte-reads
 use Rattle.chip.proofs.Core.with_time.Kinds as core-with-time
 use Rattle.chip.proofs.Core.with_time.Reads as core-with-time-reads
 use Rattle.chip.proofs.Core.ends.Kinds as core-ends
@@ -116,6 +122,9 @@ core-begin-status-one κs a z z′ e e′ p q = same p q
 pub core-begin-page-one : OneResult core-begin-page.ps core-begin-page.r core-begin-page-reads.Post
 core-begin-page-one κs a z z′ e e′ p q = same p q
 
+pub core-begin-identification-one : OneResult core-begin-identification.ps core-begin-identification.r core-begin-identification-reads.Post
+core-begin-identification-one κs a z z′ e e′ p q = same p q
+
 pub core-delivered-one : OneResult core-delivered.ps core-delivered.r core-delivered-reads.Post
 core-delivered-one κs a z z′ e e′ p q = same p q
 
@@ -125,6 +134,9 @@ core-lowest-one κs a z z′ e e′ p q = same p q
 pub core-protects-one : OneResult core-protects.ps core-protects.r core-protects-reads.Post
 core-protects-one κs a z z′ e e′ p q = same p q
 
+pub core-barred-one : OneResult core-barred.ps core-barred.r core-barred-reads.Post
+core-barred-one κs a z z′ e e′ p q = same p q
+
 pub cycle-fits-one : OneResult cycle-fits.ps cycle-fits.r cycle-fits-reads.Post
 cycle-fits-one κs a z z′ e e′ p q = same p q
 
@@ -133,6 +145,9 @@ core-running-one κs a z z′ e e′ p q = same p q
 
 pub core-status-one : OneResult core-status.ps core-status.r core-status-reads.Post
 core-status-one κs a z z′ e e′ p q = same p q
+
+pub core-lock-byte-one : OneResult core-lock-byte.ps core-lock-byte.r core-lock-byte-reads.Post
+core-lock-byte-one κs a z z′ e e′ p q = same p q
 
 pub core-with-time-one : OneResult core-with-time.ps core-with-time.r core-with-time-reads.Post
 core-with-time-one κs a z z′ e e′ p q = same p q

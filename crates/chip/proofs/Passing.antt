@@ -16,7 +16,7 @@ use Rattle.chip.specs.Records.{running, nothing, withStatus, withLock, w
 use Rattle.chip.specs.Records.{waitsStatus, waitsPage, waitsIdentification, waitsLock, waitsLatch}
 use Rattle.chip.specs.Ranges.{flagsFit, pageFits, valueFits}
 use Rattle.chip.specs.Time.{elapsed, ends, endedCells, timed, timedCells, timedMemory, timedIdentification}
-use Rattle.chip.specs.Cells.{offset, awaitedBy, awaited, awaitedIdentification}
+use Rattle.chip.specs.Cells.{Cells, memoryCells, identificationCells, cellCount, theirs, offset, awaitedBy, awaitedIn, awaited}
 use Rattle.chip.specs.declared.Waiting.{Waiting}
 use Rattle.chip.specs.declared.Core.{Core}
 use Rattle.latch.proofs.Stores.{stored-at, stored-length}
@@ -155,15 +155,17 @@ module _ (P : Part) (c : Core) (w : Within P c) where
       let zero : c .waits .page ≡ 0 = eqb-true _ _ (sym (at-no _ _ none) ∙ fits-page) in
       rw zero (omega arith)
 
+-- the rule for the memory and for the identification page
+module _ (P : Part) (t : ℕ) (c : Core) (w : Within P c) where
+  pub lent-rule : (k : Cells) (m : List ℕ) → length m ≡ cellCount k P → (i : ℕ) → i < cellCount k P
+      → getD (timedCells (theirs k) P t c m) i 0 ≡ pick (ends t c && awaitedIn k P c i) (byteAt (c .waits .latch) (offset P c i)) (getD m i 0)
+  lent-rule memoryCells m size i h = cells-rule waitsPage P t c m (page-inside P c w m size) i (omega arith)
+  lent-rule identificationCells m long i h = cells-rule waitsIdentification P t c m (identification-inside P c w m long) i (omega arith)
+
 module _ (P : Part) (t : ℕ) (c : Core) (m : List ℕ) (size : length m ≡ P .size) (w : Within P c) where
   pub cell-rule : (i : ℕ) → i < P .size
       → getD (timedMemory P t c m) i 0 ≡ pick (ends t c && awaited P c i) (byteAt (c .waits .latch) (offset P c i)) (getD m i 0)
-  cell-rule i h = cells-rule waitsPage P t c m (page-inside P c w m size) i (omega arith)
-
-module _ (P : Part) (t : ℕ) (c : Core) (d : List ℕ) (long : length d ≡ P .page) (w : Within P c) where
-  pub identification-rule : (i : ℕ) → i < P .page
-      → getD (timedIdentification P t c d) i 0 ≡ pick (ends t c && awaitedIdentification P c i) (byteAt (c .waits .latch) (offset P c i)) (getD d i 0)
-  identification-rule i h = cells-rule waitsIdentification P t c d (identification-inside P c w d long) i (omega arith)
+  cell-rule i h = lent-rule P t c w memoryCells m size i h
 
 -- .. and for the lock, which is set exactly where a cycle of its own ends, and never opens
 pub lock-rule : (P : Part) (t : ℕ) (c : Core) → timed P t c .lock ≡ pick (ends t c && waitsLock (c .waits)) 1 (c .lock)

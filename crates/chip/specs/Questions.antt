@@ -1,7 +1,7 @@
 -- Where protection starts, and is an address protected. One definition, `lowest`, serves both questions, the verdict on
 -- a WRITE and the driver.
 use Prim.Native.Nat.{ℕ}
-use mathlib.Core.Bool.{Bool}
+use mathlib.Core.Bool.{Bool, false, _&&_, _||_}
 use lib.Dec.{leb, ltb}
 use Rattle.laws.specs.Pick.{pick}
 use Rattle.codes.specs.Part.{Part}
@@ -11,6 +11,9 @@ use Rattle.codes.specs.Refusals.{refusalNumber}
 use Rattle.chip.specs.Ranges.{inRanges}
 use Rattle.chip.specs.declared.Core.{Core}
 use Rattle.codes.specs.declared.Refusal.the-variants.{RecordRange, AddressRange}
+use Rattle.codes.specs.declared.Instruction.{Instruction}
+use Rattle.codes.specs.declared.Instruction.the-variants.{Wren, Wrdi, Rdsr, Wrsr, Read, Write, Rdid}
+use Rattle.codes.specs.declared.Instruction.the-variants.{Wrid, Silence}
 use Rattle.chip.specs.declared.Protection.{Protection}
 use Rattle.chip.specs.declared.Protection.the-variants.{Open, Protected, Refused}
 use Rattle.chip.specs.declared.ProtectedFrom.{ProtectedFrom}
@@ -23,6 +26,26 @@ lowest P c = lowestProtected P (on (c .bp1)) (on (c .bp0))
 -- an address is protected where the lowest protected one is at most it
 abbrev pub protects : Part → Core → ℕ → Bool
 protects P c a = leb (lowest P c) a
+
+-- what stops a write of cells: a WRITE's address is protected; 82h's page is sealed
+abbrev pub stoppedBy : Instruction → Bool → Bool → Bool
+stoppedBy Wren protected sealed = false
+stoppedBy Wrdi protected sealed = false
+stoppedBy Rdsr protected sealed = false
+stoppedBy Wrsr protected sealed = false
+stoppedBy Read protected sealed = false
+stoppedBy Write protected sealed = protected
+stoppedBy Rdid protected sealed = false
+stoppedBy Wrid protected sealed = sealed
+stoppedBy Silence protected sealed = false
+
+-- the identification page is sealed by its lock, or by BP 11
+abbrev pub sealed : Core → Bool
+sealed c = on (c .lock) || on (c .bp1) && on (c .bp0)
+
+-- the cells that an instruction would write at an address are protected
+abbrev pub barred : Part → Core → Instruction → ℕ → Bool
+barred P c i a = stoppedBy i (protects P c a) (sealed c)
 
 -- ---- the public question where protection starts, for every record
 

@@ -42,6 +42,13 @@ statusWaits P v = record { kind = 1; status = writable v; page = 0; latch = noLa
 abbrev pub pageWaits : ℕ → Latch → Waiting
 pageWaits p l = record { kind = 2; status = 0; page = p; latch = l }
 
+-- the identification page is page 0 of its own
+abbrev pub identificationWaits : Latch → Waiting
+identificationWaits l = record { kind = 3; status = 0; page = 0; latch = l }
+
+abbrev pub lockWaits : Part → Waiting
+lockWaits P = record { kind = 4; status = 0; page = 0; latch = noLatch P }
+
 -- ---- what a core says
 
 -- the row of its part
@@ -54,6 +61,10 @@ running c = ltb 0 (c .left)
 
 abbrev pub status : Core → ℕ
 status c = statusByte (on (c .srwd)) (on (c .bp1)) (on (c .bp0)) (on (c .wel)) (running c)
+
+-- the byte that shows the lock: low bit, others 0
+abbrev pub lockByte : Core → ℕ
+lockByte c = bit (on (c .lock))
 
 -- ---- a core made of another
 

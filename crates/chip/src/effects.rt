@@ -1,9 +1,13 @@
 // What an executed instruction does to the record.
 ghost use mathlib.Core.Path.{_≡_};
+ghost use Rattle.laws.specs.Pick.{pick};
 ghost use Rattle.codes.specs.Part.{m95512};
-ghost use Rattle.chip.specs.Records.{ownPart, statusWaits, pageWaits, withWel, withCycle};
+ghost use Rattle.codes.specs.Instructions.{picksLock};
+ghost use Rattle.chip.specs.Records.{ownPart, statusWaits, pageWaits, identificationWaits, lockWaits};
+ghost use Rattle.chip.specs.Records.{withWel, withCycle};
 use crate::Core;
 use crate::Waiting;
+use codes::picks_lock;
 use codes::writable;
 use latch::Latch;
 
@@ -28,6 +32,28 @@ impl Waiting {
             status: 0,
             page: page,
             latch: latch,
+        }
+    }
+
+    fn for_identification(latch: Latch) -> Waiting
+        ensures { λ r. ⌜ r ≡ identificationWaits latch ⌝ }
+    {
+        Waiting {
+            kind: 3,
+            status: 0,
+            page: 0,
+            latch: latch,
+        }
+    }
+
+    fn for_lock() -> Waiting
+        ensures { λ r. ⌜ r ≡ lockWaits m95512 ⌝ }
+    {
+        Waiting {
+            kind: 4,
+            status: 0,
+            page: 0,
+            latch: Latch::none(),
         }
     }
 }
@@ -62,5 +88,16 @@ impl Core {
         ensures { λ r. ⌜ r ≡ withCycle (pageWaits page latch) self ⌝ }
     {
         self.with_cycle(Waiting::for_page(page, latch))
+    }
+
+    // 82h: the cycle begins at whose end the lock is set or the identification page is stored, as its address picks.
+    pub fn begin_identification(self, address: u32, latch: Latch) -> Core
+        ensures { λ r. ⌜ r
+            ≡ withCycle (pick (picksLock address) (lockWaits (ownPart self)) (identificationWaits latch)) self ⌝ }
+    {
+        if picks_lock(address) {
+            return self.with_cycle(Waiting::for_lock());
+        }
+        self.with_cycle(Waiting::for_identification(latch))
     }
 }

@@ -1,12 +1,14 @@
 // Where protection starts, and is an address protected: the questions to a record.
 ghost use mathlib.Core.Path.{_≡_};
 ghost use Rattle.chip.specs.Records.{ownPart};
-ghost use Rattle.chip.specs.Questions.{lowest, protects, protectedFrom, protectedFromNumber, protectedFromValue};
+ghost use Rattle.chip.specs.Questions.{lowest, protects, barred, protectedFrom, protectedFromNumber};
+ghost use Rattle.chip.specs.Questions.{protectedFromValue};
 ghost use Rattle.chip.specs.Questions.{lowestNumber, lowestValue, protection, protectionNumber, protectionValue};
 ghost use Rattle.chip.specs.Questions.{questionNumber, questionValue};
 use crate::Core;
 use crate::ProtectedFrom;
 use crate::Protection;
+use codes::Instruction;
 use codes::Refusal;
 use codes::lowest_protected;
 
@@ -26,6 +28,23 @@ impl Core {
         ensures { λ r. ⌜ r ≡ protects (ownPart self) self address ⌝ }
     {
         self.lowest() <= address
+    }
+
+    // The cells that an instruction would write are protected: a WRITE's by its address, 82h's by the lock or BP 11.
+    pub fn barred(self, i: Instruction, address: u32) -> bool
+        ensures { λ r. ⌜ r ≡ barred (ownPart self) self i address ⌝ }
+    {
+        match i {
+            Instruction::Wren => false,
+            Instruction::Wrdi => false,
+            Instruction::Rdsr => false,
+            Instruction::Wrsr => false,
+            Instruction::Read => false,
+            Instruction::Write => self.protects(address),
+            Instruction::Rdid => false,
+            Instruction::Wrid => (self.lock == 1) | (self.bp1 == 1) & (self.bp0 == 1),
+            Instruction::Silence => false,
+        }
     }
 
     // Where protection starts: 2 for a record outside its ranges.

@@ -1,6 +1,6 @@
-// The status byte of a record.
+// The status byte of a record, and the byte that shows its lock.
 ghost use mathlib.Core.Path.{_≡_};
-ghost use Rattle.chip.specs.Records.{running, status};
+ghost use Rattle.chip.specs.Records.{running, status, lockByte};
 use crate::Core;
 use codes::status_byte;
 
@@ -23,5 +23,12 @@ impl Core {
             self.wel == 1,
             0 < self.left,
         )
+    }
+
+    // The byte that shows the lock: low bit, others 0.
+    pub fn lock_byte(self) -> u8
+        ensures { λ r. ⌜ r ≡ lockByte self ⌝ }
+    {
+        (self.lock == 1) as u8
     }
 }

@@ -2,4 +2,5 @@
 pub mod Sound
 pub mod Starts
 pub mod Judged
+pub mod Rows
 pub mod Ones

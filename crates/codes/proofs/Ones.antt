@@ -6,6 +6,12 @@ use Rattle.codes.proofs.Outcome.number.Kinds as outcome-number
 use Rattle.codes.proofs.Outcome.number.Reads as outcome-number-reads
 use Rattle.codes.proofs.instructions.decode.Kinds as decode
 use Rattle.codes.proofs.instructions.decode.Reads as decode-reads
+use Rattle.codes.proofs.instructions.is_write.Kinds as is-write
+use Rattle.codes.proofs.instructions.is_write.Reads as is-write-reads
+use Rattle.codes.proofs.instructions.is_wrid.Kinds as is-wrid
+use Rattle.codes.proofs.instructions.is_wrid.Reads as is-wrid-reads
+use Rattle.codes.proofs.instructions.picks_lock.Kinds as picks-lock
+use Rattle.codes.proofs.instructions.picks_lock.Reads as picks-lock-reads
 use Rattle.codes.proofs.protect.lowest_protected.Kinds as lowest-protected
 use Rattle.codes.proofs.protect.lowest_protected.Reads as lowest-protected-reads
 use Rattle.codes.proofs.sizes.is_part.Kinds as is-part
@@ -35,6 +41,15 @@ outcome-number-one κs a z z′ e e′ p q = same p q
 
 pub decode-one : OneResult decode.ps decode.r decode-reads.Post
 decode-one κs a z z′ e e′ p q = same p q
+
+pub is-write-one : OneResult is-write.ps is-write.r is-write-reads.Post
+is-write-one κs a z z′ e e′ p q = same p q
+
+pub is-wrid-one : OneResult is-wrid.ps is-wrid.r is-wrid-reads.Post
+is-wrid-one κs a z z′ e e′ p q = same p q
+
+pub picks-lock-one : OneResult picks-lock.ps picks-lock.r picks-lock-reads.Post
+picks-lock-one κs a z z′ e e′ p q = same p q
 
 pub lowest-protected-one : OneResult lowest-protected.ps lowest-protected.r lowest-protected-reads.Post
 lowest-protected-one κs a z z′ e e′ p q = same p q

@@ -1,5 +1,5 @@
 -- What the proofs need of a part's sizes, each a fact of its numbers, and that the M95512 has it: a law is stated for a sound part.
-use Prim.Native.Nat.{ℕ, _+_, _-_, _*_, _^_, _<_, _≤_, _∣_}
+use Prim.Native.Nat.{ℕ, _+_, _-_, _*_, _/_, _^_, _<_, _≤_, _∣_}
 use mathlib.Core.Path.{_≡_, refl}
 use mathlib.Core.Bool.{Bool, false}
 use native.Mathlib.Nat.{dvd-mul-right}
@@ -23,8 +23,10 @@ pub record Sound (P : Part) : Type 0 where
   pub reached : P .size ≤ 256 ^ P .addressBytes
   -- each address byte but the first has a place of its own in the size
   pub placed : 256 ^ (P .addressBytes - 1) ∣ P .size
-  -- the count of whole bytes goes on until the first data byte of a WRITE
-  pub counted : P .addressBytes + 2 ≤ P .most
+  -- the count of whole bytes goes on past the first data byte, so that a lock frame with more bits is told apart
+  pub counted : P .addressBytes + 3 ≤ P .most
+  -- the addresses of a page are alike in the bit that picks the lock
+  pub alike : P .page * (2 ^ 10 / P .page) ≡ 2 ^ 10
   -- there is a cycle, and a counter of 32 bits can read the longest
   pub longest-some : 1 ≤ P .longest
   pub longest-read : P .longest < 2 ^ 32
@@ -43,6 +45,7 @@ row-sound d =
       reached = lit≤ tt;
       placed = dvd-mul-right 256 256;
       counted = omega arith;
+      alike = refl;
       longest-some = omega arith;
       longest-read = lit≤ tt;
     }

@@ -1,9 +1,11 @@
 -- The first cell of an address's page and where it lies: omega cannot divide by a variable page, and with these bounds need not.
-use Prim.Native.Nat.{ℕ, _+_, _*_, _/_, _%_, _<_, _≤_}
-use mathlib.Core.Path.{_≡_}
-use native.Mathlib.Nat.{div-mul-le-self, lt-div-mul-add, div-add-mod, mul-comm, add-mul, mul-le-mul-right, div-lt-iff-lt-mul}
+use Prim.Native.Nat.{ℕ, _+_, _*_, _/_, _%_, _^_, _<_, _≤_}
+use mathlib.Core.Path.{_≡_, sym, ap, _∙_}
+use native.Mathlib.Nat.{div-mul-le-self, lt-div-mul-add, div-add-mod, mul-comm, add-mul, mul-le-mul-right, div-lt-iff-lt-mul, div-div-eq-div-mul}
 use native.Mathlib.Omega.{arith}
 use Rattle.codes.specs.Part.{Part, pages}
+use Rattle.codes.specs.Instructions.{picksLock}
+use Rattle.codes.specs.Status.{on}
 use Rattle.codes.proofs.Sound.{Sound}
 
 pub record Start (page a : ℕ) : Type 0 where
@@ -30,3 +32,11 @@ page-in-memory {P} s a h =
     let below = page-of-memory s a h in
     let up : (a / P .page + 1) * P .page ≤ pages P * P .page = mul-le-mul-right (P .page) (omega arith) in
     omega (arith, add-mul (a / P .page) 1 (P .page), s .whole)
+
+-- ---- the bit that picks the lock is the same in every address of a page
+
+pub picks-page : {P : Part} → Sound P → (a b : ℕ) → a / P .page ≡ b / P .page → picksLock a ≡ picksLock b
+picks-page {P} s a b e = ap (λ (x : ℕ). on (x % 2)) (by-page a ∙ ap (λ (x : ℕ). x / (2 ^ 10 / P .page)) e ∙ sym (by-page b))
+  where
+    by-page : (x : ℕ) → x / 2 ^ 10 ≡ x / P .page / (2 ^ 10 / P .page)
+    by-page x = ap (λ (y : ℕ). x / y) (sym (s .alike)) ∙ sym (div-div-eq-div-mul x (P .page) (2 ^ 10 / P .page))

@@ -17,7 +17,7 @@ abbrev pub letThrough : Row → Bool → Verdict
 letThrough r held = pick (held && not (r .hold)) OnHold (pick (r .known) Executed UnknownCode)
 
 -- n: bits counted; ran: a cycle ran at the eighth edge; locked: SRWD is 1 and W is low at deselect; protected: the
--- address is; held: at deselect. Fewer than eight bits are no instruction.
+-- cells to be written are; held: at deselect. Fewer than eight bits are no instruction.
 unfoldable pub verdictBy : Row → ℕ → Bool → Bool → Bool → Bool → Bool → Verdict
 verdictBy r n ran wel locked protected held =
     pick (ltb n 8) WrongCount
@@ -26,8 +26,9 @@ verdictBy r n ran wel locked protected held =
     (pick (not (countFits (r .count) n)) WrongCount
     (pick (guarded (r .guard) locked protected) Guarded (letThrough r held)))))
 
-abbrev pub verdict : Part → Instruction → ℕ → Bool → Bool → Bool → Bool → Bool → Verdict
-verdict P i n ran wel locked protected held = verdictBy (row P i) n ran wel locked protected held
+-- of an instruction with its address a and its data byte x
+abbrev pub verdict : Part → Instruction → ℕ → ℕ → ℕ → Bool → Bool → Bool → Bool → Bool → Verdict
+verdict P i a x n ran wel locked protected held = verdictBy (row P i a x) n ran wel locked protected held
 
 abbrev pub isExecuted : Verdict → Bool
 isExecuted Executed = true

@@ -9,13 +9,18 @@ mod sizes;
 mod status;
 mod verdicts;
 
+pub use instructions::RDID;
 pub use instructions::RDSR;
 pub use instructions::READ;
 pub use instructions::WRDI;
 pub use instructions::WREN;
+pub use instructions::WRID;
 pub use instructions::WRITE;
 pub use instructions::WRSR;
 pub use instructions::decode;
+pub use instructions::is_wrid;
+pub use instructions::is_write;
+pub use instructions::picks_lock;
 pub use protect::lowest_protected;
 pub use sizes::ADDRESS_BYTES;
 pub use sizes::HEAD;
@@ -63,6 +68,8 @@ pub enum Instruction {
     Wrsr,
     Read,
     Write,
+    Rdid,
+    Wrid,
     Silence,
 }
 
@@ -73,11 +80,11 @@ pub enum Count {
     WholeBytes(usize),
 }
 
-// What stops an instruction beside a cycle, WEL and its count: SRWD 1 with W low, or a protected address.
+// What stops an instruction beside a cycle, WEL and its count: SRWD 1 with W low, or protected cells.
 pub enum Guard {
     Nothing,
     StatusLock,
-    AddressLock,
+    CellLock,
 }
 
 // A row of the table of instructions; specs/Instructions.antt has the table.

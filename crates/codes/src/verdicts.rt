@@ -25,14 +25,14 @@ impl Count {
 }
 
 impl Guard {
-    // What stops a WRSR, and what stops a WRITE.
+    // What stops a WRSR, and what stops a write of cells.
     fn stops(self, locked: bool, protected: bool) -> bool
         ensures { λ r. ⌜ r ≡ guarded self locked protected ⌝ }
     {
         match self {
             Guard::Nothing => false,
             Guard::StatusLock => locked,
-            Guard::AddressLock => protected,
+            Guard::CellLock => protected,
         }
     }
 }
@@ -85,10 +85,12 @@ impl Row {
     }
 }
 
-// What a deselect decides of a frame with this instruction.
+// What a deselect decides of a frame with this instruction, its address and its data byte.
 pub fn judge(
     part: u8,
     i: Instruction,
+    address: u32,
+    value: u8,
     bits: usize,
     ran: bool,
     wel: bool,
@@ -96,9 +98,9 @@ pub fn judge(
     protected: bool,
     held: bool,
 ) -> Verdict
-    ensures { λ r. ⌜ r ≡ verdict (partOf part) i bits ran wel locked protected held ⌝ }
+    ensures { λ r. ⌜ r ≡ verdict (partOf part) i address value bits ran wel locked protected held ⌝ }
 {
-    row(part, i).judge(bits, ran, wel, locked, protected, held)
+    row(part, i, address, value).judge(bits, ran, wel, locked, protected, held)
 }
 
 impl Verdict {

@@ -14,12 +14,12 @@ use Rattle.codes.specs.Status.{on}
 use Rattle.chip.specs.Questions.{protects}
 use Rattle.latch.specs.Latches.{stored}
 use Rattle.chip.specs.Records.{running, waitsPage, waitsIdentification, pageWaits, withWel, withTime, withCycle, withoutCycle}
-use Rattle.codes.specs.Instructions.{decode, row, countFits}
+use Rattle.codes.specs.Instructions.{decode, countFits, writeBits}
 use Rattle.codes.specs.Verdicts.{isExecuted, verdictBy}
 use Rattle.chip.specs.Time.{ended, endedCells}
 use Rattle.latch.specs.declared.Latch.{Latch}
 use Rattle.chip.specs.declared.Core.{Core}
-use Rattle.codes.specs.declared.Instruction.the-variants.{Write}
+use Rattle.codes.specs.declared.Count.the-variants.{WholeBytes}
 use Rattle.codes.proofs.Sound.{Sound}
 use Rattle.fields.specs.Bytes.{written}
 use Rattle.frames.specs.After.{judged, after}
@@ -49,9 +49,9 @@ module _ (P : Part) (sound : Sound P) (c : Core) (a : ℕ) (bytes : List ℕ) (l
   abbrev bits : ℕ
   bits = 8 * length (writeBytes P a bytes)
 
-  whole : countFits (row P Write .count) bits ≡ true
+  whole : countFits (WholeBytes (writeBits P)) bits ≡ true
   whole =
-      let many : 8 * (P .addressBytes + 2) ≤ bits = omega (arith, write-length P a bytes) in
+      let many : writeBits P ≤ bits = omega (arith, write-length P a bytes) in
       let even : bits % 8 ≡ 0 = omega arith in
       and-both _ _ (le-leb _ bits many) (eq-eqb _ _ even)
 

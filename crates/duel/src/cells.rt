@@ -1,4 +1,4 @@
-// The memories: how a round fills them, and whether they are the same.
+// The memories and the identification pages: how a round fills them, and whether they are the same.
 use crate::run::CELLS;
 use crate::run::Run;
 use crate::run::count;
@@ -8,12 +8,8 @@ use codes::SIZE;
 
 pub type Memory = [u8; SIZE];
 
-// The identification page, as delivered. No frame of these rounds writes it.
+// The identification page.
 pub type Page = [u8; PAGE];
-
-pub fn blank_page() -> Page {
-    [255; PAGE]
-}
 
 // What a cell holds at the start: FFh as delivered, or a pattern.
 fn filling(patterned: bool, cell: usize) -> u8 {
@@ -22,6 +18,17 @@ fn filling(patterned: bool, cell: usize) -> u8 {
         return ((37 * n + 11 * (n / PAGE)) % 256) as u8;
     }
     255
+}
+
+// An identification page at the start. Its pattern is that of the memory's last page.
+pub fn filled_page(patterned: bool) -> Page {
+    let mut page: Page = [255; PAGE];
+    let mut i: usize = 0;
+    while i < PAGE {
+        page[i] = filling(patterned, SIZE - PAGE + i);
+        i += 1;
+    }
+    page
 }
 
 pub fn fill(memory: &mut Memory, patterned: bool) {
@@ -41,12 +48,11 @@ pub fn memories(frame_side: &mut Memory, pin_side: &mut Memory, run: &mut Run) {
     }
 }
 
-// The identification pages after a reading, both as they were.
-pub fn pages(frame_side: &Page, pin_side: &Page, run: &mut Run) {
+// The whole identification pages.
+pub fn pages(frame_side: Page, pin_side: Page, run: &mut Run) {
     let mut i: usize = 0;
     while i < PAGE {
-        same_at(b"identification cell", i, frame_side[i], 255, run);
-        same_at(b"identification cell", i, pin_side[i], 255, run);
+        same_at(b"identification cell", i, frame_side[i], pin_side[i], run);
         i += 1;
     }
 }

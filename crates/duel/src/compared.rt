@@ -97,6 +97,11 @@ fn times(frame_side: Core, pin_side: Core, run: &mut Run) {
     same(b"last reading", frame_side.last, pin_side.last, run);
 }
 
+fn parts(frame_side: Core, pin_side: Core, run: &mut Run) {
+    same_at(b"part", 0, frame_side.part, pin_side.part, run);
+    same_at(b"lock", 0, frame_side.lock, pin_side.lock, run);
+}
+
 // The whole core records: SRWD, BP1, BP0, WEL and WIP are the bits of the status byte.
 pub fn records(frame_side: Core, pin_side: Device, run: &mut Run) {
     let core = pin_side.core;
@@ -108,6 +113,7 @@ pub fn records(frame_side: Core, pin_side: Device, run: &mut Run) {
         pin_side.status().value(),
         run,
     );
+    parts(frame_side, core, run);
     times(frame_side, core, run);
     waits(a, b, run);
 }

@@ -1,7 +1,7 @@
 // A frame drawn as single pin changes: D free between edges, any pin set to the level it has, both modes, pauses that
 // begin and end with C low, C free in a pause and between frames.
 use crate::cells::Memory;
-use crate::cells::blank_page;
+use crate::cells::Page;
 use crate::chance::below;
 use crate::chance::percent;
 use crate::compared::bit_at;
@@ -25,10 +25,18 @@ pub const W: u64 = 3;
 
 const HOLD: u64 = 4;
 
-fn changed(device: Device, pin: u64, high: bool, memory: &Memory) -> Stepped {
+// The pin model: its device and its identification page.
+pub struct PinSide {
+    pub device: Device,
+    pub page: Page,
+}
+
+fn changed(side: PinSide, pin: u64, high: bool, memory: &Memory) -> Stepped {
+    let device = side.device;
+    let page = side.page;
     match pin {
         S => device.set_s(high),
-        C => device.set_c(high, memory, &blank_page()),
+        C => device.set_c(high, memory, &page),
         D => device.set_d(high),
         W => device.set_w(high),
         _ => device.set_hold(high),
@@ -36,12 +44,17 @@ fn changed(device: Device, pin: u64, high: bool, memory: &Memory) -> Stepped {
 }
 
 // One pin change, which a device inside its ranges does not refuse.
-pub fn set(device: Device, pin: u64, high: bool, memory: &Memory, run: &mut Run) -> Device {
-    let stepped = changed(device, pin, high, memory);
+pub fn set(side: PinSide, pin: u64, high: bool, memory: &Memory, run: &mut Run) -> PinSide {
+    let stepped = changed(side, pin, high, memory);
     let outcome = stepped.outcome;
+    let device = stepped.device;
+    let page = side.page;
     same(b"number of a pin change", 0, outcome.number(), run);
     count(CHANGES, run);
-    stepped.device
+    PinSide {
+        device: device,
+        page: page,
+    }
 }
 
 fn level(device: Device, pin: u64) -> bool {
@@ -55,17 +68,17 @@ fn level(device: Device, pin: u64) -> bool {
 }
 
 // A pin set to the level it has, or D, and C where it is free, to any.
-fn move_one(device: Device, free: bool, memory: &Memory, run: &mut Run) -> Device {
+fn move_one(side: PinSide, free: bool, memory: &Memory, run: &mut Run) -> PinSide {
     let pin = below(5, run);
     let high = percent(50, run);
     if (pin == D) | (free & (pin == C)) {
-        return set(device, pin, high, memory, run);
+        return set(side, pin, high, memory, run);
     }
-    set(device, pin, level(device, pin), memory, run)
+    set(side, pin, level(side.device, pin), memory, run)
 }
 
-fn move_some(device: Device, free: bool, moves: u64, memory: &Memory, run: &mut Run) -> Device {
-    let mut next = device;
+fn move_some(side: PinSide, free: bool, moves: u64, memory: &Memory, run: &mut Run) -> PinSide {
+    let mut next = side;
     let mut left = moves;
     while left > 0 {
         next = move_one(next, free, memory, run);
@@ -75,28 +88,28 @@ fn move_some(device: Device, free: bool, moves: u64, memory: &Memory, run: &mut 
 }
 
 // Here and there, up to five moves.
-fn stray(device: Device, free: bool, memory: &Memory, run: &mut Run) -> Device {
+fn stray(side: PinSide, free: bool, memory: &Memory, run: &mut Run) -> PinSide {
     if percent(run[LIVELY], run) {
-        return move_some(device, free, below(6, run), memory, run);
+        return move_some(side, free, below(6, run), memory, run);
     }
-    device
+    side
 }
 
 // Here and there, a pause.
-fn pause(device: Device, memory: &Memory, run: &mut Run) -> Device {
+fn pause(side: PinSide, memory: &Memory, run: &mut Run) -> PinSide {
     if percent(run[LIVELY], run) {
         count(PAUSES, run);
-        let begun = set(device, HOLD, false, memory, run);
+        let begun = set(side, HOLD, false, memory, run);
         let moved = move_some(begun, true, below(9, run), memory, run);
         let low = set(moved, C, false, memory, run);
         return set(low, HOLD, true, memory, run);
     }
-    device
+    side
 }
 
 // C low, with room for a pause, then D at the bit.
-fn ready(device: Device, high: bool, memory: &Memory, run: &mut Run) -> Device {
-    let low = set(device, C, false, memory, run);
+fn ready(side: PinSide, high: bool, memory: &Memory, run: &mut Run) -> PinSide {
+    let low = set(side, C, false, memory, run);
     let strayed = stray(low, false, memory, run);
     let rested = pause(strayed, memory, run);
     set(rested, D, high, memory, run)
@@ -104,28 +117,28 @@ fn ready(device: Device, high: bool, memory: &Memory, run: &mut Run) -> Device {
 
 // Bit k: Q is compared just before C rises.
 fn draw_bit(
-    device: Device,
+    side: PinSide,
     bytes: &[u8],
     out: &[u8],
     k: usize,
     memory: &Memory,
     run: &mut Run,
-) -> Device {
-    let low = ready(device, bit_at(bytes, k) == 1, memory, run);
-    clock(low.q().value(), bit_at(out, k), k, run);
+) -> PinSide {
+    let low = ready(side, bit_at(bytes, k) == 1, memory, run);
+    clock(low.device.q().value(), bit_at(out, k), k, run);
     let risen = set(low, C, true, memory, run);
     stray(risen, false, memory, run)
 }
 
 fn draw_bits(
-    device: Device,
+    side: PinSide,
     bytes: &[u8],
     out: &[u8],
     bits: usize,
     memory: &Memory,
     run: &mut Run,
-) -> Device {
-    let mut next = device;
+) -> PinSide {
+    let mut next = side;
     let mut k: usize = 0;
     while k < bits {
         next = draw_bit(next, bytes, out, k, memory, run);
@@ -135,25 +148,25 @@ fn draw_bits(
 }
 
 // C free between frames, then at the mode's rest, and S low.
-fn select(device: Device, mode3: bool, memory: &Memory, run: &mut Run) -> Device {
-    let strayed = stray(device, true, memory, run);
+fn select(side: PinSide, mode3: bool, memory: &Memory, run: &mut Run) -> PinSide {
+    let strayed = stray(side, true, memory, run);
     let resting = set(strayed, C, mode3, memory, run);
     set(resting, S, false, memory, run)
 }
 
 // C at the mode's rest, and S high; in mode 0 there is room for a last pause.
-fn deselect(device: Device, mode3: bool, memory: &Memory, run: &mut Run) -> Device {
+fn deselect(side: PinSide, mode3: bool, memory: &Memory, run: &mut Run) -> PinSide {
     if mode3 {
-        return set(device, S, true, memory, run);
+        return set(side, S, true, memory, run);
     }
-    let low = set(device, C, false, memory, run);
+    let low = set(side, C, false, memory, run);
     let rested = pause(low, memory, run);
     set(rested, S, true, memory, run)
 }
 
 // In Hold, with C and D free in it; HOLD is high again afterwards.
-fn deselect_in_hold(device: Device, memory: &Memory, run: &mut Run) -> Device {
-    let low = set(device, C, false, memory, run);
+fn deselect_in_hold(side: PinSide, memory: &Memory, run: &mut Run) -> PinSide {
+    let low = set(side, C, false, memory, run);
     let paused = set(low, HOLD, false, memory, run);
     let moved = move_some(paused, true, below(9, run), memory, run);
     let ended = set(moved, S, true, memory, run);
@@ -162,7 +175,7 @@ fn deselect_in_hold(device: Device, memory: &Memory, run: &mut Run) -> Device {
 
 // The whole frame, from a device that is not selected to one that is not selected.
 pub fn draw(
-    device: Device,
+    side: PinSide,
     bytes: &[u8],
     out: &[u8],
     bits: usize,
@@ -170,8 +183,8 @@ pub fn draw(
     mode3: bool,
     memory: &Memory,
     run: &mut Run,
-) -> Device {
-    let begun = select(device, mode3, memory, run);
+) -> PinSide {
+    let begun = select(side, mode3, memory, run);
     let clocked = draw_bits(begun, bytes, out, bits, memory, run);
     if held {
         return deselect_in_hold(clocked, memory, run);

@@ -1,20 +1,23 @@
-// Random frames: mostly one of the six instructions, with the count of bits that it asks.
+// Random frames: mostly one of the eight instructions, with the count of bits that it asks.
 ghost use Prim.Native.Nat.{_≤_};
 use crate::cells::Memory;
 use crate::chance::below;
 use crate::chance::byte;
 use crate::chance::percent;
 use crate::run::Run;
+use codes::M95512D;
+use codes::RDID;
 use codes::RDSR;
 use codes::READ;
 use codes::WRDI;
 use codes::WREN;
+use codes::WRID;
 use codes::WRITE;
 use codes::WRSR;
 
-// One of the six, or sometimes any byte.
+// One of the eight, or sometimes any byte.
 fn any_code(run: &mut Run) -> u8 {
-    let r = below(20, run);
+    let r = below(22, run);
     match r {
         0..=2 => WREN,
         3 => WRDI,
@@ -22,12 +25,14 @@ fn any_code(run: &mut Run) -> u8 {
         7..=8 => WRSR,
         9..=13 => READ,
         14..=17 => WRITE,
+        18 => RDID,
+        19 => WRID,
         _ => byte(run),
     }
 }
 
 // Often what brings a write on: WREN where WEL is 0, else WRITE or WRSR.
-fn code(wel: bool, run: &mut Run) -> u8 {
+fn memory_code(wel: bool, run: &mut Run) -> u8 {
     let r = below(20, run);
     if r < 10 {
         return any_code(run);
@@ -38,6 +43,36 @@ fn code(wel: bool, run: &mut Run) -> u8 {
     if r < 18 { WRITE } else { WRSR }
 }
 
+// 82h or 83h, and what brings 82h on.
+fn identification_code(wel: bool, run: &mut Run) -> u8 {
+    let r = below(8, run);
+    if r < 2 {
+        return RDID;
+    }
+    if wel | (r == 2) { WRID } else { WREN }
+}
+
+// The part's code: of the M95512-D often one for its identification page.
+fn code(part: u8, wel: bool, run: &mut Run) -> u8 {
+    if (part == M95512D) & percent(50, run) {
+        return identification_code(wel, run);
+    }
+    memory_code(wel, run)
+}
+
+// Around the four bytes of a lock: these in most frames.
+fn around_four(run: &mut Run) -> u64
+    ensures { λ r. ⌜ r ≤ 12 ⌝ }
+{
+    let r = below(20, run);
+    match r {
+        0 => 3,
+        1..=14 => 4,
+        15..=16 => 5,
+        _ => 6 + below(7, run),
+    }
+}
+
 // As many bytes as the instruction asks.
 fn asked(code: u8, run: &mut Run) -> u64
     ensures { λ r. ⌜ r ≤ 12 ⌝ }
@@ -46,6 +81,7 @@ fn asked(code: u8, run: &mut Run) -> u64
         WREN => 1,
         WRDI => 1,
         WRSR => 2,
+        WRID => around_four(run),
         _ => 4 + below(9, run),
     }
 }
@@ -119,16 +155,25 @@ fn scatter(bytes: &mut Memory, n: usize, run: &mut Run)
     }
 }
 
+// An address's high byte. Its bit 2 picks page or lock: of 82h and 83h it is 0 or 1 by chance.
+fn high_byte(code: u8, high: u8, run: &mut Run) -> u8 {
+    if ((code == WRID) | (code == RDID)) & percent(50, run) {
+        return high ^ 4;
+    }
+    high
+}
+
 // A frame's bytes, and how many: the instruction byte, an address, then any.
-pub fn compose(wel: bool, bytes: &mut Memory, run: &mut Run) -> usize
+pub fn compose(part: u8, wel: bool, bytes: &mut Memory, run: &mut Run) -> usize
     ensures { λ r. ⌜ r ≤ 65536 ⌝ }
 {
-    let code = code(wel, run);
+    let code = code(part, wel, run);
     let n = length(code, run);
     scatter(bytes, n, run);
     let to = address(run);
+    let high = high_byte(code, (to / 256) as u8, run);
     bytes[0] = code;
-    bytes[1] = (to / 256) as u8;
+    bytes[1] = high;
     bytes[2] = (to % 256) as u8;
     n
 }

@@ -1,6 +1,7 @@
 // A round's acts: each is made on both models, and then they are compared.
 use crate::cells::Memory;
-use crate::cells::blank_page;
+use crate::cells::Page;
+use crate::cells::filled_page;
 use crate::cells::memories;
 use crate::cells::pages;
 use crate::chance::below;
@@ -8,43 +9,52 @@ use crate::chance::percent;
 use crate::chance::word;
 use crate::compared::padding;
 use crate::compared::records;
+use crate::drawn::PinSide;
 use crate::drawn::W;
 use crate::drawn::draw;
 use crate::drawn::set;
 use crate::held::count_held;
 use crate::held::left_by;
+use crate::identified::count_identified;
 use crate::made;
 use crate::run::ACTS;
 use crate::run::DIFFERENCES;
 use crate::run::ENDED;
 use crate::run::FRAMES;
+use crate::run::IDENTIFIED;
 use crate::run::LEVELS;
 use crate::run::LIVELY;
+use crate::run::LOCKS;
 use crate::run::LONG;
 use crate::run::MODE_3;
 use crate::run::PAGES;
 use crate::run::PARTIAL;
 use crate::run::READINGS;
+use crate::run::ROUNDS_D;
 use crate::run::Run;
 use crate::run::STATUSES;
 use crate::run::UNDRIVEN;
 use crate::run::count;
 use crate::run::same;
 use chip::Core;
-use chip::Timed;
 use codes::LONGEST_CYCLE;
 use codes::M95512;
+use codes::M95512D;
 use codes::WRITE;
 use frames::Framed;
 use frames::frame;
-use pins::Device;
-use pins::Stepped;
 
-// Both models: the frame model's record with its level of W, the pin model's device.
-pub struct Pair {
+// The frame model: its record and its identification page.
+pub struct FrameSide {
     pub core: Core,
+    pub page: Page,
+}
+
+// Both models, the frame model with its level of W.
+pub struct Pair {
+    pub frames: FrameSide,
     pub w: bool,
-    pub device: Device,
+    pub pins: PinSide,
 }
 
 // ---- the start
@@ -60,21 +70,43 @@ fn cycle(run: &mut Run) -> u32 {
     }
 }
 
-// Both powered up alike.
-pub fn powered(run: &mut Run) -> Pair {
+// Either part.
+fn part(run: &mut Run) -> u8 {
+    if percent(50, run) {
+        count(ROUNDS_D, run);
+        return M95512D;
+    }
+    M95512
+}
+
+fn powered_as(part: u8, lock: bool, page: Page, run: &mut Run) -> Pair {
     let cycle = cycle(run);
     let srwd = percent(30, run);
     let bp1 = percent(20, run);
     let bp0 = percent(30, run);
     let reading = word(run);
-    let core = chip::power_up(M95512, false, cycle, srwd, bp1, bp0, reading).core;
-    let device = pins::power_up(M95512, false, cycle, srwd, bp1, bp0, reading).device;
+    let core = chip::power_up(part, lock, cycle, srwd, bp1, bp0, reading).core;
+    let device = pins::power_up(part, lock, cycle, srwd, bp1, bp0, reading).device;
     records(core, device, run);
     Pair {
-        core: core,
+        frames: FrameSide {
+            core: core,
+            page: page,
+        },
         w: true,
-        device: device,
+        pins: PinSide {
+            device: device,
+            page: page,
+        },
     }
+}
+
+// Both powered up alike, with identification pages filled alike.
+pub fn powered(run: &mut Run) -> Pair {
+    let part = part(run);
+    let lock = percent(20, run);
+    let page = filled_page(percent(75, run));
+    powered_as(part, lock, page, run)
 }
 
 // ---- clock readings
@@ -94,18 +126,29 @@ fn passing(cycle: u32, left: u32, run: &mut Run) -> u32 {
     }
 }
 
-// The answers to one reading.
-fn met(frame_side: Timed, pin_side: Stepped, w: bool, run: &mut Run) -> Pair {
-    let core = frame_side.core;
-    let device = pin_side.device;
-    let a = frame_side.outcome;
-    let b = pin_side.outcome;
-    same(b"number of a reading", a.number(), b.number(), run);
-    records(core, device, run);
-    Pair {
+// The frame model's reading, which a record inside its ranges does not refuse.
+fn read_frames(side: FrameSide, reading: u32, memory: &mut Memory, run: &mut Run) -> FrameSide {
+    let mut page = side.page;
+    let timed = chip::clock_reading(side.core, reading, memory, &mut page);
+    let core = timed.core;
+    let outcome = timed.outcome;
+    same(b"number of a reading", outcome.number(), 0, run);
+    FrameSide {
         core: core,
-        w: w,
+        page: page,
+    }
+}
+
+// The pin model's reading, which a device inside its ranges does not refuse.
+fn read_pins(side: PinSide, reading: u32, memory: &mut Memory, run: &mut Run) -> PinSide {
+    let mut page = side.page;
+    let stepped = side.device.read_clock(reading, memory, &mut page);
+    let device = stepped.device;
+    let outcome = stepped.outcome;
+    same(b"number of a reading", 0, outcome.number(), run);
+    PinSide {
         device: device,
+        page: page,
     }
 }
 
@@ -116,23 +159,33 @@ fn pass(
     pin_side: &mut Memory,
     run: &mut Run,
 ) -> Pair {
-    let mut frame_page = blank_page();
-    let mut pin_page = blank_page();
-    let timed = chip::clock_reading(pair.core, reading, frame_side, &mut frame_page);
-    let stepped = pair.device.read_clock(reading, pin_side, &mut pin_page);
-    pages(&frame_page, &pin_page, run);
-    met(timed, stepped, pair.w, run)
+    let frames = read_frames(pair.frames, reading, frame_side, run);
+    let pins = read_pins(pair.pins, reading, pin_side, run);
+    records(frames.core, pins.device, run);
+    Pair {
+        frames: frames,
+        w: pair.w,
+        pins: pins,
+    }
 }
 
-// A clock reading for both; where it ends a cycle the memories are compared whole.
+// The whole memories and the whole identification pages.
+pub fn cells_alike(pair: Pair, frame_side: &mut Memory, pin_side: &mut Memory, run: &mut Run) {
+    let frame_page = pair.frames.page;
+    let pin_page = pair.pins.page;
+    memories(frame_side, pin_side, run);
+    pages(frame_page, pin_page, run);
+}
+
+// A clock reading for both; where it ends a cycle the memories and the identification pages are compared whole.
 fn read(pair: Pair, frame_side: &mut Memory, pin_side: &mut Memory, run: &mut Run) -> Pair {
-    let core = pair.core;
+    let core = pair.frames.core;
     let reading = std::num::wrapping_add_u32(core.last, passing(core.cycle, core.left, run));
     let next = pass(pair, reading, frame_side, pin_side, run);
     count(READINGS, run);
-    if (core.left > 0) & (next.core.left == 0) {
+    if (core.left > 0) & (next.frames.core.left == 0) {
         count(ENDED, run);
-        memories(frame_side, pin_side, run);
+        cells_alike(next, frame_side, pin_side, run);
     }
     next
 }
@@ -142,11 +195,13 @@ fn read(pair: Pair, frame_side: &mut Memory, pin_side: &mut Memory, run: &mut Ru
 fn protect(pair: Pair, pin_side: &mut Memory, run: &mut Run) -> Pair {
     let high = percent(60, run);
     count(LEVELS, run);
-    let core = pair.core;
+    let frames = pair.frames;
+    let pins = set(pair.pins, W, high, pin_side, run);
+    records(frames.core, pins.device, run);
     Pair {
-        core: core,
+        frames: frames,
         w: high,
-        device: set(pair.device, W, high, pin_side, run),
+        pins: pins,
     }
 }
 
@@ -170,11 +225,12 @@ fn count_begun(before: Core, after: Core, run: &mut Run) {
     if before.left > 0 {
         return;
     }
-    if kind == 2 {
-        count(PAGES, run);
-    }
-    if kind == 1 {
-        count(STATUSES, run);
+    match kind {
+        1 => count(STATUSES, run),
+        2 => count(PAGES, run),
+        3 => count(IDENTIFIED, run),
+        4 => count(LOCKS, run),
+        _ => {}
     }
 }
 
@@ -197,7 +253,7 @@ fn begin(bits: usize, mode3: bool, undriven: usize, run: &mut Run) {
 
 // The frame model's answer to the first n bytes; bytes or an output too few are refused.
 fn ask(
-    core: Core,
+    side: FrameSide,
     w: bool,
     frame_side: &Memory,
     bytes: &[u8],
@@ -205,7 +261,8 @@ fn ask(
     bits: usize,
     out: &mut [u8],
 ) -> Framed {
-    let page = blank_page();
+    let core = side.core;
+    let page = side.page;
     if n > bytes.len() {
         return frame(core, frame_side, &page, w, bytes, bits, out);
     }
@@ -232,12 +289,16 @@ fn meet(
     same(b"number of a frame", answer.number(), 0, run);
     begin(bits, mode3, answer.undriven(), run);
     padding(out, bits, run);
-    let device = draw(pair.device, bytes, out, bits, held, mode3, pin_side, run);
-    records(core, device, run);
+    let drawn = draw(pair.pins, bytes, out, bits, held, mode3, pin_side, run);
+    records(core, drawn.device, run);
+    let page = pair.frames.page;
     Pair {
-        core: core,
+        frames: FrameSide {
+            core: core,
+            page: page,
+        },
         w: pair.w,
-        device: device,
+        pins: drawn,
     }
 }
 
@@ -258,11 +319,22 @@ fn send_bits(
     out: &mut Memory,
     run: &mut Run,
 ) -> Pair {
-    let core = pair.core;
-    let asked = ask(core, pair.w, frame_side, bytes, bytes_for(bits), bits, out);
+    let frames = pair.frames;
+    let core = frames.core;
+    let asked = ask(
+        frames,
+        pair.w,
+        frame_side,
+        bytes,
+        bytes_for(bits),
+        bits,
+        out,
+    );
     let framed = left_by(asked, core, held & (bytes[0] != WRITE));
     let next = framed.core;
+    let answer = framed.answer;
     count_begun(core, next, run);
+    count_identified(core, bytes, bits, answer.undriven(), run);
     if held {
         count_held(core, next, bytes, bits, run);
     }
@@ -273,7 +345,8 @@ fn send_bits(
 fn send(pair: Pair, frame_side: &mut Memory, pin_side: &mut Memory, run: &mut Run) -> Pair {
     let mut bytes = io::large_buffer();
     let mut out = io::large_buffer();
-    let n = made::compose(pair.core.wel == 1, &mut bytes, run);
+    let core = pair.frames.core;
+    let n = made::compose(core.part, core.wel == 1, &mut bytes, run);
     let held = below(8, run) == 0;
     let bits = if held {
         made::bits_in_hold(n, run)
@@ -310,7 +383,7 @@ fn kind(running: bool, run: &mut Run) -> u64 {
 }
 
 pub fn act(pair: Pair, frame_side: &mut Memory, pin_side: &mut Memory, run: &mut Run) -> Pair {
-    match kind(pair.core.left > 0, run) {
+    match kind(pair.frames.core.left > 0, run) {
         0 => read(pair, frame_side, pin_side, run),
         1 => protect(pair, pin_side, run),
         2 => send(pair, frame_side, pin_side, run),

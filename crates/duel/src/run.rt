@@ -5,66 +5,76 @@ use libc::STDOUT_FILENO;
 // the counts, in the summary's order
 pub const ROUNDS: usize = 0;
 
-pub const ACTS: usize = 1;
+pub const ROUNDS_D: usize = 1;
 
-pub const FRAMES: usize = 2;
+pub const ACTS: usize = 2;
 
-pub const READINGS: usize = 3;
+pub const FRAMES: usize = 3;
 
-pub const LEVELS: usize = 4;
+pub const READINGS: usize = 4;
 
-pub const MODE_3: usize = 5;
+pub const LEVELS: usize = 5;
 
-pub const PARTIAL: usize = 6;
+pub const MODE_3: usize = 6;
 
-pub const LONG: usize = 7;
+pub const PARTIAL: usize = 7;
 
-pub const PAUSES: usize = 8;
+pub const LONG: usize = 8;
 
-pub const CHANGES: usize = 9;
+pub const PAUSES: usize = 9;
 
-pub const CLOCKS: usize = 10;
+pub const CHANGES: usize = 10;
 
-pub const DRIVEN: usize = 11;
+pub const CLOCKS: usize = 11;
 
-pub const PAGES: usize = 12;
+pub const DRIVEN: usize = 12;
 
-pub const STATUSES: usize = 13;
+pub const SHOWN: usize = 13;
 
-pub const ENDED: usize = 14;
+pub const PAGES: usize = 14;
 
-pub const CELLS: usize = 15;
+pub const STATUSES: usize = 15;
+
+pub const IDENTIFIED: usize = 16;
+
+pub const LOCKS: usize = 17;
+
+pub const LOCKED: usize = 18;
+
+pub const ENDED: usize = 19;
+
+pub const CELLS: usize = 20;
 
 // deselects in Hold; of these the WRITEs, by their count, by what stops them, and those that begin a cycle
-pub const HELD: usize = 16;
+pub const HELD: usize = 21;
 
-pub const HELD_WRITES: usize = 17;
+pub const HELD_WRITES: usize = 22;
 
-pub const HELD_32: usize = 18;
+pub const HELD_32: usize = 23;
 
-pub const HELD_33: usize = 19;
+pub const HELD_33: usize = 24;
 
-pub const HELD_40: usize = 20;
+pub const HELD_40: usize = 25;
 
-pub const HELD_NO_WEL: usize = 21;
+pub const HELD_NO_WEL: usize = 26;
 
-pub const HELD_PROTECTED: usize = 22;
+pub const HELD_PROTECTED: usize = 27;
 
-pub const HELD_BEGUN: usize = 23;
+pub const HELD_BEGUN: usize = 28;
 
-pub const DIFFERENCES: usize = 24;
+pub const DIFFERENCES: usize = 29;
 
 // the generator's state
-pub const CHANCE: usize = 25;
+pub const CHANCE: usize = 30;
 
 // of the frame in hand: in how many of a hundred places pin changes stray, and how many leading bits the frame model
 // left undriven
-pub const LIVELY: usize = 26;
+pub const LIVELY: usize = 31;
 
-pub const UNDRIVEN: usize = 27;
+pub const UNDRIVEN: usize = 32;
 
 // how many numbers there are
-const NUMBERS: usize = 28;
+const NUMBERS: usize = 33;
 
 pub type Run = [u64; NUMBERS];
 
@@ -141,33 +151,33 @@ fn rows(labels: &[u8], first: usize, run: &Run) {
 
 pub fn summary(run: &Run) {
     rows(
-        b"rounds              acts                frames              clock readings      levels of W         ",
+        b"rounds              rounds with M95512-Dacts                frames              clock readings      ",
         ROUNDS,
         run,
     );
     rows(
-        b"frames in mode 3    with part of a byte with over a page    pauses              ",
-        MODE_3,
+        b"levels of W         frames in mode 3    with part of a byte with over a page    pauses              ",
+        LEVELS,
         run,
     );
     rows(
-        b"pin changes         counted clocks      driven bits         ",
+        b"pin changes         counted clocks      driven bits         83h that drove Q    page cycles begun   ",
         CHANGES,
         run,
     );
     rows(
-        b"page cycles begun   status cycles begun cycles ended        cells changed       ",
-        PAGES,
+        b"status cycles begun identification begunlock cycles begun   82h stopped by lock cycles ended        ",
+        STATUSES,
         run,
     );
     rows(
-        b"deselected in Hold  WRITEs among them   with 32 bits        with 33 bits        with 40 bits        ",
-        HELD,
+        b"cells changed       deselected in Hold  WRITEs among them   with 32 bits        with 33 bits        ",
+        CELLS,
         run,
     );
     rows(
-        b"without WEL         to a protected cell begun in Hold       differences         ",
-        HELD_NO_WEL,
+        b"with 40 bits        without WEL         to a protected cell begun in Hold       differences         ",
+        HELD_40,
         run,
     );
 }

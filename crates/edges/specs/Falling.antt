@@ -6,20 +6,22 @@ use lib.Dec.{eqb, leb, ltb}
 use Rattle.laws.specs.Pick.{pick}
 use Rattle.codes.specs.Part.{Part}
 use Rattle.codes.specs.Status.{on, bitOf}
+use Rattle.latch.specs.Identification.{identificationByte, identificationNext}
 use Rattle.chip.specs.Lents.{Lent}
-use Rattle.chip.specs.Records.{status}
+use Rattle.chip.specs.Records.{status, lockByte}
 use Rattle.codes.specs.Instructions.{decode}
 use Rattle.codes.specs.Output.{outputs}
 use Rattle.chip.specs.declared.Core.{Core}
 use Rattle.codes.specs.declared.Instruction.{Instruction}
-use Rattle.codes.specs.declared.Instruction.the-variants.{Wren, Wrdi, Rdsr, Wrsr, Read, Write, Silence}
+use Rattle.codes.specs.declared.Instruction.the-variants.{Wren, Wrdi, Rdsr, Wrsr, Read, Write, Rdid}
+use Rattle.codes.specs.declared.Instruction.the-variants.{Wrid, Silence}
 use Rattle.edges.specs.declared.Frame.{Frame}
 use Rattle.edges.specs.declared.Level.{Level}
 use Rattle.edges.specs.declared.Level.the-variants.{Zero, One, Z}
 use Rattle.edges.specs.Frames.{withOut, withAddress}
 
 -- the next data byte, of which bit 7 shows: the status as it is now; the cell at the address, which then goes up and
--- rolls over
+-- rolls over; the identification page's cell or its lock
 abbrev pub loading : Part → Lent → Core → Instruction → Frame → Frame
 loading P m c Wren f = f
 loading P m c Wrdi f = f
@@ -27,6 +29,10 @@ loading P m c Rdsr f = withOut (status c) 1 f
 loading P m c Wrsr f = f
 loading P m c Read f = withAddress ((f .address + 1) % P .size) (withOut (getD (m .memory) (f .address) 0) 1 f)
 loading P m c Write f = f
+loading P m c Rdid f =
+    withAddress (identificationNext P (f .address))
+    (withOut (identificationByte P (lockByte c) (m .identification) (f .address)) 1 f)
+loading P m c Wrid f = f
 loading P m c Silence f = f
 
 -- 1 to 7 bits shown: the next one; none or all eight: the next byte

@@ -1,14 +1,15 @@
 -- A counted rising edge takes the bit on D, high bit first.
-use Prim.Native.Nat.{ℕ, _+_, _*_, _-_, _/_, _%_, _^_}
+use Prim.Native.Nat.{ℕ, _+_, _*_, _-_, _%_, _^_}
 use mathlib.Core.Bool.{Bool}
 use lib.Dec.{eqb, leb, ltb}
 use Rattle.laws.specs.Pick.{pick}
 use Rattle.codes.specs.Part.{Part}
 use Rattle.codes.specs.Status.{bit, on}
-use Rattle.codes.specs.Instructions.{decode}
-use Rattle.latch.specs.Latches.{latched, nextCell}
+use Rattle.codes.specs.Instructions.{decode, picksLock}
+use Rattle.latch.specs.Latches.{latched, nextInPage}
 use Rattle.codes.specs.declared.Instruction.{Instruction}
-use Rattle.codes.specs.declared.Instruction.the-variants.{Wren, Wrdi, Rdsr, Wrsr, Read, Write, Silence}
+use Rattle.codes.specs.declared.Instruction.the-variants.{Wren, Wrdi, Rdsr, Wrsr, Read, Write, Rdid}
+use Rattle.codes.specs.declared.Instruction.the-variants.{Wrid, Silence}
 use Rattle.edges.specs.declared.Frame.{Frame}
 use Rattle.edges.specs.Frames.{withBits, withByte, withCode, withValue, withAddress, withLatch}
 
@@ -25,8 +26,13 @@ addressByte P n v f = withAddress ((f .address + v * 256 ^ (P .addressBytes - n)
 -- a data byte goes to its cell, and the address moves to the next cell of the page
 abbrev pub latchByte : Part → ℕ → Frame → Frame
 latchByte P v f =
-    withAddress (f .address / P .page * P .page + nextCell P (f .address))
+    withAddress (nextInPage P (f .address))
     (withLatch (latched (f .address % P .page) v (f .latch)) f)
+
+-- a data byte of 82h: the lock's, of which the first stays, or one of the identification page
+abbrev pub identificationData : Part → ℕ → ℕ → Frame → Frame
+identificationData P n v f =
+    pick (picksLock (f .address)) (pick (eqb n (P .addressBytes + 1)) (withValue v f) f) (latchByte P v f)
 
 abbrev pub taking : Part → Instruction → ℕ → ℕ → Frame → Frame
 taking P Wren n v f = f
@@ -35,6 +41,8 @@ taking P Rdsr n v f = f
 taking P Wrsr n v f = pick (eqb n 1) (withValue v f) f
 taking P Read n v f = pick (leb n (P .addressBytes)) (addressByte P n v f) f
 taking P Write n v f = pick (leb n (P .addressBytes)) (addressByte P n v f) (latchByte P v f)
+taking P Rdid n v f = pick (leb n (P .addressBytes)) (addressByte P n v f) f
+taking P Wrid n v f = pick (leb n (P .addressBytes)) (addressByte P n v f) (identificationData P n v f)
 taking P Silence n v f = f
 
 -- the first whole byte is the code, and "no cycle" is judged with it; every later one is the instruction's

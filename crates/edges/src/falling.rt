@@ -3,20 +3,24 @@ ghost use mathlib.Core.Path.{_≡_};
 ghost use Prim.Native.Nat.{_+_, _-_, _%_, _<_};
 ghost use lib.ListN.{getD};
 ghost use Rattle.codes.specs.Part.{m95512, partOf};
-ghost use Rattle.chip.specs.Records.{ownPart};
+ghost use Rattle.chip.specs.Records.{ownPart, lockByte};
 ghost use Rattle.codes.specs.Status.{bitOf};
 ghost use Rattle.codes.specs.Output.{outputs};
+ghost use Rattle.latch.specs.Identification.{identificationByte, identificationNext};
 ghost use Rattle.chip.specs.Lents.{lent};
 ghost use Rattle.edges.specs.Frames.{withOut, withAddress};
 ghost use Rattle.edges.specs.Falling.{loading, levelShown, levelNumber};
 use crate::Frame;
 use crate::HEAD;
 use crate::Level;
+use crate::PAGE;
 use crate::SIZE;
+use crate::rising::next_address;
 use chip::Core;
 use codes::Instruction;
+use codes::picks_lock;
 
-// Data output: RDSR after its code; READ after its address, if no cycle ran at the eighth edge.
+// Data output: RDSR after its code; READ and 83h after their address, if no cycle ran at the eighth edge.
 pub fn outputs(part: u8, i: Instruction, taken: u8, ran: bool) -> bool
     ensures { λ r. ⌜ r ≡ outputs (partOf part) i taken ran ⌝ }
 {
@@ -27,6 +31,8 @@ pub fn outputs(part: u8, i: Instruction, taken: u8, ran: bool) -> bool
         Instruction::Wrsr => false,
         Instruction::Read => (HEAD <= taken) & !ran,
         Instruction::Write => false,
+        Instruction::Rdid => (HEAD <= taken) & !ran,
+        Instruction::Wrid => false,
         Instruction::Silence => false,
     }
 }
@@ -60,6 +66,19 @@ impl Frame {
             .with_address(one_up(address))
     }
 
+    // A cell of the identification page, and the address of the next; or the lock.
+    fn load_identification(self, lock: u8, identification: &[u8]) -> Frame
+        ensures { λ r. ⌜ r ≡ withAddress (identificationNext m95512 (self .address))
+            (withOut (identificationByte m95512 lock (now (identification .entry)) (self .address)) 1 self) ⌝ }
+    {
+        let address = self.address;
+        if picks_lock(address) {
+            return self.with_out(lock, 1);
+        }
+        self.with_out(cell(identification, address % PAGE), 1)
+            .with_address(next_address(address))
+    }
+
     // The next data byte, of which bit 7 shows.
     pub fn loading(self, memory: &[u8], identification: &[u8], core: Core, i: Instruction) -> Frame
         ensures { λ r. ⌜ r ≡ loading (ownPart core)
@@ -72,6 +91,8 @@ impl Frame {
             Instruction::Wrsr => self,
             Instruction::Read => self.load_cell(memory),
             Instruction::Write => self,
+            Instruction::Rdid => self.load_identification(core.lock_byte(), identification),
+            Instruction::Wrid => self,
             Instruction::Silence => self,
         }
     }

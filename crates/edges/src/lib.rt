@@ -38,7 +38,7 @@ pub struct Frame {
     // the instruction byte, and whether a cycle ran at the eighth edge
     pub code: u8,
     pub ran: u8,
-    // the WRSR data byte
+    // the WRSR data byte, or the lock's
     pub value: u8,
     // the output byte and its bits shown, 0 to 8
     pub out: u8,

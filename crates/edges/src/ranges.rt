@@ -13,6 +13,7 @@ use crate::SIZE;
 use crate::falling::outputs;
 use codes::Instruction;
 use codes::MOST;
+use codes::picks_lock;
 
 // 2 to the number of bits taken, for one byte.
 fn two_to(bits: u8) -> u32
@@ -72,12 +73,14 @@ fn address_fits(part: u8, i: Instruction, taken: u8, address: u32) -> bool
         Instruction::Wrsr => address == 0,
         Instruction::Read => taken_so_far(taken, address),
         Instruction::Write => taken_so_far(taken, address),
+        Instruction::Rdid => taken_so_far(taken, address),
+        Instruction::Wrid => taken_so_far(taken, address),
         Instruction::Silence => address == 0,
     }
 }
 
-fn valued(i: Instruction, taken: u8) -> bool
-    ensures { λ r. ⌜ r ≡ valued i taken ⌝ }
+fn valued(part: u8, i: Instruction, address: u32, taken: u8) -> bool
+    ensures { λ r. ⌜ r ≡ valued (partOf part) i address taken ⌝ }
 {
     match i {
         Instruction::Wren => false,
@@ -86,12 +89,14 @@ fn valued(i: Instruction, taken: u8) -> bool
         Instruction::Wrsr => 2 <= taken,
         Instruction::Read => false,
         Instruction::Write => false,
+        Instruction::Rdid => false,
+        Instruction::Wrid => picks_lock(address) & (HEAD < taken),
         Instruction::Silence => false,
     }
 }
 
-fn latches(part: u8, i: Instruction, taken: u8) -> bool
-    ensures { λ r. ⌜ r ≡ latches (partOf part) i taken ⌝ }
+fn latches(part: u8, i: Instruction, address: u32, taken: u8) -> bool
+    ensures { λ r. ⌜ r ≡ latches (partOf part) i address taken ⌝ }
 {
     match i {
         Instruction::Wren => false,
@@ -100,6 +105,8 @@ fn latches(part: u8, i: Instruction, taken: u8) -> bool
         Instruction::Wrsr => false,
         Instruction::Read => false,
         Instruction::Write => HEAD < taken,
+        Instruction::Rdid => false,
+        Instruction::Wrid => !picks_lock(address) & (HEAD < taken),
         Instruction::Silence => false,
     }
 }
@@ -134,8 +141,9 @@ impl Frame {
     {
         let latch = self.latch;
         let address = address_fits(part, i, self.taken, self.address);
-        let value = valued(i, self.taken) | (self.value == 0);
-        address & value & self.out_fits(part, i) & latch.fits(latches(part, i, self.taken))
+        let value = valued(part, i, self.address, self.taken) | (self.value == 0);
+        let marks = latches(part, i, self.address, self.taken);
+        address & value & self.out_fits(part, i) & latch.fits(marks)
     }
 
     // Is it inside its ranges, for every frame in hand.

@@ -1,15 +1,17 @@
 // A counted rising edge takes the bit on D, high bit first.
 ghost use mathlib.Core.Path.{_≡_};
-ghost use Prim.Native.Nat.{_+_, _*_, _-_, _/_, _%_, _^_, _<_};
+ghost use Prim.Native.Nat.{_+_, _*_, _-_, _%_, _^_, _<_};
 ghost use Rattle.codes.specs.Part.{m95512, partOf};
-ghost use Rattle.latch.specs.Latches.{nextCell};
-ghost use Rattle.codes.specs.declared.Instruction.the-variants.{Wrsr, Read, Write};
-ghost use Rattle.edges.specs.Rising.{shiftedIn, addressByte, latchByte, taking, wholeByte};
+ghost use Rattle.latch.specs.Latches.{nextInPage};
+ghost use Rattle.codes.specs.declared.Instruction.the-variants.{Wrsr, Read, Write, Wrid};
+ghost use Rattle.edges.specs.Rising.{shiftedIn, addressByte, latchByte, identificationData, taking, wholeByte};
 use crate::ADDRESS_BYTES;
 use crate::Frame;
+use crate::HEAD;
 use crate::PAGE;
 use crate::SIZE;
 use codes::Instruction;
+use codes::picks_lock;
 
 // A byte with one more bit at its low end.
 pub fn shifted_in(partial: u8, d: u8) -> u8
@@ -38,7 +40,7 @@ pub fn address_with(address: u32, before: u8, byte: u8) -> u32
 
 // The next cell of the page that an address is in.
 pub fn next_address(address: u32) -> u32
-    ensures { λ r. ⌜ r ≡ address / m95512 .page * m95512 .page + nextCell m95512 address ⌝ }
+    ensures { λ r. ⌜ r ≡ nextInPage m95512 address ⌝ }
 {
     address / PAGE * PAGE + latch::next_cell(address as usize) as u32
 }
@@ -69,6 +71,29 @@ impl Frame {
         self.latch_byte(byte)
     }
 
+    // A data byte of 82h: the lock's, of which the first stays, or one of the identification page.
+    fn identification_data(self, before: u8, byte: u8) -> Frame
+        ensures { λ r. ⌜ r ≡ identificationData m95512 before byte self ⌝ }
+    {
+        if picks_lock(self.address) {
+            if before == HEAD {
+                return self.with_value(byte);
+            }
+            return self;
+        }
+        self.latch_byte(byte)
+    }
+
+    fn identification_byte(self, part: u8, before: u8, byte: u8) -> Frame
+        ensures { λ r. ⌜ r ≡ taking (partOf part) Wrid before byte self ⌝ }
+    {
+        if before <= ADDRESS_BYTES {
+            return self.address_byte(before, byte);
+        }
+        self.identification_data(before, byte)
+    }
+
+    // READ and 83h take their address alone.
     fn read_byte(self, part: u8, before: u8, byte: u8) -> Frame
         ensures { λ r. ⌜ r ≡ taking (partOf part) Read before byte self ⌝ }
     {
@@ -98,6 +123,8 @@ impl Frame {
             Instruction::Wrsr => self.status_byte(part, before, byte),
             Instruction::Read => self.read_byte(part, before, byte),
             Instruction::Write => self.write_byte(part, before, byte),
+            Instruction::Rdid => self.read_byte(part, before, byte),
+            Instruction::Wrid => self.identification_byte(part, before, byte),
             Instruction::Silence => self,
         }
     }

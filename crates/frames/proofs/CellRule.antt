@@ -1,61 +1,47 @@
 -- Demand 2's cell rule, over any list of frames and clock readings: a frame changes no cell, and a cell changes only if it waits at the start or
--- an executed WRITE of the list addresses it.
-use mathlib.Core.Path.{_≡_, refl, _∙_}
+-- an executed frame of the list addresses it. It is said of any lent cells k: the memory's, or the identification page's.
+use mathlib.Core.Path.{_≡_, refl, ap, _∙_}
 use mathlib.Core.Bool.{Bool, false, _&&_}
 use mathlib.Core.List.{List, [], _∷_}
-use Prim.Native.Nat.{ℕ, _*_, _-_, _/_, _<_}
+use Prim.Native.Nat.{ℕ, _<_}
 use lib.ListN.{length, getD}
 use Rattle.laws.specs.Pick.{pick-case, at-no, and-no-right}
-use Rattle.laws.specs.And.{or-none-out}
+use Rattle.laws.specs.And.{and-other, or-none-out}
 use Rattle.codes.specs.Part.{Part}
-use Rattle.latch.specs.Latches.{inPage, marked}
 use Rattle.chip.specs.Records.{running, waitsPage}
 use Rattle.codes.specs.Verdicts.{isExecuted}
-use Rattle.chip.specs.Effects.{effect}
-use Rattle.chip.specs.Time.{ends, timed}
-use Rattle.chip.specs.Cells.{awaited}
-use Rattle.codes.specs.Instructions.{isWrite}
-use Rattle.latch.specs.declared.Latch.{Latch}
+use Rattle.chip.specs.Time.{ends, timedCells}
+use Rattle.chip.specs.Cells.{Cells, memoryCells, identificationCells, cellCount, theirs, writesTo, latchedIn, awaitedIn}
 use Rattle.chip.specs.declared.Core.{Core}
-use Rattle.codes.specs.declared.Instruction.{Instruction}
-use Rattle.codes.specs.declared.Instruction.the-variants.{Wren, Wrdi, Rdsr, Wrsr, Read, Write, Silence}
 use Rattle.chip.proofs.Within.{Within}
-use Rattle.chip.proofs.Passing.{timed-within, timed-length, cell-rule}
+use Rattle.chip.proofs.Passing.{timed-within, timed-length, lent-rule}
+use Rattle.chip.proofs.Awaiting.{effect-awaits, timed-awaits}
 use Rattle.fields.specs.Bytes.{instruction, address, written}
 use Rattle.frames.specs.After.{judged, after}
-use Rattle.frames.specs.Play.{Act, frame, reading, FrameBench, acted, actedAll, addresses, addressed}
+use Rattle.frames.specs.Play.{Act, frame, reading, FrameBench, acted, actedAll, lentCells, addresses, addressed}
 use Rattle.codes.proofs.Sound.{Sound}
 use Rattle.frames.proofs.Kept.{after-within}
 
--- ---- which cells wait after an act
+-- ---- which cells wait after a frame
 
-module _ (P : Part) (i : ℕ) where
-  -- an executed instruction: those that waited, those that its WRITE latched, or none
-  effect-awaits : (v p : ℕ) (l : Latch) (c : Core) (k : Instruction) → awaited P c i ≡ false
-      → (isWrite k && inPage P p i && marked l (i - p * P .page)) ≡ false → awaited P (effect P k v p l c) i ≡ false
-  effect-awaits v p l c Wren e f = e
-  effect-awaits v p l c Wrdi e f = e
-  effect-awaits v p l c Rdsr e f = e
-  effect-awaits v p l c Wrsr e f = refl
-  effect-awaits v p l c Read e f = e
-  effect-awaits v p l c Write e f = f
-  effect-awaits v p l c Silence e f = e
-
-  frame-awaits : (w : Bool) (s : List ℕ) (n : ℕ) (c : Core) → awaited P c i ≡ false → addresses P (frame w s n) c i ≡ false
-      → awaited P (after P (running c) w c s n) i ≡ false
-  frame-awaits w s n c e f =
-      pick-case (λ x. awaited P x i ≡ false) (isExecuted (judged P (running c) w c s n))
-      (λ x. effect-awaits (getD s 1 0) (address P s / P .page) (written P s) c (instruction P s) e (rw x at f))
-      (λ x. e)
-
-  time-awaits : (t : ℕ) (c : Core) → awaited P c i ≡ false → awaited P (timed P t c) i ≡ false
-  unfolding timed
-  time-awaits t c e = pick-case (λ x. awaited P x i ≡ false) (ends t c) (λ x. refl) (λ x. e)
+frame-awaits : (k : Cells) (P : Part) (i : ℕ) (w : Bool) (s : List ℕ) (n : ℕ) (c : Core) → awaitedIn k P c i ≡ false
+    → addresses k P (frame w s n) c i ≡ false → awaitedIn k P (after P (running c) w c s n) i ≡ false
+frame-awaits k P i w s n c e f =
+    pick-case (λ x. awaitedIn k P x i ≡ false) (isExecuted (judged P (running c) w c s n))
+    (λ x. effect-awaits k P (instruction P s) (address P s) (getD s 1 0) (written P s) c i
+    (and-other (isExecuted (judged P (running c) w c s n))
+    (writesTo k (instruction P s) (address P s) && latchedIn k P (address P s) (written P s) i) f x) e)
+    (λ x. e)
 
 -- ---- the rule
 
-pub no-cell : (P : Part) (w : Bool) (s : List ℕ) (n : ℕ) (d : FrameBench) → acted P (frame w s n) d .memory ≡ d .memory
-no-cell P w s n d = refl
+pub no-cell : (k : Cells) (P : Part) (w : Bool) (s : List ℕ) (n : ℕ) (d : FrameBench) → lentCells k (acted P (frame w s n) d) ≡ lentCells k d
+no-cell memoryCells P w s n d = refl
+no-cell identificationCells P w s n d = refl
+
+read-cells : (k : Cells) (P : Part) (t : ℕ) (d : FrameBench) → lentCells k (acted P (reading t) d) ≡ timedCells (theirs k) P t (d .core) (lentCells k d)
+read-cells memoryCells P t d = refl
+read-cells identificationCells P t d = refl
 
 -- the memory keeps its size, and the record its ranges, whatever is played
 pub acted-all-length : (P : Part) (acts : List Act) (d : FrameBench) → length (actedAll P acts d .memory) ≡ length (d .memory)
@@ -69,18 +55,20 @@ acted-all-within P h (frame w s n ∷ acts) d k =
     acted-all-within P h acts (acted P (frame w s n) d) (after-within P h w (d .core) s n (running (d .core)) (λ r. r) k)
 acted-all-within P h (reading t ∷ acts) d k = acted-all-within P h acts (acted P (reading t) d) (timed-within P t (d .core) k)
 
-module _ (P : Part) (h : Sound P) (i : ℕ) (below : i < P .size) where
-  pub acted-all-cell : (acts : List Act) (d : FrameBench) → length (d .memory) ≡ P .size → Within P (d .core) → awaited P (d .core) i ≡ false
-      → addressed P acts d i ≡ false → getD (actedAll P acts d .memory) i 0 ≡ getD (d .memory) i 0
-  acted-all-cell [] d size k e f = refl
-  acted-all-cell (frame w s n ∷ acts) d size k e f =
+module _ (k : Cells) (P : Part) (h : Sound P) (i : ℕ) (below : i < cellCount k P) where
+  pub acted-all-cell : (acts : List Act) (d : FrameBench) → length (lentCells k d) ≡ cellCount k P → Within P (d .core)
+      → awaitedIn k P (d .core) i ≡ false → addressed k P acts d i ≡ false → getD (lentCells k (actedAll P acts d)) i 0 ≡ getD (lentCells k d) i 0
+  acted-all-cell [] d size r e f = refl
+  acted-all-cell (frame w s n ∷ acts) d size r e f =
       let next = acted P (frame w s n) d in
-      let two = or-none-out (addresses P (frame w s n) (d .core) i) (addressed P acts next i) f in
-      acted-all-cell acts next size (after-within P h w (d .core) s n (running (d .core)) (λ r. r) k)
-      (frame-awaits P i w s n (d .core) e (two .0))
-      (two .1)
-  acted-all-cell (reading t ∷ acts) d size k e f =
-      let next = acted P (reading t) d in
-      acted-all-cell acts next (timed-length waitsPage P t (d .core) (d .memory) ∙ size) (timed-within P t (d .core) k) (time-awaits P i t (d .core) e) f
-      ∙ cell-rule P t (d .core) (d .memory) size k i below
-      ∙ at-no _ _ (and-no-right (ends t (d .core)) (awaited P (d .core) i) e)
+      let two = or-none-out (addresses k P (frame w s n) (d .core) i) (addressed k P acts next i) f in
+      acted-all-cell acts next (ap length (no-cell k P w s n d) ∙ size) (after-within P h w (d .core) s n (running (d .core)) (λ q. q) r)
+      (frame-awaits k P i w s n (d .core) e (two .0)) (two .1)
+      ∙ ap (λ (m : List ℕ). getD m i 0) (no-cell k P w s n d)
+  acted-all-cell (reading t ∷ acts) d size r e f =
+      let m = lentCells k d in
+      acted-all-cell acts (acted P (reading t) d) (ap length (read-cells k P t d) ∙ timed-length (theirs k) P t (d .core) m ∙ size)
+      (timed-within P t (d .core) r) (timed-awaits k P t (d .core) i e) f
+      ∙ ap (λ (x : List ℕ). getD x i 0) (read-cells k P t d)
+      ∙ lent-rule P t (d .core) r k m size i below
+      ∙ at-no _ _ (and-no-right (ends t (d .core)) (awaitedIn k P (d .core) i) e)

@@ -10,12 +10,13 @@ use Rattle.codes.specs.Part.{Part, pages, words}
 use Rattle.codes.specs.Status.{on}
 use Rattle.latch.specs.Latches.{zeros, noLatch, latched, latchFits}
 use Rattle.chip.specs.Records.{running}
-use Rattle.chip.specs.Questions.{protects}
+use Rattle.chip.specs.Questions.{barred}
 use Rattle.codes.specs.Verdicts.{isExecuted}
 use Rattle.codes.specs.Refusals.{isDone}
 use Rattle.latch.specs.declared.Latch.{Latch}
 use Rattle.chip.specs.declared.Core.{Core}
 use Rattle.chip.proofs.Within.{Within}
+use Rattle.codes.proofs.Judged.{wrid-identified}
 use Rattle.codes.proofs.Sound.{Sound}
 use Rattle.codes.proofs.Starts.{page-of-memory}
 use Rattle.latch.proofs.Fitting.{none-latched, cell-word, one-latched}
@@ -51,8 +52,9 @@ module _ (P : Part) (sound : Sound P) (w : Bool) (c : Core) (s : List ℕ) (n : 
   pub after-within : (ran : Bool) → (running c ≡ true → ran ≡ true) → Within P c → Within P (after P ran w c s n)
   after-within ran h k =
       pick-case (Within P) (isExecuted (judged P ran w c s n))
-      (λ e. executed-within P (instruction P s) n ran (on (c .srwd) && not w) (protects P c (address P s)) false
-      (getD s 1 0) (address P s / P .page) (written P s) c e h (page-below P s sound) (written-fits P s sound) k)
+      (λ e. executed-within P (instruction P s) (address P s) (getD s 1 0) (getD s (P .addressBytes + 1) 0) n ran (on (c .srwd) && not w)
+      (barred P c (instruction P s) (address P s)) false (written P s) c (wrid-identified P (getD s 0 0)) e h (page-below P s sound)
+      (written-fits P s sound) k)
       (λ e. k)
 
   -- the public call: what it hands back of a record inside the ranges

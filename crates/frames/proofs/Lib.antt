@@ -2,8 +2,10 @@
 pub mod Outcomes
 pub mod Polls
 pub mod Ones
+pub mod Effects
 pub mod Kept
 pub mod Ignored
 pub mod Unused
 pub mod CellRule
+pub mod Locks
 pub mod PartKept

@@ -11,8 +11,8 @@ use Rattle.laws.specs.Pick.{pick, at-yes, pick-ap, pick-cong, yes-so, eq-so, le
 use Rattle.codes.specs.Part.{Part}
 use Rattle.chip.specs.Ranges.{inRanges}
 use Rattle.chip.specs.Time.{lentFits}
-use Rattle.chip.proofs.Readings.{lent-memory}
-use Rattle.chip.specs.Records.{running, status}
+use Rattle.chip.proofs.Readings.{lent-memory, lent-identification}
+use Rattle.chip.specs.Records.{running, status, lockByte}
 use Rattle.codes.specs.Refusals.{refusalNumber, number}
 use Rattle.chip.specs.declared.Core.{Core}
 use Rattle.codes.specs.declared.Refusal.{Refusal}
@@ -21,7 +21,7 @@ use Rattle.codes.specs.declared.Outcome.{Outcome}
 use Rattle.codes.specs.declared.Outcome.the-variants.{Done, Refused}
 use Rattle.fields.specs.Bytes.{instruction}
 use Rattle.fields.specs.Counts.{bitsFit, longestFrame}
-use Rattle.shown.specs.Shown.{output, undriven}
+use Rattle.shown.specs.Shown.{sights, output, undriven}
 use Rattle.shown.specs.Lengths.{shownIn}
 use Rattle.shown.proofs.Lengths.{lengths-in}
 use Rattle.frames.specs.Answers.{frameOutcome, framed, framedOutput, frameNumber, frameUndriven}
@@ -80,9 +80,10 @@ module _ (P : Part) (c : Core) (size cells len n room : ℕ) where
 module _ (P : Part) (c : Core) (m i : List ℕ) (w : Bool) (s : List ℕ) (n : ℕ) (out : List ℕ) where
   -- the lengths of one that is taken go together, so it is shown
   taken-shown : Taken P c (length m) (length i) (length s) n (length out)
-      → shownIn P (running c) (status c) m s n out ≡ output P (running c) (λ j. status c) m s n
+      → shownIn P (running c) (sights (status c) (lockByte c) m i) s n out ≡ output P (running c) (sights (status c) (lockByte c) m i) s n
   taken-shown t =
-      at-yes _ _ (lengths-in P (length m) (length s) n (length out) (lent-memory P (length m) (length i) (t .whole)) (t .short) (t .counted) (t .roomy))
+      at-yes _ _ (lengths-in P (length m) (length i) (length s) n (length out) (lent-memory P (length m) (length i) (t .whole))
+      (lent-identification P (length m) (length i) (t .whole)) (t .short) (t .counted) (t .roomy))
 
   abbrev pub HandsBack : Framed → ℕ → ℕ → List ℕ → Type 0
   HandsBack r k u o =
@@ -92,7 +93,7 @@ module _ (P : Part) (c : Core) (m i : List ℕ) (w : Bool) (s : List ℕ) (n : �
 
   pub shown-frame : {o : Outcome} → o ≡ frameOutcome P c (length m) (length i) (length s) n (length out) → o ≡ Done
       → HandsBack (record { answer = reply.Shown (undriven P (instruction P s) (running c) n); core = after P (running c) w c s n }) 0
-      (undriven P (instruction P s) (running c) n) (shownIn P (running c) (status c) m s n out)
+      (undriven P (instruction P s) (running c) n) (shownIn P (running c) (sights (status c) (lockByte c) m i) s n out)
   unfolding framed framedOutput pick
   shown-frame found done =
       let e = sym found ∙ done in

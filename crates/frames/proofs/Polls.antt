@@ -13,12 +13,12 @@ use Rattle.codes.specs.Verdicts.{isExecuted}
 use Rattle.codes.specs.declared.Refusal.{Refusal}
 use Rattle.codes.specs.declared.Outcome.{Outcome}
 use Rattle.codes.specs.declared.Outcome.the-variants.{Done, Refused}
-use Rattle.chip.specs.Records.{running, status}
+use Rattle.chip.specs.Records.{running, status, lockByte}
 use Rattle.chip.specs.Ranges.{inRanges}
 use Rattle.chip.specs.Time.{lentFits}
 use Rattle.chip.specs.declared.Core.{Core}
 use Rattle.fields.specs.Counts.{bitsFit, longestFrame}
-use Rattle.shown.specs.Shown.{padded, output}
+use Rattle.shown.specs.Shown.{sights, padded, output}
 use Rattle.frames.specs.After.{judged, after}
 use Rattle.frames.specs.Answers.{frameOutcome, framed, framedOutput}
 use Rattle.frames.specs.Polls.{pollBytes, polled}
@@ -34,9 +34,9 @@ poll-leaves P c = pick-same (isExecuted (judged P (running c) true c pollBytes 1
 unpadded : (v : ℕ) → padded 0 v ≡ v
 unpadded v = omega arith
 
-poll-shows : (P : Part) (c : Core) (m : List ℕ) → getD (output P (running c) (λ j. status c) m pollBytes 16) 1 0 ≡ status c
+poll-shows : (P : Part) (c : Core) (m i : List ℕ) → getD (output P (running c) (sights (status c) (lockByte c) m i) pollBytes 16) 1 0 ≡ status c
 unfolding decode output table from pick
-poll-shows P c m = unpadded (status c)
+poll-shows P c m i = unpadded (status c)
 
 two-bytes : bitsFit 2 16 ≡ true
 unfolding pick
@@ -48,7 +48,7 @@ module _ (P : Part) (c : Core) (m i : List ℕ) where
   unfolding polled framed framedOutput decode pick
   shown-poll found done =
       let e = sym found ∙ done in
-      rw e (ap (λ (v : ℕ). record { answer = reply.Shown 8; status = v }) (poll-shows P c m))
+      rw e (ap (λ (v : ℕ). record { answer = reply.Shown 8; status = v }) (poll-shows P c m i))
 
   pub refused-poll : (r : Refusal) {o : Outcome} → o ≡ frameOutcome P c (length m) (length i) 2 16 2 → o ≡ Refused r
       → polled P c m i ≡ record { answer = reply.Refused r; status = 0 }

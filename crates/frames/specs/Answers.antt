@@ -6,7 +6,7 @@ use lib.ListN.{length}
 use lib.Dec.{eqb, leb}
 use Rattle.laws.specs.Pick.{pick}
 use Rattle.codes.specs.Part.{Part}
-use Rattle.chip.specs.Records.{running, status}
+use Rattle.chip.specs.Records.{running, status, lockByte}
 use Rattle.chip.specs.Ranges.{inRanges}
 use Rattle.chip.specs.Time.{lentFits}
 use Rattle.codes.specs.Refusals.{refusalNumber, isDone}
@@ -16,7 +16,7 @@ use Rattle.codes.specs.declared.Outcome.{Outcome}
 use Rattle.codes.specs.declared.Outcome.the-variants.{Done, Refused}
 use Rattle.fields.specs.Bytes.{instruction}
 use Rattle.fields.specs.Counts.{bitsFit, longestFrame}
-use Rattle.shown.specs.Shown.{output, undriven}
+use Rattle.shown.specs.Shown.{sights, output, undriven}
 use Rattle.frames.specs.declared.FrameReply.{FrameReply}
 use Rattle.frames.specs.declared.FrameReply.the-variants as reply
 use Rattle.frames.specs.declared.Framed.{Framed}
@@ -64,7 +64,7 @@ framed P c m d w s n room =
 unfoldable pub framedOutput : Part → Core → List ℕ → List ℕ → List ℕ → ℕ → List ℕ → List ℕ
 framedOutput P c m d s n out =
     pick (isDone (frameOutcome P c (length m) (length d) (length s) n (length out)))
-    (output P (running c) (λ j. status c) m s n) out
+    (output P (running c) (sights (status c) (lockByte c) m d) s n) out
 
 -- the number of the answer, and its undriven count
 abbrev pub frameNumber : Part → Core → ℕ → ℕ → ℕ → ℕ → ℕ → ℕ

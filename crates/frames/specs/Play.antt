@@ -1,13 +1,13 @@
 -- Any list of frames and clock readings, acted over a record, a memory and an identification page; and which cells its
--- executed WRITEs address.
-use Prim.Native.Nat.{ℕ, _*_, _-_, _/_}
+-- executed frames address.
+use Prim.Native.Nat.{ℕ}
 use mathlib.Core.Bool.{Bool, false, _&&_, _||_}
 use mathlib.Core.List.{List, [], _∷_}
 use Rattle.codes.specs.Part.{Part}
-use Rattle.latch.specs.Latches.{inPage, marked}
 use Rattle.chip.specs.Records.{running}
 use Rattle.codes.specs.Verdicts.{isExecuted}
-use Rattle.codes.specs.Instructions.{isWrite}
+use Rattle.codes.specs.Instructions.{isWrid, picksLock}
+use Rattle.chip.specs.Cells.{Cells, memoryCells, identificationCells, writesTo, latchedIn}
 use Rattle.chip.specs.Time.{timed, timedMemory, timedIdentification}
 use Rattle.chip.specs.declared.Core.{Core}
 use Rattle.fields.specs.Bytes.{instruction, address, written}
@@ -38,17 +38,29 @@ abbrev pub actedAll : Part → List Act → FrameBench → FrameBench
 actedAll P [] d = d
 actedAll P (a ∷ acts) d = actedAll P acts (acted P a d)
 
--- ---- the cells that executed WRITE frames address
+-- ---- the cells that executed frames address, of the memory or of the identification page
 
--- an executed WRITE whose page has cell i, with a data byte for it
-abbrev pub addresses : Part → Act → Core → ℕ → Bool
-addresses P (frame w s n) c i =
+abbrev pub lentCells : Cells → FrameBench → List ℕ
+lentCells memoryCells d = d .memory
+lentCells identificationCells d = d .identification
+
+-- an executed frame that writes the cells k, whose page has cell i, with a data byte for it
+abbrev pub addresses : Cells → Part → Act → Core → ℕ → Bool
+addresses k P (frame w s n) c i =
     isExecuted (judged P (running c) w c s n)
-    && isWrite (instruction P s)
-    && inPage P (address P s / P .page) i
-    && marked (written P s) (i - address P s / P .page * P .page)
-addresses P (reading t) c i = false
+    && (writesTo k (instruction P s) (address P s) && latchedIn k P (address P s) (written P s) i)
+addresses k P (reading t) c i = false
 
-abbrev pub addressed : Part → List Act → FrameBench → ℕ → Bool
-addressed P [] d i = false
-addressed P (a ∷ acts) d i = addresses P a (d .core) i || addressed P acts (acted P a d) i
+abbrev pub addressed : Cells → Part → List Act → FrameBench → ℕ → Bool
+addressed k P [] d i = false
+addressed k P (a ∷ acts) d i = addresses k P a (d .core) i || addressed k P acts (acted P a d) i
+
+-- an executed frame that sets the lock
+abbrev pub setsIt : Part → Act → Core → Bool
+setsIt P (frame w s n) c =
+    isExecuted (judged P (running c) w c s n) && (isWrid (instruction P s) && picksLock (address P s))
+setsIt P (reading t) c = false
+
+abbrev pub setsAny : Part → List Act → FrameBench → Bool
+setsAny P [] d = false
+setsAny P (a ∷ acts) d = setsIt P a (d .core) || setsAny P acts (acted P a d)

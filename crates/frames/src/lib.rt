@@ -72,7 +72,17 @@ pub fn frame(
         Outcome::Done => {
             let ran = core.running();
             let i = fields::instruction_of(core.part, bytes);
-            shown::show(core.part, ran, core.status(), memory, bytes, bits, out);
+            shown::show(
+                core.part,
+                ran,
+                core.status(),
+                core.lock_byte(),
+                memory,
+                identification,
+                bytes,
+                bits,
+                out,
+            );
             Framed {
                 answer: FrameReply::Shown(shown::undriven(core.part, i, ran, bits)),
                 core: executed::after(core, w, bytes, bits),

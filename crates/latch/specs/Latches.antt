@@ -1,6 +1,6 @@
 -- A page write: latched bytes, and a mark on each addressed one, a bit for each cell; what it lays over a page, its
 -- ranges, the cells that it touches, and storing it.
-use Prim.Native.Nat.{ℕ, _+_, _*_, _-_, _%_}
+use Prim.Native.Nat.{ℕ, _+_, _*_, _-_, _/_, _%_}
 use mathlib.Core.Bool.{Bool, _&&_}
 use mathlib.Core.List.{List}
 use lib.ListN.{length, getD, set, replicate}
@@ -36,6 +36,10 @@ latched i v l = record { bytes = set (l .bytes) i v; marks = markSet i (l .marks
 -- the cell of its page that comes after address i: from the last one back to the first
 abbrev pub nextCell : Part → ℕ → ℕ
 nextCell P i = (i % P .page + 1) % P .page
+
+-- the address of that cell: all but the offset in the page stays
+abbrev pub nextInPage : Part → ℕ → ℕ
+nextInPage P a = a / P .page * P .page + nextCell P a
 
 -- the page with the write laid over it
 unfoldable pub laid : Part → Latch → List ℕ → List ℕ

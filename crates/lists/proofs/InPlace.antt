@@ -2,7 +2,7 @@
 use mathlib.Core.Path.{_≡_, refl, ap, sym, _∙_}
 use mathlib.Core.List.{List}
 use mathlib.Core.Bool.{Bool, true, false, not, _&&_}
-use Prim.Native.Nat.{ℕ, _+_, _/_, _%_, _<_, _≤_}
+use Prim.Native.Nat.{ℕ, _+_, _%_, _<_, _≤_}
 use lib.Dec.{leb, ltb}
 use lib.ListN.{getD}
 use Rattle.laws.specs.Pick.{pick, pick-ap, pick-same, at-no, yes-so, no-so, ne-so, lt-so, ge-so, and-no-right}
@@ -98,7 +98,7 @@ module _ (P : Part) (x : Device) (moves : x .pins .s ≡ 1 → ⊥) where
 
   -- what the instruction i does, if it is executed
   abbrev does : Instruction → Core
-  does i = effect P i (x .frame .value) (x .frame .address / P .page) (x .frame .latch) (x .core)
+  does i = effect P i (x .frame .address) (x .frame .value) (x .frame .latch) (x .core)
 
   -- an instruction that leaves the core alone, executed or not
   pub dropped : (i : Instruction) → decode P (x .frame .code) ≡ i → does i ≡ x .core

@@ -16,7 +16,7 @@ ghost use Rattle.chip.specs.Lents.{Lent, lent};
 ghost use Rattle.chip.specs.Records.{ownPart, running};
 ghost use Rattle.chip.specs.Time.{timedCells};
 ghost use Rattle.edges.specs.Frames.{withByte, withValue};
-ghost use Rattle.edges.specs.Rising.{addressByte, latchByte, taking, wholeByte};
+ghost use Rattle.edges.specs.Rising.{addressByte, identificationData, latchByte, taking, wholeByte};
 ghost use Rattle.pins.specs.declared.Event.the-variants.{S, C, Hold, Time};
 ghost use Rattle.pins.specs.Events.{onS, onC, onHold, onTime, stepped, steppedCells};
 ghost use Rattle.lists.specs.declared.Front.{Front};
@@ -27,6 +27,7 @@ use chip::Core;
 use chip::elapsed;
 use chip::left_after;
 use codes::Instruction;
+use codes::picks_lock;
 use edges::address_with;
 use edges::bit;
 use edges::cell;
@@ -39,6 +40,8 @@ use pins::Event;
 
 // The count of whole bytes is u8.
 const ADDRESS_BYTES: u8 = codes::ADDRESS_BYTES as u8;
+
+const HEAD: u8 = codes::HEAD as u8;
 
 // ---- C rises
 
@@ -96,6 +99,21 @@ impl Front {
         }
     }
 
+    // A data byte of 82h: the lock's, of which the first stays, or one of the identification page.
+    fn identification_data(self, part: u8, byte: u8) -> Way
+        ensures { λ r. ⌜ ((m : Lent) (l : Latch) (k : Core) → afterWay (partOf part) m (C true) r (whole self l k)
+            ≡ risenTo (identificationData (partOf part) (self .taken) byte
+            (withByte (partOf part) (whole self l k .frame))) (whole self l k)) ⌝ }
+    {
+        if picks_lock(self.address) {
+            if self.taken == HEAD {
+                return self.status_byte(part, byte);
+            }
+            return self.unkept(part);
+        }
+        self.latch_byte(part, byte)
+    }
+
     // What a whole byte is for, by the instruction and by the whole bytes before it.
     fn taking(self, part: u8, i: Instruction, byte: u8) -> Way
         ensures { λ r. ⌜ ((m : Lent) (l : Latch) (k : Core) → afterWay (partOf part) m (C true) r (whole self l k)
@@ -121,6 +139,18 @@ impl Front {
                     return self.address_byte(part, byte);
                 }
                 self.latch_byte(part, byte)
+            }
+            Instruction::Rdid => {
+                if before <= ADDRESS_BYTES {
+                    return self.address_byte(part, byte);
+                }
+                self.unkept(part)
+            }
+            Instruction::Wrid => {
+                if before <= ADDRESS_BYTES {
+                    return self.address_byte(part, byte);
+                }
+                self.identification_data(part, byte)
             }
             Instruction::Wren => self.unkept(part),
             Instruction::Wrdi => self.unkept(part),
@@ -265,13 +295,15 @@ impl Front {
 impl Front {
     // WEL after a WREN or a WRDI, which WEL, W and protection do not stop.
     fn wel_after(self, part: u8, i: Instruction, wel: u8, old: u8) -> u8
-        ensures { λ r. ⌜ r ≡ pick (isExecuted (verdict (partOf part) i (8 * self .taken + self .bits) (on (self .ran))
-            true false false (on (self .held)))) wel old ⌝ }
+        ensures { λ r. ⌜ r ≡ pick (isExecuted (verdict (partOf part) i (self .address) (self .value)
+            (8 * self .taken + self .bits) (on (self .ran)) true false false (on (self .held)))) wel old ⌝ }
     {
         let bits = 8 * self.taken as usize + self.bits as usize;
         let verdict = codes::judge(
             part,
             i,
+            self.address,
+            self.value,
             bits,
             self.ran == 1,
             true,
@@ -282,7 +314,7 @@ impl Front {
         if verdict.is_executed() { wel } else { old }
     }
 
-    // S rises: a WRSR or a WRITE may begin a cycle, any other frame moves WEL at most.
+    // S rises: a WRSR, a WRITE or 82h may begin a cycle, any other frame moves WEL at most.
     fn deselecting(self, core: Core) -> Way
         requires { ⌜ (self .s ≡ 1 → ⊥) ⌝ }
         ensures { λ r. ⌜ ((m : Lent) (l : Latch) → afterWay (ownPart core) m (S true) r (whole self l core)
@@ -302,6 +334,8 @@ impl Front {
             Instruction::Wrsr => Way::Whole,
             Instruction::Read => Way::Drop { wel: core.wel },
             Instruction::Write => Way::Whole,
+            Instruction::Rdid => Way::Drop { wel: core.wel },
+            Instruction::Wrid => Way::Whole,
             Instruction::Silence => Way::Drop { wel: core.wel },
         }
     }

@@ -10,7 +10,7 @@ use Rattle.codes.specs.Status.{bit, on}
 use Rattle.chip.specs.Lents.{Lent}
 use Rattle.chip.specs.Records.{running, waitsPage, waitsIdentification}
 use Rattle.codes.specs.Instructions.{decode}
-use Rattle.chip.specs.Questions.{protects}
+use Rattle.chip.specs.Questions.{barred}
 use Rattle.codes.specs.Verdicts.{verdict, isExecuted}
 use Rattle.chip.specs.Effects.{effect}
 use Rattle.chip.specs.Time.{timed, timedCells}
@@ -38,13 +38,14 @@ selecting P x =
 -- and held as they are now
 abbrev pub judgedNow : Part → Device → Verdict
 judgedNow P x =
-    verdict P (decode P (x .frame .code)) (8 * x .frame .taken + x .frame .bits) (on (x .frame .ran))
-    (on (x .core .wel))
-    (on (x .core .srwd) && not (on (x .pins .w))) (protects P (x .core) (x .frame .address)) (on (x .held))
+    verdict P (decode P (x .frame .code)) (x .frame .address) (x .frame .value)
+    (8 * x .frame .taken + x .frame .bits) (on (x .frame .ran)) (on (x .core .wel))
+    (on (x .core .srwd) && not (on (x .pins .w)))
+    (barred P (x .core) (decode P (x .frame .code)) (x .frame .address)) (on (x .held))
 
 abbrev pub executedNow : Part → Device → Core
 executedNow P x =
-    effect P (decode P (x .frame .code)) (x .frame .value) (x .frame .address / P .page) (x .frame .latch) (x .core)
+    effect P (decode P (x .frame .code)) (x .frame .address) (x .frame .value) (x .frame .latch) (x .core)
 
 abbrev pub decided : Part → Device → Core
 decided P x = pick (isExecuted (judgedNow P x)) (executedNow P x) (x .core)

@@ -41,15 +41,18 @@ impl Device {
         let core = self.core;
         let bits = 8 * self.frame.taken as usize + self.frame.bits as usize;
         let locked = (core.srwd == 1) & !(self.pins.w == 1);
-        let protected = core.protects(self.frame.address);
+        let i = codes::decode(self.core.part, self.frame.code);
+        let barred = core.barred(i, self.frame.address);
         judge(
             core.part,
-            codes::decode(self.core.part, self.frame.code),
+            i,
+            self.frame.address,
+            self.frame.value,
             bits,
             self.frame.ran == 1,
             core.wel == 1,
             locked,
-            protected,
+            barred,
             self.held == 1,
         )
     }
@@ -66,6 +69,8 @@ impl Device {
             Instruction::Wrsr => core.begin_status(self.frame.value),
             Instruction::Read => core,
             Instruction::Write => core.begin_page(self.frame.address / PAGE, latch),
+            Instruction::Rdid => core,
+            Instruction::Wrid => core.begin_identification(self.frame.address, latch),
             Instruction::Silence => core,
         }
     }

@@ -11,17 +11,18 @@ use Rattle.codes.specs.Part.{Part, pages}
 use Rattle.codes.specs.Status.{on}
 use Rattle.chip.specs.Records.{running}
 use Rattle.codes.specs.Instructions.{decode, row, countFits}
-use Rattle.chip.specs.Questions.{protects}
+use Rattle.chip.specs.Questions.{barred}
 use Rattle.codes.specs.Verdicts.{isExecuted}
 use Rattle.chip.specs.Effects.{effect}
 use Rattle.latch.specs.declared.Latch.{Latch}
 use Rattle.chip.specs.declared.Core.{Core}
 use Rattle.codes.specs.declared.Instruction.{Instruction}
-use Rattle.codes.specs.declared.Instruction.the-variants.{Wren, Wrdi, Rdsr, Wrsr, Read, Write, Silence}
+use Rattle.codes.specs.declared.Instruction.the-variants.{Wren, Wrdi, Rdsr, Wrsr, Read, Write, Rdid, Wrid, Silence}
 use Rattle.chip.proofs.Within.{Within}
 use Rattle.latch.proofs.Fitting.{more-fits}
 use Rattle.chip.proofs.Executed.{executed-within}
 use Rattle.codes.proofs.Sound.{Sound}
+use Rattle.codes.proofs.Judged.{wrid-identified}
 use Rattle.codes.proofs.Starts.{page-of-memory}
 use Rattle.edges.specs.declared.Frame.{Frame}
 use Rattle.pins.specs.declared.Device.{Device}
@@ -43,43 +44,21 @@ tie-in true run ran h = refl
 tie-in false true ran h = h refl refl
 tie-in false false ran h = refl
 
--- ---- the page that an instruction addresses: WRITE alone has one
+-- ---- the address of a frame in hand is one of the memory's, or 0
 
-abbrev pageFor : Part → Instruction → ℕ → ℕ
-pageFor P Wren a = 0
-pageFor P Wrdi a = 0
-pageFor P Rdsr a = 0
-pageFor P Wrsr a = 0
-pageFor P Read a = 0
-pageFor P Write a = a / P .page
-pageFor P Silence a = 0
+none-below : (P : Part) → Sound P → (a : ℕ) → eqb a 0 ≡ true → a < P .size
+none-below P sound a e = omega (arith, eqb-true a 0 e, sound .size-some)
 
-effect-page : (P : Part) (i : Instruction) (v a : ℕ) (l : Latch) (c : Core) → effect P i v (pageFor P i a) l c ≡ effect P i v (a / P .page) l c
-effect-page P Wren v a l c = refl
-effect-page P Wrdi v a l c = refl
-effect-page P Rdsr v a l c = refl
-effect-page P Wrsr v a l c = refl
-effect-page P Read v a l c = refl
-effect-page P Write v a l c = refl
-effect-page P Silence v a l c = refl
-
-module _ (P : Part) (sound : Sound P) (f : Frame) where
-  first-page : 0 < pages P
-  first-page = let below : 0 / P .page < pages P = page-of-memory sound 0 (sound .size-some) in omega arith
-
-  -- a WRITE whose bits fit has its whole address
-  for-below : (i : Instruction) → f .bits ≤ 7 → FieldsFit P i f → countFits (row P i .count) (8 * f .taken + f .bits) ≡ true
-      → pageFor P i (f .address) < pages P
-  for-below Wren b t e = first-page
-  for-below Wrdi b t e = first-page
-  for-below Rdsr b t e = first-page
-  for-below Wrsr b t e = first-page
-  for-below Read b t e = first-page
-  for-below Write b t e =
-      let n = 8 * f .taken + f .bits in
-      let whole : 8 * (P .addressBytes + 2) ≤ n = leb-true _ _ (and-left (leb (8 * (P .addressBytes + 2)) n) (eqb (n % 8) 0) e) in
-      page-of-memory sound (f .address) (bounded-below P (f .taken) (f .address) (t .address))
-  for-below Silence b t e = first-page
+address-below : (P : Part) → Sound P → (f : Frame) (i : Instruction) → FieldsFit P i f → f .address < P .size
+address-below P sound f Wren t = none-below P sound (f .address) (t .address)
+address-below P sound f Wrdi t = none-below P sound (f .address) (t .address)
+address-below P sound f Rdsr t = none-below P sound (f .address) (t .address)
+address-below P sound f Wrsr t = none-below P sound (f .address) (t .address)
+address-below P sound f Read t = bounded-below P (f .taken) (f .address) (t .address)
+address-below P sound f Write t = bounded-below P (f .taken) (f .address) (t .address)
+address-below P sound f Rdid t = bounded-below P (f .taken) (f .address) (t .address)
+address-below P sound f Wrid t = bounded-below P (f .taken) (f .address) (t .address)
+address-below P sound f Silence t = none-below P sound (f .address) (t .address)
 
 -- ---- deselect
 
@@ -99,12 +78,10 @@ module _ (P : Part) (sound : Sound P) (x : Device) (t : Fits P x) where
   executed-fits e =
       let f = x .frame in
       let i = decode P (f .code) in
-      subst (Within P) (effect-page P i (f .value) (f .address) (f .latch) (x .core))
-      (executed-within P i (8 * f .taken + f .bits) (on (f .ran)) (on (x .core .srwd) && not (on (x .pins .w))) (protects P (x .core) (f .address))
-      (on (x .held))
-      (f .value) (pageFor P i (f .address)) (f .latch) (x .core) e (ran-then e)
-      (for-below P sound f i (t .frame .bits) (t .frame .fields) (passed-now P x e .counted))
-      (more-fits P (latches P i (f .taken)) (f .latch) (t .frame .fields .latch)) (t .core))
+      executed-within P i (f .address) (f .value) (f .value) (8 * f .taken + f .bits) (on (f .ran)) (on (x .core .srwd) && not (on (x .pins .w)))
+      (barred P (x .core) i (f .address)) (on (x .held)) (f .latch) (x .core) (wrid-identified P (f .code)) e (ran-then e)
+      (page-of-memory sound (f .address) (address-below P sound f i (t .frame .fields)))
+      (more-fits P (latches P i (f .address) (f .taken)) (f .latch) (t .frame .fields .latch)) (t .core)
 
   pub decided-within : Within P (decided P x)
   decided-within = pick-case (Within P) (isExecuted (judgedNow P x)) executed-fits (λ e. t .core)

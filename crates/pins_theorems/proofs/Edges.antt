@@ -14,12 +14,13 @@ use Rattle.laws.specs.And.{or-right}
 use Rattle.codes.specs.Part.{Part, words}
 use Rattle.codes.specs.Status.{bit, on}
 use Rattle.chip.specs.Lents.{Lent}
-use Rattle.chip.specs.Records.{status}
-use Rattle.codes.specs.Instructions.{decode}
+use Rattle.chip.specs.Records.{status, lockByte}
+use Rattle.codes.specs.Instructions.{decode, picksLock}
+use Rattle.latch.specs.Identification.{identificationByte, identificationNext}
 use Rattle.latch.specs.Latches.{latchFits, noLatch}
 use Rattle.chip.specs.declared.Core.{Core}
 use Rattle.codes.specs.declared.Instruction.{Instruction}
-use Rattle.codes.specs.declared.Instruction.the-variants.{Wren, Wrdi, Rdsr, Wrsr, Read, Write, Silence}
+use Rattle.codes.specs.declared.Instruction.the-variants.{Wren, Wrdi, Rdsr, Wrsr, Read, Write, Rdid, Wrid, Silence}
 use Rattle.latch.proofs.Fitting.{none-latched}
 use Rattle.edges.specs.declared.Frame.{Frame}
 use Rattle.edges.specs.Frames.{noFrame, withBits, withByte, withCode, withOut}
@@ -31,7 +32,7 @@ use Rattle.pins_theorems.proofs.Parts.{FieldsFit, FrameFits}
 use Rattle.laws.specs.Flags.{bit-small}
 use Rattle.codes.proofs.Sound.{Sound}
 use Rattle.pins_theorems.proofs.Untouched.{taking-same, loading-same}
-use Rattle.pins_theorems.proofs.Fields.{latch-more, address-some, whole-bounded, taking-fits}
+use Rattle.pins_theorems.proofs.Fields.{latch-more, address-some, whole-bounded, bounded-below, next-below, taking-fits}
 
 -- ---- before the first whole byte
 
@@ -72,7 +73,7 @@ none-shows false a b e = absurd (true≢false (sym (and-right b false e)))
 module _ (P : Part) (sound : Sound P) (f : Frame) (v : ℕ) (byte : v < 256) (t : FrameFits P f) where
   first-fits : (run : Bool) → f .taken ≡ 0 → FrameFits P (withCode v run (withByte P f))
   first-fits run z =
-      let most : P .addressBytes + 2 ≤ P .most = sound .counted in
+      let most : P .addressBytes + 3 ≤ P .most = sound .counted in
       let s = silent P f z t in
       let shows = none-shows (eqb (f .shown) 0) (eqb (f .out) 0) (leb (f .shown) 8) (s .out) in
       let a : f .address ≡ 0 = eqb-true _ _ (s .address) in
@@ -85,15 +86,15 @@ module _ (P : Part) (sound : Sound P) (f : Frame) (v : ℕ) (byte : v < 256) (t 
         fields =
             record {
               address = rw a (address-some P sound (decode P v) next);
-              value = or-right (valued (decode P v) next) (eqb (f .value) 0) (s .value);
+              value = or-right (valued P (decode P v) (f .address) next) (eqb (f .value) 0) (s .value);
               out = at-yes _ _ (shows .0) ∙ shows .1;
-              latch = latch-more P (f .latch) false (latches P (decode P v) next) (λ e. absurd (true≢false (sym e))) (s .latch);
+              latch = latch-more P (f .latch) false (latches P (decode P v) (f .address) next) (λ e. absurd (true≢false (sym e))) (s .latch);
             };
       }
 
   later-fits : length (f .latch .marks) ≡ words P → (f .taken ≡ 0 → ⊥) → FrameFits P (taking P (decode P (f .code)) (f .taken) v (withByte P f))
   later-fits sized z =
-      let most : P .addressBytes + 2 ≤ P .most = sound .counted in
+      let most : P .addressBytes + 3 ≤ P .most = sound .counted in
       let i = decode P (f .code) in
       let g : Frame = taking P i (f .taken) v (withByte P f) in
       let same = taking-same P (f .taken) v (withByte P f) i in
@@ -140,7 +141,7 @@ module _ (P : Part) (sound : Sound P) (run : Bool) (d : ℕ) (f : Frame) (sized 
 
 -- ---- the falling edge
 
-module _ (P : Part) (some : 0 < P .size) (m : Lent) (c : Core) (f : Frame) where
+module _ (P : Part) (sound : Sound P) (m : Lent) (c : Core) (f : Frame) where
   -- n bits of the byte v show
   out-fits : (i : Instruction) (v n : ℕ) → (n ≡ 0 → ⊥) → n ≤ 8 → outputs P i (f .taken) (on (f .ran)) ≡ true → FieldsFit P i f → FieldsFit P i (withOut v n f)
   out-fits i v n z h o t =
@@ -158,10 +159,18 @@ module _ (P : Part) (some : 0 < P .size) (m : Lent) (c : Core) (f : Frame) where
   loading-fits Wrsr o t = t
   loading-fits Read o t =
       let past : P .addressBytes + 1 ≤ f .taken = leb-true _ _ (and-left (leb (P .addressBytes + 1) (f .taken)) (not (on (f .ran))) o) in
-      let new : (f .address + 1) % P .size < P .size = mod-lt _ some in
+      let new : (f .address + 1) % P .size < P .size = mod-lt _ (sound .size-some) in
       let u = out-fits Read (getD (m .memory) (f .address) 0) 1 (λ e. omega arith) (omega arith) o t in
       record { address = whole-bounded P (f .taken) _ (omega arith) new; value = u .value; out = u .out; latch = u .latch }
   loading-fits Write o t = t
+  loading-fits Rdid o t =
+      let past : P .addressBytes + 1 ≤ f .taken = leb-true _ _ (and-left (leb (P .addressBytes + 1) (f .taken)) (not (on (f .ran))) o) in
+      let old : f .address < P .size = bounded-below P (f .taken) (f .address) (t .address) in
+      let new : identificationNext P (f .address) < P .size =
+      pick-case (λ (n : ℕ). n < P .size) (picksLock (f .address)) (λ k. old) (λ k. next-below P sound (f .address) old) in
+      let u = out-fits Rdid (identificationByte P (lockByte c) (m .identification) (f .address)) 1 (λ e. omega arith) (omega arith) o t in
+      record { address = whole-bounded P (f .taken) _ (omega arith) new; value = u .value; out = u .out; latch = u .latch }
+  loading-fits Wrid o t = t
   loading-fits Silence o t = t
 
   loaded-fits : outputs P (decode P (f .code)) (f .taken) (on (f .ran)) ≡ true → FrameFits P f → FrameFits P (loading P m c (decode P (f .code)) f)

@@ -14,13 +14,13 @@ use Rattle.codes.specs.Status.{bit, on}
 use Rattle.latch.specs.Latches.{zeros}
 use Rattle.chip.specs.Lents.{Lent}
 use Rattle.chip.specs.Records.{running}
-use Rattle.codes.specs.Instructions.{decode}
+use Rattle.codes.specs.Instructions.{decode, picksLock}
 use Rattle.chip.specs.Time.{elapsed, ends, timed}
 use Rattle.codes.specs.Refusals.{isDone}
 use Rattle.chip.specs.declared.Core.{Core}
 use Rattle.codes.specs.declared.Outcome.{Outcome}
 use Rattle.codes.specs.declared.Instruction.{Instruction}
-use Rattle.codes.specs.declared.Instruction.the-variants.{Wren, Wrdi, Rdsr, Wrsr, Read, Write, Silence}
+use Rattle.codes.specs.declared.Instruction.the-variants.{Wren, Wrdi, Rdsr, Wrsr, Read, Write, Rdid, Wrid, Silence}
 use Rattle.chip.proofs.Within.{Within}
 use Rattle.chip.proofs.Passing.{timed-within}
 use Rattle.chip.proofs.Cases.{powered-within}
@@ -229,7 +229,7 @@ module _ (P : Part) (sound : Sound P) (x : Device) (t : Fits P x) where
       (λ k. record {
         pins = p;
         held = h;
-        frame = fallen-fits P (sound .size-some) m (x .core) (x .frame) (t .frame);
+        frame = fallen-fits P sound m (x .core) (x .frame) (t .frame);
         empty = or-left (selected x) _ (and-left (selected x) (not (on (x .held))) k);
         ran = fallen-ran m;
         core = t .core;
@@ -286,6 +286,12 @@ taking-sized P n v f Wrsr = pick-case (λ (g : Frame). marks g ≡ marks f) (eqb
 taking-sized P n v f Read = pick-case (λ (g : Frame). marks g ≡ marks f) (leb n (P .addressBytes)) (λ e. refl) (λ e. refl)
 taking-sized P n v f Write =
     pick-case (λ (g : Frame). marks g ≡ marks f) (leb n (P .addressBytes)) (λ e. refl) (λ e. length-set (f .latch .marks) (f .address % P .page / 64) _)
+taking-sized P n v f Rdid = pick-case (λ (g : Frame). marks g ≡ marks f) (leb n (P .addressBytes)) (λ e. refl) (λ e. refl)
+taking-sized P n v f Wrid =
+    pick-case (λ (g : Frame). marks g ≡ marks f) (leb n (P .addressBytes)) (λ e. refl)
+    (λ e. pick-case (λ (g : Frame). marks g ≡ marks f) (picksLock (f .address))
+    (λ k. pick-case (λ (g : Frame). marks g ≡ marks f) (eqb n (P .addressBytes + 1)) (λ o. refl) (λ o. refl))
+    (λ k. length-set (f .latch .marks) (f .address % P .page / 64) _))
 taking-sized P n v f Silence = refl
 
 risen-sized : (P : Part) (run : Bool) (d : ℕ) (f : Frame) → marks (risen P run d f) ≡ marks f

@@ -8,7 +8,7 @@ use Rattle.laws.specs.And.{never}
 use Rattle.codes.specs.Part.{Part}
 use Rattle.codes.specs.Status.{bit, on}
 use Rattle.codes.specs.Instructions.{decode, isWrite}
-use Rattle.chip.specs.Questions.{protects}
+use Rattle.chip.specs.Questions.{barred}
 use Rattle.codes.specs.Verdicts.{isExecuted}
 use Rattle.chip.specs.declared.Core.{Core}
 use Rattle.codes.proofs.Judged.{Passed, passed, hold-write, verdict-held}
@@ -20,17 +20,17 @@ use Rattle.pins.specs.Events.{judgedNow, executedNow, decided, deselecting, onS
 module _ (P : Part) (x : Device) where
   -- what an executed frame has passed at its deselect
   pub passed-now : isExecuted (judgedNow P x) ≡ true
-      → Passed P (decode P (x .frame .code)) (8 * x .frame .taken + x .frame .bits) (on (x .frame .ran)) (on (x .core .wel))
-      (on (x .core .srwd) && not (on (x .pins .w))) (protects P (x .core) (x .frame .address)) (on (x .held))
+      → Passed P (decode P (x .frame .code)) (x .frame .address) (x .frame .value) (8 * x .frame .taken + x .frame .bits) (on (x .frame .ran)) (on (x .core .wel))
+      (on (x .core .srwd) && not (on (x .pins .w))) (barred P (x .core) (decode P (x .frame .code)) (x .frame .address)) (on (x .held))
   passed-now e =
-      passed P (decode P (x .frame .code)) (8 * x .frame .taken + x .frame .bits) (on (x .frame .ran)) (on (x .core .wel))
-      (on (x .core .srwd) && not (on (x .pins .w))) (protects P (x .core) (x .frame .address)) (on (x .held)) e
+      passed P (decode P (x .frame .code)) (x .frame .address) (x .frame .value) (8 * x .frame .taken + x .frame .bits) (on (x .frame .ran)) (on (x .core .wel))
+      (on (x .core .srwd) && not (on (x .pins .w))) (barred P (x .core) (decode P (x .frame .code)) (x .frame .address)) (on (x .held)) e
 
   -- ---- any other frame
 
   held-decides : isWrite (decode P (x .frame .code)) ≡ false → on (x .held) ≡ true → decided P x ≡ x .core
   held-decides w h =
-      let dropped = and-both (on (x .held)) _ h (ap not (hold-write P (decode P (x .frame .code)) ∙ w)) in
+      let dropped = and-both (on (x .held)) _ h (ap not (hold-write P (decode P (x .frame .code)) (x .frame .address) (x .frame .value) ∙ w)) in
       pick-case (λ (c : Core). c ≡ x .core) (isExecuted (judgedNow P x)) (λ e. absurd (never dropped (passed-now e .unheld))) (λ e. refl)
 
   -- only S, held and the emptied frame move
@@ -52,6 +52,6 @@ module _ (P : Part) (x : Device) where
   pub held-write : (n : ℕ) → isWrite (decode P (x .frame .code)) ≡ true → deselecting P (withHeldAt n x) ≡ deselecting P x
   held-write n w =
       let same : judgedNow P (withHeldAt n x) ≡ judgedNow P x =
-      verdict-held P (decode P (x .frame .code)) (8 * x .frame .taken + x .frame .bits) (on (x .frame .ran)) (on (x .core .wel))
-      (on (x .core .srwd) && not (on (x .pins .w))) (protects P (x .core) (x .frame .address)) (on n) (on (x .held)) w in
+      verdict-held P (decode P (x .frame .code)) (x .frame .address) (x .frame .value) (8 * x .frame .taken + x .frame .bits) (on (x .frame .ran)) (on (x .core .wel))
+      (on (x .core .srwd) && not (on (x .pins .w))) (barred P (x .core) (decode P (x .frame .code)) (x .frame .address)) (on n) (on (x .held)) w in
       ap (λ v. withPins (withS 1 (x .pins)) (withHeld false (withFrame (noFrame P) (withCore (pick (isExecuted v) (executedNow P x) (x .core)) x)))) same

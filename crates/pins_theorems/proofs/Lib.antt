@@ -14,4 +14,5 @@ pub mod Fits
 pub mod CellRule
 pub mod Addressed
 pub mod Accepted
+pub mod Locks
 pub mod Shown

@@ -20,9 +20,9 @@ use Rattle.pins.specs.Ranges.{pinsFit, heldFits, emptyFits, ranFits, deviceFits
 -- the fields that the instruction i fills
 pub record FieldsFit (P : Part) (i : Instruction) (f : Frame) : Type 0 where
   pub address : addressFits P i (f .taken) (f .address) ≡ true
-  pub value : (valued i (f .taken) || eqb (f .value) 0) ≡ true
+  pub value : (valued P i (f .address) (f .taken) || eqb (f .value) 0) ≡ true
   pub out : outFits P i f ≡ true
-  pub latch : latchFits P (latches P i (f .taken)) (f .latch) ≡ true
+  pub latch : latchFits P (latches P i (f .address) (f .taken)) (f .latch) ≡ true
 
 pub record FrameFits (P : Part) (f : Frame) : Type 0 where
   pub taken : f .taken ≤ P .most
@@ -42,14 +42,14 @@ pub record Fits (P : Part) (x : Device) : Type 0 where
 module _ (P : Part) (i : Instruction) (f : Frame) where
   fields-out : fieldsFit P i f ≡ true → FieldsFit P i f
   fields-out e =
-      let t = and-4-out (addressFits P i (f .taken) (f .address)) (valued i (f .taken) || eqb (f .value) 0) (outFits P i f)
-      (latchFits P (latches P i (f .taken)) (f .latch)) e in
+      let t = and-4-out (addressFits P i (f .taken) (f .address)) (valued P i (f .address) (f .taken) || eqb (f .value) 0) (outFits P i f)
+      (latchFits P (latches P i (f .address) (f .taken)) (f .latch)) e in
       record { address = t .0; value = t .1 .0; out = t .1 .1 .0; latch = t .1 .1 .1 }
 
   fields-in : FieldsFit P i f → fieldsFit P i f ≡ true
   fields-in t =
-      and-4-in (addressFits P i (f .taken) (f .address)) (valued i (f .taken) || eqb (f .value) 0) (outFits P i f)
-      (latchFits P (latches P i (f .taken)) (f .latch))
+      and-4-in (addressFits P i (f .taken) (f .address)) (valued P i (f .address) (f .taken) || eqb (f .value) 0) (outFits P i f)
+      (latchFits P (latches P i (f .address) (f .taken)) (f .latch))
       (t .address) (t .value) (t .out) (t .latch)
 
 module _ (P : Part) (f : Frame) where

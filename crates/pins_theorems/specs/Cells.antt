@@ -1,16 +1,17 @@
 -- Demand 2's cell rule over events: which of them end a cycle, which make a cell wait, and which take a data byte for
--- a cell.
-use Prim.Native.Nat.{ℕ, _*_, _-_, _/_}
+-- a cell. It is said of any lent cells k: the memory's, or the identification page's.
+use Prim.Native.Nat.{ℕ, _+_, _*_, _%_}
 use mathlib.Core.Bool.{Bool, false, not, _&&_, _||_}
 use mathlib.Core.List.{List, [], _∷_}
 use lib.Dec.{eqb, leb, ltb}
 use Rattle.codes.specs.Part.{Part}
 use Rattle.codes.specs.Status.{on}
-use Rattle.codes.specs.Instructions.{decode, isWrite}
-use Rattle.latch.specs.Latches.{inPage, marked}
+use Rattle.codes.specs.Instructions.{decode}
 use Rattle.codes.specs.Verdicts.{isExecuted}
 use Rattle.chip.specs.Time.{ends}
+use Rattle.chip.specs.Cells.{Cells, memoryCells, identificationCells, writesTo, pageIn, latchedIn}
 use Rattle.chip.specs.declared.Core.{Core}
+use Rattle.codes.specs.declared.Instruction.{Instruction}
 use Rattle.edges.specs.declared.Frame.{Frame}
 use Rattle.pins.specs.declared.Device.{Device}
 use Rattle.pins.specs.declared.Event.{Event}
@@ -28,41 +29,55 @@ endsCycle (W level) c = false
 endsCycle (Hold level) c = false
 endsCycle (Time t) c = ends t c
 
--- cell i is marked in a frame's latch, in the page of its address
-abbrev pub inFrame : Part → Frame → ℕ → Bool
-inFrame P f i = inPage P (f .address / P .page) i && marked (f .latch) (i - f .address / P .page * P .page)
+-- of a bench
+abbrev pub cellsOf : Cells → PinBench → List ℕ
+cellsOf memoryCells b = b .memory
+cellsOf identificationCells b = b .identification
 
--- a deselect that is executed as a WRITE of cell i
-abbrev pub writes : Part → ℕ → Event → Device → Bool
-writes P i (S level) x =
-    level && not (on (x .pins .s))
-    && isExecuted (judgedNow P x) && isWrite (decode P (x .frame .code)) && inFrame P (x .frame) i
-writes P i (C level) x = false
-writes P i (D level) x = false
-writes P i (W level) x = false
-writes P i (Hold level) x = false
-writes P i (Time t) x = false
+-- data byte j goes to the page's cell (start offset + j) mod page
+abbrev pub dataCell : Cells → Part → ℕ → ℕ → ℕ
+dataCell k P start j = pageIn k P start * P .page + (start % P .page + j) % P .page
+
+-- a frame of the instruction j writes them, and has cell i marked, in the page of its address
+abbrev pub inFrameAs : Cells → Part → Instruction → Frame → ℕ → Bool
+inFrameAs k P j f i = writesTo k j (f .address) && latchedIn k P (f .address) (f .latch) i
+
+abbrev pub inFrame : Cells → Part → Frame → ℕ → Bool
+inFrame k P f i = inFrameAs k P (decode P (f .code)) f i
+
+-- a deselect that is executed as a write of cell i
+abbrev pub writes : Cells → Part → ℕ → Event → Device → Bool
+writes k P i (S level) x = level && not (on (x .pins .s)) && isExecuted (judgedNow P x) && inFrame k P (x .frame) i
+writes k P i (C level) x = false
+writes k P i (D level) x = false
+writes k P i (W level) x = false
+writes k P i (Hold level) x = false
+writes k P i (Time t) x = false
 
 -- .. at some event of a list
-unfoldable pub writesAny : Part → ℕ → List ℕ → PinBench → Bool
-writesAny P i [] b = false
-writesAny P i (e ∷ es) b = writes P i (eventOf e) (b .device) || writesAny P i es (afterEvent P e b)
+unfoldable pub writesAny : Cells → Part → ℕ → List ℕ → PinBench → Bool
+writesAny k P i [] b = false
+writesAny k P i (e ∷ es) b = writes k P i (eventOf e) (b .device) || writesAny k P i es (afterEvent P e b)
 
--- the next whole byte of the frame is a data byte of a WRITE, for cell i
-abbrev pub dataFor : Part → ℕ → Frame → Bool
-dataFor P i f = isWrite (decode P (f .code)) && not (leb (f .taken) (P .addressBytes)) && eqb (f .address) i
+-- the next whole byte of a frame of the instruction j, n bytes being in, is a data byte for cell i
+abbrev pub dataForAs : Cells → Part → ℕ → Instruction → ℕ → Frame → Bool
+dataForAs k P i j n f =
+    writesTo k j (f .address) && not (leb n (P .addressBytes)) && eqb (dataCell k P (f .address) 0) i
+
+abbrev pub dataFor : Cells → Part → ℕ → Frame → Bool
+dataFor k P i f = dataForAs k P i (decode P (f .code)) (f .taken) f
 
 -- the event takes it: the eighth counted edge of the byte
-abbrev pub takes : Part → ℕ → Event → Device → Bool
-takes P i (S level) x = false
-takes P i (C level) x =
-    level && not (on (x .pins .c)) && counting x && not (ltb (x .frame .bits) 7) && dataFor P i (x .frame)
-takes P i (D level) x = false
-takes P i (W level) x = false
-takes P i (Hold level) x = false
-takes P i (Time t) x = false
+abbrev pub takes : Cells → Part → ℕ → Event → Device → Bool
+takes k P i (S level) x = false
+takes k P i (C level) x =
+    level && not (on (x .pins .c)) && counting x && not (ltb (x .frame .bits) 7) && dataFor k P i (x .frame)
+takes k P i (D level) x = false
+takes k P i (W level) x = false
+takes k P i (Hold level) x = false
+takes k P i (Time t) x = false
 
 -- .. at some event of a list
-unfoldable pub byteTaken : Part → ℕ → List ℕ → PinBench → Bool
-byteTaken P i [] b = false
-byteTaken P i (e ∷ es) b = takes P i (eventOf e) (b .device) || byteTaken P i es (afterEvent P e b)
+unfoldable pub byteTaken : Cells → Part → ℕ → List ℕ → PinBench → Bool
+byteTaken k P i [] b = false
+byteTaken k P i (e ∷ es) b = takes k P i (eventOf e) (b .device) || byteTaken k P i es (afterEvent P e b)

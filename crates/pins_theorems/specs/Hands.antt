@@ -1,6 +1,6 @@
 -- Demand 2's cell rule by what is clocked in: the bytes of the frame in hand as D gave them at the counted edges,
 -- whatever the device keeps of them, and the cells that an accepted frame addresses.
-use Prim.Native.Nat.{ℕ, _+_, _-_, _*_, _/_, _%_, _^_}
+use Prim.Native.Nat.{ℕ, _+_, _-_, _*_, _%_, _^_}
 use mathlib.Core.Bool.{Bool, false, not, _&&_, _||_}
 use mathlib.Core.List.{List, [], _∷_}
 use lib.ListN.{length}
@@ -8,8 +8,9 @@ use lib.Dec.{eqb, leb, ltb}
 use Rattle.laws.specs.Pick.{pick}
 use Rattle.codes.specs.Part.{Part}
 use Rattle.codes.specs.Status.{bit, on}
-use Rattle.codes.specs.Instructions.{decode, isWrite}
+use Rattle.codes.specs.Instructions.{decode}
 use Rattle.codes.specs.Verdicts.{isExecuted}
+use Rattle.chip.specs.Cells.{Cells, writesTo}
 use Rattle.edges.specs.Rising.{shiftedIn}
 use Rattle.pins.specs.declared.Device.{Device}
 use Rattle.pins.specs.declared.Event.{Event}
@@ -17,6 +18,7 @@ use Rattle.pins.specs.declared.Event.the-variants.{S, C, D, W, Hold, Time}
 use Rattle.pins.specs.Devices.{counting}
 use Rattle.pins.specs.Events.{judgedNow, eventOf}
 use Rattle.pins.specs.Answers.{PinBench, afterEvent}
+use Rattle.pins_theorems.specs.Cells.{dataCell}
 
 -- ---- what is clocked in since S last moved
 
@@ -66,33 +68,29 @@ startOf P (v ∷ vs) =
     pick (leb 1 (length vs) && leb (length vs) (P .addressBytes))
     ((startOf P vs + v * 256 ^ (P .addressBytes - length vs)) % P .size) (startOf P vs)
 
--- data byte j goes to the page's cell (start offset + j) mod page
-abbrev pub dataCell : Part → ℕ → ℕ → ℕ
-dataCell P start j = start / P .page * P .page + (start % P .page + j) % P .page
-
 -- cell i is that of some data byte: data byte j is byte addressBytes + 1 + j
-abbrev pub addressedBy : Part → ℕ → List ℕ → Bool
-addressedBy P i [] = false
-addressedBy P i (v ∷ vs) =
-    not (leb (length vs) (P .addressBytes)) && eqb (dataCell P (startOf P vs) (length vs - (P .addressBytes + 1))) i
-    || addressedBy P i vs
+abbrev pub addressedBy : Cells → Part → ℕ → List ℕ → Bool
+addressedBy k P i [] = false
+addressedBy k P i (v ∷ vs) =
+    not (leb (length vs) (P .addressBytes)) && eqb (dataCell k P (startOf P vs) (length vs - (P .addressBytes + 1))) i
+    || addressedBy k P i vs
 
 -- ---- the accepted frame
 
--- a deselect that is executed, of a frame that is a WRITE and addresses cell i by the bytes since its own select
-abbrev pub accepts : Part → ℕ → Event → Device → Hand → Bool
-accepts P i (S level) x h =
-    level && not (on (x .pins .s))
-    && isExecuted (judgedNow P x) && isWrite (decode P (codeOf (h .bytes))) && addressedBy P i (h .bytes)
-accepts P i (C level) x h = false
-accepts P i (D level) x h = false
-accepts P i (W level) x h = false
-accepts P i (Hold level) x h = false
-accepts P i (Time t) x h = false
+-- a deselect that is executed, of a frame that writes the cells k and addresses cell i by the bytes since its own select
+abbrev pub accepts : Cells → Part → ℕ → Event → Device → Hand → Bool
+accepts k P i (S level) x h =
+    level && not (on (x .pins .s)) && isExecuted (judgedNow P x)
+    && writesTo k (decode P (codeOf (h .bytes))) (startOf P (h .bytes)) && addressedBy k P i (h .bytes)
+accepts k P i (C level) x h = false
+accepts k P i (D level) x h = false
+accepts k P i (W level) x h = false
+accepts k P i (Hold level) x h = false
+accepts k P i (Time t) x h = false
 
 -- .. at some event of a list
-unfoldable pub acceptedCell : Part → ℕ → List ℕ → PinBench → Hand → Bool
-acceptedCell P i [] b h = false
-acceptedCell P i (e ∷ es) b h =
-    accepts P i (eventOf e) (b .device) h
-    || acceptedCell P i es (afterEvent P e b) (handAfter (eventOf e) (b .device) h)
+unfoldable pub acceptedCell : Cells → Part → ℕ → List ℕ → PinBench → Hand → Bool
+acceptedCell k P i [] b h = false
+acceptedCell k P i (e ∷ es) b h =
+    accepts k P i (eventOf e) (b .device) h
+    || acceptedCell k P i es (afterEvent P e b) (handAfter (eventOf e) (b .device) h)

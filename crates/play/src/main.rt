@@ -1,10 +1,13 @@
-// Plays a trace: the text from standard input, or from the file that the first argument names, and its output to
-// standard output. `--help` says how.
+// Plays a trace, on the part that `--part` names or on the M95512: the text from standard input, or from the file that
+// an argument names, and its output to standard output. `--help` says how.
 //
 // The text is read in chunks of 6,551 bytes, so that what a chunk puts out fits 65,536; nothing else is kept of it.
 ghost use mathlib.Core.Path.{_≡_};
 ghost use Prim.Native.Nat.{_≤_};
 ghost use lib.ListN.{length};
+use codes::M95512;
+use codes::M95512D;
+use libc::STDERR_FILENO;
 use libc::STDIN_FILENO;
 use libc::STDOUT_FILENO;
 use player::Player;
@@ -75,6 +78,7 @@ fn chunk() -> [u8; 6551]
 
 // The text chunk by chunk. The turns count down from a number that no run uses up.
 fn turns(
+    part: u8,
     fd: i32,
     name: &[u8],
     memory: &mut [u8],
@@ -82,7 +86,7 @@ fn turns(
     text: &mut [u8],
     out: &mut [u8],
 ) {
-    let mut player = player::start();
+    let mut player = player::start(part);
     let mut left = u64::MAX;
     while left > 0 {
         let turned = turn(fd, name, player, memory, identification, text, out);
@@ -94,12 +98,13 @@ fn turns(
     }
 }
 
-fn play(fd: i32, name: &[u8]) {
+fn play(part: u8, fd: i32, name: &[u8]) {
     let mut memory = player::memory();
     let mut identification = player::identification();
     let mut text = chunk();
     let mut out = io::large_buffer();
     turns(
+        part,
         fd,
         name,
         &mut memory,
@@ -109,31 +114,59 @@ fn play(fd: i32, name: &[u8]) {
     );
 }
 
-fn play_file(path: &[u8]) {
+fn play_file(part: u8, path: &[u8]) {
     let fd = os::open_read(path);
     if fd < 0 {
         os::fail(path);
         return;
     }
-    play(fd, path);
+    play(part, fd, path);
     libc::close(fd);
 }
 
-// The word is --help.
-fn asks_help(word: &[u8]) -> bool {
-    if word.len() != 6 {
-        return false;
+// The file that the word at a place names, or standard input where there is no such word.
+fn play_word(part: u8, at: usize) {
+    if os::arg_count() <= at {
+        play(part, STDIN_FILENO, b"standard input");
+        return;
     }
-    let dashes = (word[0] == b'-') & (word[1] == b'-');
-    let he = (word[2] == b'h') & (word[3] == b'e');
-    let lp = (word[4] == b'l') & (word[5] == b'p');
-    dashes & he & lp
+    let mut path = io::buffer();
+    let n = os::arg(at, &mut path);
+    if os::errno() != 0 {
+        os::fail(b"the file name");
+        return;
+    }
+    play_file(part, &path[..n]);
+}
+
+// ---- words
+
+fn is_word(at: usize, what: &[u8]) -> bool {
+    let mut word = io::buffer();
+    let n = os::arg(at, &mut word);
+    check::same(&word[..n], what)
+}
+
+fn say(what: &[u8]) {
+    io::write_all(STDERR_FILENO, what);
+}
+
+// The word after --part is the part's name, exactly, and the one after that the file's.
+fn play_part() {
+    if is_word(2, b"M95512") {
+        return play_word(M95512, 3);
+    }
+    if is_word(2, b"M95512-D") {
+        return play_word(M95512D, 3);
+    }
+    say(b"play: after --part comes M95512 or M95512-D\n");
 }
 
 fn help() {
     put(
         b"play [FILE]: plays a trace on the pin model of the M95512, from FILE or from standard input.\n",
     );
+    put(b"play --part PART [FILE]: the same on PART, which is M95512 or M95512-D.\n");
     put(
         b"A line is a name, a tab and a value: S, C, D, W or H with 0 or 1, T with a clock reading.\n",
     );
@@ -143,19 +176,14 @@ fn help() {
 }
 
 fn main() {
-    if os::arg_count() < 2 {
-        play(STDIN_FILENO, b"standard input");
-        return;
+    if is_word(1, b"--help") {
+        return help();
     }
-    let mut path = io::buffer();
-    let n = os::arg(1, &mut path);
-    if os::errno() != 0 {
-        os::fail(b"the file name");
-        return;
+    if is_word(1, b"--part") {
+        return play_part();
     }
-    if asks_help(&path[..n]) {
-        help();
-        return;
+    if is_word(2, b"--part") {
+        return say(b"play: --part stands before the file\n");
     }
-    play_file(&path[..n]);
+    play_word(M95512, 1);
 }

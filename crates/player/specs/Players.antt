@@ -1,11 +1,12 @@
 -- The player of a trace text: what a text starts from, and the ranges.
 use Prim.Native.Nat.{ℕ}
-use mathlib.Core.Bool.{Bool, _&&_, _||_}
-use mathlib.Core.List.{List}
-use lib.ListN.{replicate}
+use mathlib.Core.Bool.{Bool, false, _&&_, _||_}
 use lib.Dec.{eqb, leb}
-use Rattle.codes.specs.Part.{Part, m95512}
-use Rattle.chip.specs.Power.{delivered, deliveredMemory, deliveredIdentification}
+use Rattle.laws.specs.Pick.{pick}
+use Rattle.codes.specs.Part.{partOf, isPart}
+use Rattle.chip.specs.Records.{idle}
+use Rattle.chip.specs.Power.{deliveredMemory, deliveredIdentification}
+use Rattle.chip.specs.declared.Core.{Core}
 use Rattle.pins.specs.Devices.{devicePart, resting}
 use Rattle.pins.specs.Ranges.{deviceFits}
 use Rattle.pins.specs.Answers.{PinBench, pinBench}
@@ -13,17 +14,29 @@ use Rattle.lines.specs.declared.Line.{Line}
 use Rattle.lines.specs.Reading.{fresh, lineFits}
 use Rattle.player.specs.declared.Player.{Player}
 
--- the bench that a text is played on: the M95512 as delivered, cycle length 5,000 and reading 0, and every byte FFh, of
--- the memory and of the identification page
-abbrev pub startBench : PinBench
-startBench = pinBench (resting m95512 delivered) (deliveredMemory m95512) (deliveredIdentification m95512)
+-- ---- what a text starts from, by a part's number; document 01's trace text starts from 0, the M95512
+
+-- the number that the record holds: that of a part, and 0 for a number that is none (its row is the same: `start-row`)
+abbrev pub startPart : ℕ → ℕ
+startPart n = pick (isPart n) n 0
+
+-- the part as delivered: lock and status bits 0, its longest cycle, reading 0
+abbrev pub startCore : ℕ → Core
+startCore n = idle (startPart n) false false false false (partOf n .longest) 0
+
+-- the bench that a text is played on: with every byte FFh, of the memory and of the identification page
+abbrev pub startBench : ℕ → PinBench
+startBench n =
+    pinBench (resting (partOf n) (startCore n)) (deliveredMemory (partOf n)) (deliveredIdentification (partOf n))
 
 abbrev pub playerOf : ℕ → Line → PinBench → Player
 playerOf headed l b = record { headed = headed; line = l; device = b .device }
 
 -- before the first byte
-abbrev pub startPlayer : Player
-startPlayer = playerOf 0 (fresh 0) startBench
+abbrev pub startPlayer : ℕ → Player
+startPlayer n = playerOf 0 (fresh 0) (startBench n)
+
+-- ---- the ranges
 
 -- no byte is taken before the header is out
 abbrev pub headFits : Player → Bool

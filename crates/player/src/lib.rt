@@ -6,11 +6,12 @@ ghost use mathlib.Core.Path.{_≡_};
 ghost use Rattle.codes.specs.Part.{m95512};
 ghost use Rattle.chip.specs.Power.{deliveredMemory, deliveredIdentification};
 ghost use Rattle.player.specs.Players.{startPlayer, headFits, playerFits};
-use chip::Core;
+use codes::LONGEST_CYCLE;
 use codes::PAGE;
 use codes::SIZE;
 use lines::Line;
 use pins::Device;
+use pins::power_up;
 
 // A text in hand: whether its header is out, the line in hand, and the device after the last whole line.
 pub struct Player {
@@ -19,10 +20,13 @@ pub struct Player {
     pub device: Device,
 }
 
-// Before the first byte of a text.
-pub fn start() -> Player
-    ensures { λ r. ⌜ r ≡ startPlayer ⌝ }
+// Before the first byte of a text, on a part as delivered: 1 is the M95512-D, every other number the M95512. It is what
+// power-up gives, whose refusal of a number that is no part leaves the delivered M95512.
+pub fn start(part: u8) -> Player
+    ensures { λ r. ⌜ r ≡ startPlayer part ⌝ }
 {
+    let powered = power_up(part, false, LONGEST_CYCLE, false, false, false, 0);
+    let device = powered.device;
     Player {
         headed: 0,
         line: Line {
@@ -31,7 +35,7 @@ pub fn start() -> Player
             kind: 0,
             value: 0,
         },
-        device: Device::resting(Core::delivered()),
+        device: device,
     }
 }
 

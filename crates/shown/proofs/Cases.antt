@@ -9,13 +9,14 @@ use Rattle.laws.specs.Pick.{pick}
 use Rattle.laws.specs.Table.{from, table}
 use Rattle.codes.specs.Part.{m95512}
 use Rattle.codes.specs.Instructions.{decode}
-use Rattle.shown.specs.Shown.{padded, output}
+use Rattle.shown.specs.Shown.{sights, padded, output}
 
 unpadded : (v : ℕ) → padded 0 v ≡ v
 unpadded v = omega arith
 
--- READ at FFFFh for two bytes shows cell FFFFh and then cell 0000h, of any memory
-pub case-f : (m : List ℕ)
-    → output m95512 false (λ j. 0) m (0x03 ∷ 0xff ∷ 0xff ∷ 0x00 ∷ 0x00 ∷ []) 40 ≡ 0xff ∷ 0xff ∷ 0xff ∷ getD m 0xffff 0 ∷ getD m 0x0000 0 ∷ []
+-- READ at FFFFh for two bytes shows cell FFFFh and then cell 0000h, of any memory, whatever the identification page
+pub case-f : (m i : List ℕ)
+    → output m95512 false (sights 0 0 m i) (0x03 ∷ 0xff ∷ 0xff ∷ 0x00 ∷ 0x00 ∷ []) 40
+    ≡ 0xff ∷ 0xff ∷ 0xff ∷ getD m 0xffff 0 ∷ getD m 0x0000 0 ∷ []
 unfolding pick decode output table from
-case-f m = ap (λ (v : ℕ). 0xff ∷ 0xff ∷ 0xff ∷ getD m 0xffff 0 ∷ v ∷ []) (unpadded (getD m 0x0000 0))
+case-f m i = ap (λ (v : ℕ). 0xff ∷ 0xff ∷ 0xff ∷ getD m 0xffff 0 ∷ v ∷ []) (unpadded (getD m 0x0000 0))

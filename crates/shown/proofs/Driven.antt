@@ -1,6 +1,6 @@
 -- The count of undriven bits is right: bit k of a frame is driven exactly if it is not among the leading ones that are counted.
 use mathlib.Core.Path.{_≡_, ap, sym, _∙_}
-use mathlib.Core.Bool.{Bool, true, false, not, and-true, and-false}
+use mathlib.Core.Bool.{Bool, true, false, not, _&&_, and-true, and-false}
 use Prim.Native.Nat.{ℕ, _+_, _*_, _/_, _<_, min}
 use native.Mathlib.Decide.{decLt}
 use native.Mathlib.Omega.{arith}
@@ -10,7 +10,7 @@ use Rattle.laws.specs.Pick.{pick}
 use Rattle.codes.specs.Part.{Part}
 use Rattle.codes.specs.Output.{outputs}
 use Rattle.codes.specs.declared.Instruction.{Instruction}
-use Rattle.codes.specs.declared.Instruction.the-variants.{Wren, Wrdi, Rdsr, Wrsr, Read, Write, Silence}
+use Rattle.codes.specs.declared.Instruction.the-variants.{Wren, Wrdi, Rdsr, Wrsr, Read, Write, Rdid, Wrid, Silence}
 use Rattle.shown.specs.Shown.{undriven}
 
 module _ (k n : ℕ) (h : k < n) where
@@ -25,13 +25,20 @@ module _ (k n : ℕ) (h : k < n) where
   never : false ≡ not (ltb k n)
   never = sym (ap not (lt-ltb k n h))
 
-  pub undriven-right : (P : Part) (i : Instruction) (ran : Bool) → outputs P i (k / 8) ran ≡ not (ltb k (undriven P i ran n))
+  -- it is after the address, where no cycle ran
+  after-address : (P : Part) (ran : Bool)
+      → (leb (P .addressBytes + 1) (k / 8) && not ran) ≡ not (ltb k (pick ran n (min (8 * (P .addressBytes + 1)) n)))
   unfolding pick
+  after-address P true = and-false (leb (P .addressBytes + 1) (k / 8)) ∙ never
+  after-address P false = and-true (leb (P .addressBytes + 1) (k / 8)) ∙ from-byte (P .addressBytes + 1)
+
+  pub undriven-right : (P : Part) (i : Instruction) (ran : Bool) → outputs P i (k / 8) ran ≡ not (ltb k (undriven P i ran n))
   undriven-right P Wren ran = never
   undriven-right P Wrdi ran = never
   undriven-right P Rdsr ran = from-byte 1
   undriven-right P Wrsr ran = never
-  undriven-right P Read true = and-false (leb (P .addressBytes + 1) (k / 8)) ∙ never
-  undriven-right P Read false = and-true (leb (P .addressBytes + 1) (k / 8)) ∙ from-byte (P .addressBytes + 1)
+  undriven-right P Read ran = after-address P ran
   undriven-right P Write ran = never
+  undriven-right P Rdid ran = after-address P ran
+  undriven-right P Wrid ran = never
   undriven-right P Silence ran = never

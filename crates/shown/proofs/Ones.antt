@@ -9,5 +9,5 @@ use Rattle.shown.proofs.output.show.Reads as show-reads
 pub undriven-one : OneResult undriven.ps undriven.r undriven-reads.Post
 undriven-one κs a z z′ e e′ p q = same p q
 
-pub show-output : OneExit show.ps show.r show-reads.Post (λ κs e. now (e .1 .1 .1 .1 .1 .1 .0))
+pub show-output : OneExit show.ps show.r show-reads.Post (λ κs e. now (e .1 .1 .1 .1 .1 .1 .1 .1 .0))
 show-output κs a z z′ e e′ p q = same p q

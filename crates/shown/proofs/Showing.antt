@@ -1,7 +1,7 @@
 -- The bytes that a frame shows, for any part: as the code puts them together they are the tables of the definitions.
 use mathlib.Core.Path.{_≡_, refl, ap, sym, _∙_}
 use mathlib.Core.List.{List, _++_}
-use mathlib.Core.Bool.{Bool, true, false, _&&_}
+use mathlib.Core.Bool.{Bool, true, false, not, _&&_}
 use Prim.Native.Nat.{ℕ, zero, suc, _+_, _-_, _%_, _<_, _≤_}
 use native.Mathlib.Nat.{mod-eq-of-lt, mod-eq-sub-mod}
 use native.Mathlib.Decide.{decLt}
@@ -9,8 +9,9 @@ use native.Mathlib.Omega.{arith}
 use lib.ListN.{length, getD, set, take, drop, replicate, length-drop, length-append, length-set, length-replicate, getD-replicate}
 use lib.Seq.{length-take-le, getD-set-same, getD-set-other}
 use lib.Dec.{leb, ltb}
-use borrow.Author.Tests.{le-leb, lt-leb}
-use Rattle.laws.specs.Pick.{pick, lt-so, ge-so, yes-so, no-so, and-both, and-no-left}
+use borrow.Author.Tests.{le-leb, lt-leb, leb-true}
+use Rattle.laws.specs.Pick.{pick, lt-so, ge-so, yes-so, no-so, at-yes, at-no, and-left, and-right, and-both, and-no-left}
+use Rattle.laws.specs.And.{failed, never}
 use Rattle.laws.specs.Spliced.{spliced, two-parts}
 use Rattle.laws.specs.Filled.{copied}
 use Rattle.laws.specs.Table.{table, table-is, table-cong, table-part, table-append, table-replicate}
@@ -79,10 +80,6 @@ module _ (low high out : List ℕ) (k n : ℕ) (size : length out ≡ n) (first 
 
 -- ---- the bytes of a whole frame
 
--- no byte of it driven
-pub all-undriven : (n : ℕ) (t : ℕ → Bool) (f : ℕ → ℕ) → ((j : ℕ) → j < n → t j ≡ false) → replicate n 255 ≡ table n (λ j. pick (t j) (f j) 255)
-all-undriven n t f h = table-replicate n 255 ∙ table-cong (λ j. 255) (λ j. pick (t j) (f j) 255) n 0 (λ j b. no-so _ (h j b) refl)
-
 -- a status over every byte but the first
 pub status-bytes : (n v : ℕ) → set (replicate n v) 0 255 ≡ table n (λ j. pick (leb 1 j) v 255)
 status-bytes n v = table-is _ (set (replicate n v) 0 255) n 0 (length-set (replicate n v) 0 255 ∙ length-replicate n v) at
@@ -93,26 +90,58 @@ status-bytes n v = table-is _ (set (replicate n v) 0 255) n 0 (length-set (repli
         yes-so _ (le-leb 1 (suc j) (omega arith))
         (getD-set-other (replicate n v) 0 (suc j) 255 0 (λ e. omega arith) ∙ getD-replicate n (suc j) v 0 b)
 
--- the cells after the bytes of the code and the address
-module _ (P : Part) (m : List ℕ) (a n : ℕ) (h : P .addressBytes + 1 ≤ n) where
-  abbrev head : ℕ
-  head = P .addressBytes + 1
+-- data byte d after a head of h bytes that is not driven, where no cycle ran
+abbrev follows : ℕ → Bool → (ℕ → ℕ) → ℕ → ℕ
+follows h ran d j = pick (leb h j && not ran) (d (j - h)) 255
 
-  abbrev cells : ℕ → ℕ
-  cells d = getD m ((a + d) % P .size) 0
+module _ (h n : ℕ) (ran : Bool) (d : ℕ → ℕ) where
+  no-data : (leb h n && not ran) ≡ false → replicate n 255 ≡ table n (follows h ran d)
+  no-data none = table-replicate n 255 ∙ table-cong (λ j. 255) (follows h ran d) n 0 (λ j b. no-so _ (undriven j b) refl)
+    where
+      undriven : (j : ℕ) → j < n → (leb h j && not ran) ≡ false
+      undriven j b =
+          failed _ (λ e.
+          let past : h ≤ j = leb-true h j (and-left _ (not ran) e) in
+          never (and-both (leb h n) (not ran) (le-leb h n (omega arith)) (and-right (leb h j) _ e)) none)
 
-  at-byte : (j : ℕ) → j < n → pick (ltb j head) 255 (cells (j - head)) ≡ pick (leb head j && true) (cells (j - head)) 255
-  at-byte j b = elim (decLt j head) [
-    | yes p ↦ no-so _ (and-no-left (leb head j) true (lt-leb head j p)) (sym (lt-so _ p refl))
-    | no p ↦
-        let past : head ≤ j = omega arith in
-        yes-so _ (and-both (leb head j) true (le-leb head j past) refl) (sym (ge-so _ past refl))
-  ]
+  head-and-data : h ≤ n → not ran ≡ true → replicate h 255 ++ table (n - h) d ≡ table n (follows h ran d)
+  head-and-data room free =
+      let all : h + (n - h) ≡ n = omega arith in
+      ap (λ (l : List ℕ). l ++ table (n - h) d) (table-replicate h 255)
+      ∙ table-append (λ j. 255) d h (n - h) 0
+      ∙ ap (λ (k : ℕ). table k joined) all
+      ∙ table-cong joined (follows h ran d) n 0 at
+    where
+      joined : ℕ → ℕ
+      joined j = pick (ltb j h) 255 (d (j - h))
 
-  pub read-bytes : replicate head 255 ++ table (n - head) cells ≡ table n (λ j. pick (leb head j && true) (cells (j - head)) 255)
-  read-bytes =
-      let all : head + (n - head) ≡ n = omega arith in
-      ap (λ (l : List ℕ). l ++ table (n - head) cells) (table-replicate head 255)
-      ∙ table-append (λ j. 255) cells head (n - head) 0
-      ∙ ap (λ (k : ℕ). table k (λ j. pick (ltb j head) 255 (cells (j - head)))) all
-      ∙ table-cong (λ j. pick (ltb j head) 255 (cells (j - head))) (λ j. pick (leb head j && true) (cells (j - head)) 255) n 0 at-byte
+      at : (j : ℕ) → j < n → joined j ≡ follows h ran d j
+      at j b = elim (decLt j h) [
+        | yes p ↦ no-so _ (and-no-left (leb h j) (not ran) (lt-leb h j p)) (sym (lt-so _ p refl))
+        | no p ↦
+            let past : h ≤ j = omega arith in
+            yes-so _ (and-both (leb h j) (not ran) (le-leb h j past) free) (sym (ge-so _ past refl))
+      ]
+
+-- r says whether data follows the head: then there is room for the head
+pub head-room : (h n : ℕ) (free r : Bool) → r ≡ (leb h n && free) → r ≡ true → h ≤ n
+head-room h n free r told e = leb-true h n (and-left _ free (sym told ∙ e))
+
+-- and the bytes are these
+module _ (h : ℕ) (ran r : Bool) (d : ℕ → ℕ) (l out : List ℕ) (told : r ≡ (leb h (length l) && not ran))
+    (head : out ≡ pick r (replicate h 255 ++ drop h l) (replicate (length l) 255)) where
+  pub data-none : r ≡ false → out ≡ table (length l) (follows h ran d)
+  data-none e = head ∙ at-no _ _ e ∙ no-data h (length l) ran d (sym told ∙ e)
+
+  pub data-after : r ≡ true → (cells : List ℕ) → cells ≡ table (length (take (length l - h) (drop h out))) d
+      → spliced out cells h (length l - h) ≡ table (length l) (follows h ran d)
+  data-after e cells made =
+      let n = length l in
+      let room = head-room h n (not ran) r told e in
+      let begun : out ≡ replicate h 255 ++ drop h l = head ∙ at-yes _ _ e in
+      let sized : length out ≡ n = ap length begun ∙ simp (length-append, length-replicate, length-drop) (omega arith) in
+      let left : length (take (n - h) (drop h out)) ≡ n - h = length-take-le (n - h) (drop h out) (simp length-drop (omega arith)) in
+      ap (λ (o : List ℕ). spliced o cells h (n - h)) begun
+      ∙ two-parts l (replicate h 255) cells h n refl (length-replicate h 255) room
+      ∙ ap (λ (k : List ℕ). replicate h 255 ++ k) (made ∙ ap (λ (k : ℕ). table k d) left)
+      ∙ head-and-data h n ran d room (and-right (leb h n) _ (sym told ∙ e))

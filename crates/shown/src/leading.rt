@@ -19,6 +19,8 @@ pub fn undriven(part: u8, i: Instruction, ran: bool, bits: usize) -> usize
         Instruction::Wrsr => bits,
         Instruction::Read => read_undriven(ran, bits),
         Instruction::Write => bits,
+        Instruction::Rdid => read_undriven(ran, bits),
+        Instruction::Wrid => bits,
         Instruction::Silence => bits,
     }
 }

@@ -2,20 +2,24 @@
 ghost use mathlib.Core.Path.{_≡_};
 ghost use Prim.Native.Nat.{_+_, _*_, _-_, _%_, _<_, _≤_};
 ghost use lib.Dec.{eqb, leb};
-ghost use mathlib.Core.Bool.{true};
-ghost use lib.ListN.{length, getD};
+ghost use mathlib.Core.Bool.{true, not, _&&_};
+ghost use mathlib.Core.List.{_++_};
+ghost use lib.ListN.{length, getD, drop, replicate};
 ghost use Rattle.laws.specs.Pick.{pick};
 ghost use Rattle.laws.specs.Table.{table};
 ghost use Rattle.codes.specs.Part.{m95512, partOf};
 ghost use Rattle.codes.specs.Output.{outputs};
-ghost use Rattle.codes.specs.declared.Instruction.the-variants.{Read};
+ghost use Rattle.codes.specs.declared.Instruction.the-variants.{Read, Rdid};
+ghost use Rattle.latch.specs.Identification.{identificationAt};
 ghost use Rattle.fields.specs.Counts.{bitsFit, longestFrame};
-ghost use Rattle.shown.specs.Shown.{byteOut, padded, output};
+ghost use Rattle.shown.specs.Shown.{sights, byteOut, padded, output};
 ghost use Rattle.shown.specs.Lengths.{lengthsFit, shownIn};
 use codes::HEAD;
 use codes::Instruction;
 use codes::LONGEST_FRAME;
+use codes::PAGE;
 use codes::SIZE;
+use codes::picks_lock;
 use fields::address_of;
 use fields::bits_fit;
 use fields::fill;
@@ -41,6 +45,36 @@ fn show_cells(memory: &[u8], from: usize, out: &mut [u8])
     }
 }
 
+// The cells of the identification page from an address up, rolling within it.
+fn show_page(identification: &[u8], from: usize, out: &mut [u8])
+    requires { ⌜ length (now identification) ≡ m95512 .page ⌝ }
+    requires { ⌜ length (now out) ≤ m95512 .size + 1 ⌝ }
+    ensures { λ _. ⌜ now (out .exit) ≡ table (length (now (out .entry)))
+        (λ n. getD (now (identification .entry)) ((from % m95512 .page + n) % m95512 .page) 0) ⌝ }
+{
+    let start = from % PAGE;
+    let mut i: usize = 0;
+    while i < out.len() {
+        out[i] = identification[(start + i) % PAGE];
+        i += 1;
+    }
+}
+
+// The data bytes of 83h: the lock again and again, or the page.
+fn show_identification(lock: u8, identification: &[u8], from: usize, out: &mut [u8])
+    requires { ⌜ length (now identification) ≡ m95512 .page ⌝ }
+    requires { ⌜ from < m95512 .size ⌝ }
+    requires { ⌜ length (now out) ≤ m95512 .size + 1 ⌝ }
+    ensures { λ _. ⌜ now (out .exit) ≡ table (length (now (out .entry)))
+        (identificationAt m95512 lock (now (identification .entry)) from) ⌝ }
+{
+    if picks_lock(from as u32) {
+        fill(out, lock);
+        return;
+    }
+    show_page(identification, from, out);
+}
+
 // RDSR: the status over every byte but the first.
 fn show_status(status: u8, out: &mut [u8])
     ensures { λ _. ⌜ now (out .exit) ≡ table (length (now (out .entry))) (λ j. pick (leb 1 j) status 255) ⌝ }
@@ -49,6 +83,26 @@ fn show_status(status: u8, out: &mut [u8])
     if 0 < out.len() {
         out[0] = 255;
     }
+}
+
+// Nothing is driven over the code and the address, nor where a cycle ran. Whether data follows.
+fn show_head(ran: bool, out: &mut [u8]) -> bool
+    ensures { λ r. ⌜ r ≡ leb (m95512 .addressBytes + 1) (length (now (out .entry))) && not ran ⌝ }
+    ensures { λ r. ⌜ now (out .exit)
+        ≡ pick r (replicate (m95512 .addressBytes + 1) 255 ++ drop (m95512 .addressBytes + 1) (now (out .entry)))
+        (replicate (length (now (out .entry))) 255) ⌝ }
+{
+    let n = out.len();
+    if ran {
+        fill(out, 255);
+        return false;
+    }
+    if n < HEAD {
+        fill(out, 255);
+        return false;
+    }
+    fill(&mut out[0..HEAD], 255);
+    true
 }
 
 // READ: the cells after the address, or nothing where a cycle ran.
@@ -61,16 +115,24 @@ fn show_read(ran: bool, memory: &[u8], from: usize, out: &mut [u8])
         (getD (now (memory .entry)) ((from + (j - (m95512 .addressBytes + 1))) % m95512 .size) 0) 255) ⌝ }
 {
     let n = out.len();
-    if ran {
-        fill(out, 255);
-        return;
+    if show_head(ran, out) {
+        show_cells(memory, from, &mut out[HEAD..n]);
     }
-    if n < HEAD {
-        fill(out, 255);
-        return;
+}
+
+// 83h: the identification page or its lock after the address, or nothing where a cycle ran.
+fn show_identified(ran: bool, lock: u8, identification: &[u8], from: usize, out: &mut [u8])
+    requires { ⌜ length (now identification) ≡ m95512 .page ⌝ }
+    requires { ⌜ from < m95512 .size ⌝ }
+    requires { ⌜ length (now out) ≤ longestFrame m95512 ⌝ }
+    ensures { λ _. ⌜ now (out .exit)
+        ≡ table (length (now (out .entry))) (λ j. pick (outputs m95512 Rdid j ran)
+        (identificationAt m95512 lock (now (identification .entry)) from (j - (m95512 .addressBytes + 1))) 255) ⌝ }
+{
+    let n = out.len();
+    if show_head(ran, out) {
+        show_identification(lock, identification, from, &mut out[HEAD..n]);
     }
-    fill(&mut out[0..HEAD], 255);
-    show_cells(memory, from, &mut out[HEAD..n]);
 }
 
 // What stands on Q over each byte, undriven bits as 1.
@@ -79,15 +141,17 @@ fn show_bytes(
     i: Instruction,
     ran: bool,
     status: u8,
+    lock: u8,
     memory: &[u8],
+    identification: &[u8],
     from: usize,
     out: &mut [u8],
 )
-    requires { ⌜ length (now memory) ≡ m95512 .size ⌝ }
+    requires { ⌜ (length (now memory) ≡ m95512 .size) × (length (now identification) ≡ m95512 .page) ⌝ }
     requires { ⌜ from < m95512 .size ⌝ }
     requires { ⌜ length (now out) ≤ longestFrame m95512 ⌝ }
-    ensures { λ _. ⌜ now (out .exit)
-        ≡ table (length (now (out .entry))) (byteOut (partOf part) i ran (λ j. status) (now (memory .entry)) from) ⌝ }
+    ensures { λ _. ⌜ now (out .exit) ≡ table (length (now (out .entry))) (byteOut (partOf part) i ran
+        (sights status lock (now (memory .entry)) (now (identification .entry))) from) ⌝ }
 {
     match i {
         Instruction::Wren => fill(out, 255),
@@ -96,6 +160,8 @@ fn show_bytes(
         Instruction::Wrsr => fill(out, 255),
         Instruction::Read => show_read(ran, memory, from, out),
         Instruction::Write => fill(out, 255),
+        Instruction::Rdid => show_identified(ran, lock, identification, from, out),
+        Instruction::Wrid => fill(out, 255),
         Instruction::Silence => fill(out, 255),
     }
 }
@@ -128,35 +194,41 @@ fn show_taken(
     part: u8,
     ran: bool,
     status: u8,
+    lock: u8,
     memory: &[u8],
+    identification: &[u8],
     bytes: &[u8],
     bits: usize,
     out: &mut [u8],
 )
-    requires { ⌜ length (now memory) ≡ m95512 .size ⌝ }
+    requires { ⌜ (length (now memory) ≡ m95512 .size) × (length (now identification) ≡ m95512 .page) ⌝ }
     requires { ⌜ length (now bytes) ≤ longestFrame m95512 ⌝ }
     requires { ⌜ bitsFit (length (now bytes)) bits ≡ true ⌝ }
     requires { ⌜ length (now out) ≡ length (now bytes) ⌝ }
     ensures { λ _. ⌜ now (out .exit)
-        ≡ output (partOf part) ran (λ j. status) (now (memory .entry)) (now (bytes .entry)) bits ⌝ }
+        ≡ output (partOf part) ran (sights status lock (now (memory .entry)) (now (identification .entry)))
+        (now (bytes .entry)) bits ⌝ }
 {
     show_bytes(
         part,
         instruction_of(part, bytes),
         ran,
         status,
+        lock,
         memory,
+        identification,
         address_of(bytes),
         out,
     );
     pad(out, (8 * bytes.len() - bits) as u8);
 }
 
-// Whether the lengths go together: of the memory, of a frame's bytes and bits, of the output.
-fn lengths_fit(size: usize, len: usize, bits: usize, room: usize) -> bool
-    ensures { λ r. ⌜ r ≡ lengthsFit m95512 size len bits room ⌝ }
+// Whether the lengths go together: of the memory, of the identification page, of a frame's bytes and bits, of the
+// output.
+fn lengths_fit(size: usize, cells: usize, len: usize, bits: usize, room: usize) -> bool
+    ensures { λ r. ⌜ r ≡ lengthsFit m95512 size cells len bits room ⌝ }
 {
-    (size == SIZE) & (len <= LONGEST_FRAME) & bits_fit(len, bits) & (room == len)
+    (size == SIZE) & (cells == PAGE) & (len <= LONGEST_FRAME) & bits_fit(len, bits) & (room == len)
 }
 
 // The output of a frame where the lengths go together, else the output as it was.
@@ -164,15 +236,34 @@ pub fn show(
     part: u8,
     ran: bool,
     status: u8,
+    lock: u8,
     memory: &[u8],
+    identification: &[u8],
     bytes: &[u8],
     bits: usize,
     out: &mut [u8],
 )
     ensures { λ _. ⌜ now (out .exit)
-        ≡ shownIn (partOf part) ran status (now (memory .entry)) (now (bytes .entry)) bits (now (out .entry)) ⌝ }
+        ≡ shownIn (partOf part) ran (sights status lock (now (memory .entry)) (now (identification .entry)))
+        (now (bytes .entry)) bits (now (out .entry)) ⌝ }
 {
-    if lengths_fit(memory.len(), bytes.len(), bits, out.len()) {
-        show_taken(part, ran, status, memory, bytes, bits, out);
+    if lengths_fit(
+        memory.len(),
+        identification.len(),
+        bytes.len(),
+        bits,
+        out.len(),
+    ) {
+        show_taken(
+            part,
+            ran,
+            status,
+            lock,
+            memory,
+            identification,
+            bytes,
+            bits,
+            out,
+        );
     }
 }

@@ -1,5 +1,5 @@
 -- However a text is cut into chunks, the outputs together with that of its end are the output of the text, and the device and what is lent to it are those after its last good line.
-use mathlib.Core.Path.{_≡_, refl, ap, sym, _∙_}
+use mathlib.Core.Path.{_≡_, refl, ap, sym, subst, _∙_}
 use mathlib.Core.Bool.{Bool, true, false}
 use mathlib.Core.List.{List, [], _∷_, _++_, append-assoc, append-nil}
 use Prim.Native.Nat.{ℕ, _+_}
@@ -9,17 +9,19 @@ use lib.Dec.{eqb}
 use borrow.Author.Tests.{eqb-true, eqb-false, ne-eqb}
 use Rattle.laws.specs.Pick.{pick}
 use Rattle.laws.specs.And.{and-3-in}
-use Rattle.codes.specs.Part.{m95512}
+use Rattle.codes.specs.Part.{Part, partOf}
 use Rattle.chip.specs.Lents.{Lent}
 use Rattle.pins.specs.Answers.{PinBench, lentTo, played}
 use Rattle.lists.specs.Answers.{playedQ}
 use Rattle.pins.specs.Ranges.{deviceFits}
 use Rattle.codes.proofs.Sound.{sound-of}
 use Rattle.pins.specs.Devices.{devicePart}
-use Rattle.pins_theorems.proofs.Fits.{Sized, played-sized, powered-fits}
+use Rattle.pins.specs.declared.Device.{Device}
+use Rattle.pins_theorems.proofs.Fits.{Sized, played-sized, powered-fits, powered-sized}
 use Rattle.lines.specs.declared.Line.{Line}
 use Rattle.player.specs.declared.Player.{Player}
 use Rattle.player.specs.Players.{startBench, playerOf, startPlayer, headFits, playerFits}
+use Rattle.player.proofs.Starts.{start-row, start-powered}
 use Rattle.trace.specs.Lines.{lineSays}
 use Rattle.printing.specs.Printing.{header, badLine, printed}
 use Rattle.lines.specs.Reading.{fresh, stopped, read, found, ended, lineFits}
@@ -123,12 +125,15 @@ unfolding pick badLineBetween
 bad-whole n k true e = rw e refl
 bad-whole n k false e = refl
 
-text-output : (x : List ℕ) → afterChunk beforeText x .output ++ endOutput (afterChunk beforeText x .player) ≡ textOutput x
+text-output : (n : ℕ) (x : List ℕ) → afterChunk (beforeText n) x .output ++ endOutput (afterChunk (beforeText n) x .player) ≡ textOutput n x
 unfolding pick shownLines textOutput
-text-output x =
+text-output n x =
     let r = read (fresh 0) x in
-    let s = shownLines (fresh 0) startBench x in
-    let shows : s ≡ printed 1 (playedQ m95512 (textNumbers x) startBench) = ap (λ (es : List ℕ). printed 1 (playedQ m95512 es startBench)) (text-found x) in
+    let b = startBench n in
+    let s = shownLines (fresh 0) b x in
+    let shows : s ≡ printed 1 (playedQ (partOf n) (textNumbers x) b) =
+    ap (λ (P : Part). printed 1 (playedQ P (found (fresh 0) x) b)) (start-row n)
+    ∙ ap (λ (es : List ℕ). printed 1 (playedQ (partOf n) es b)) (text-found x) in
     append-assoc header (s ++ badLineBetween (fresh 0) r) (badLineBetween r (ended r))
     ∙ ap (λ (k : List ℕ). header ++ k)
     (append-assoc s (badLineBetween (fresh 0) r) (badLineBetween r (ended r))
@@ -136,36 +141,44 @@ text-output x =
     (textIsBad x) (omega arith))
     ∙ ap (λ (k : List ℕ). k ++ pick (textIsBad x) (badLine (length (textEvents x) + 1)) []) shows)
 
-text-bench : (x : List ℕ) → benchOf (afterChunk beforeText x .player) (afterChunk beforeText x .cells) ≡ textBench x
+text-bench : (n : ℕ) (x : List ℕ) → benchOf (afterChunk (beforeText n) x .player) (afterChunk (beforeText n) x .cells) ≡ textBench n x
 unfolding playedLines
-text-bench x = ap (λ (es : List ℕ). played m95512 es startBench) (text-found x)
+text-bench n x =
+    let b = startBench n in
+    ap (λ (P : Part). played P (found (fresh 0) x) b) (start-row n) ∙ ap (λ (es : List ℕ). played (partOf n) es b) (text-found x)
 
--- ---- however a text is cut
+-- ---- however a text is cut, on every part
 
-pub whole-output : (xs : List (List ℕ)) → afterChunks beforeText xs .output ++ endOutput (afterChunks beforeText xs .player) ≡ textOutput (joined xs)
+pub whole-output : (n : ℕ) (xs : List (List ℕ)) → afterChunks (beforeText n) xs .output ++ endOutput (afterChunks (beforeText n) xs .player)
+    ≡ textOutput n (joined xs)
 unfolding pick badLineBetween ended afterChunks joined
-whole-output [] = append-nil header ∙ sym nothing
-whole-output (x ∷ xs) = rw (all-chunks beforeText (fresh-fits 0 (omega arith)) x xs) (text-output (x ++ joined xs))
+whole-output n [] = append-nil header ∙ sym (nothing n)
+whole-output n (x ∷ xs) = rw (all-chunks (beforeText n) (fresh-fits 0 (omega arith)) x xs) (text-output n (x ++ joined xs))
 
-no-bench : startBench ≡ textBench []
+no-bench : (n : ℕ) → startBench n ≡ textBench n []
 unfolding firstLine lineSays goodLines played
-no-bench = refl
+no-bench n = refl
 
-pub whole-bench : (xs : List (List ℕ)) → benchOf (afterChunks beforeText xs .player) (afterChunks beforeText xs .cells) ≡ textBench (joined xs)
+pub whole-bench : (n : ℕ) (xs : List (List ℕ)) → benchOf (afterChunks (beforeText n) xs .player) (afterChunks (beforeText n) xs .cells)
+    ≡ textBench n (joined xs)
 unfolding afterChunks joined
-whole-bench [] = no-bench
-whole-bench (x ∷ xs) = rw (all-chunks beforeText (fresh-fits 0 (omega arith)) x xs) (text-bench (x ++ joined xs))
+whole-bench n [] = no-bench n
+whole-bench n (x ∷ xs) = rw (all-chunks (beforeText n) (fresh-fits 0 (omega arith)) x xs) (text-bench n (x ++ joined xs))
 
 -- ---- so no chunk of a text gets 2: a chunk leaves a player inside its ranges (whose latch has a page's cells, as an array has by its type) inside them, and so do the start and the end
 
 start-line : lineFits (fresh 0) ≡ true
 start-line = fresh-fits 0 (omega arith)
 
-pub start-fits : playerFits startPlayer ≡ true
-unfolding pick playerFits
-start-fits =
-    and-3-in (headFits startPlayer) (lineFits (fresh 0)) (deviceFits (devicePart (startPlayer .device)) (startPlayer .device)) refl start-line
-    (powered-fits 0 false 5000 false false false 0)
+pub start-fits : (n : ℕ) → playerFits (startPlayer n) ≡ true
+unfolding playerFits
+start-fits n =
+    let x = startPlayer n .device in
+    and-3-in (headFits (startPlayer n)) (lineFits (fresh 0)) (deviceFits (devicePart x) x) refl start-line
+    (subst (λ (y : Device). deviceFits (devicePart y) y ≡ true) (start-powered n) (powered-fits n false (partOf n .longest) false false false 0))
+
+pub start-sized : (n : ℕ) → Sized (devicePart (startPlayer n .device)) (startPlayer n .device)
+start-sized n = subst (λ (y : Device). Sized (devicePart y) y) (start-powered n) (powered-sized n false (partOf n .longest) false false false 0)
 
 pub chunk-fits : (p : Player) (m : Lent) (x : List ℕ) → playerFits p ≡ true → Sized (devicePart (p .device)) (p .device) → playerFits (chunkPlayer p m x) ≡ true
 unfolding playerFits playedLines

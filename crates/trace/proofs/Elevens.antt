@@ -9,7 +9,7 @@ use lib.ListN.{length, length-replicate}
 use lib.Dec.{eqb}
 use borrow.Author.Tests.{eqb-true, eqb-false, eq-eqb, le-leb}
 use Rattle.laws.specs.Pick.{pick, and-both}
-use Rattle.codes.specs.Part.{Part, m95512}
+use Rattle.codes.specs.Part.{Part, partOf}
 use Rattle.pins.specs.Devices.{devicePart}
 use Rattle.pins.specs.Answers.{PinBench, afterEvent, played}
 use Rattle.chip.specs.Records.{waitsPage, waitsIdentification}
@@ -20,18 +20,19 @@ use Rattle.pins.specs.declared.Device.{Device}
 use Rattle.pins.specs.declared.Event.{Event}
 use Rattle.pins.specs.declared.Event.the-variants.{S, C, D, W, Hold, Time}
 use Rattle.pins.specs.Events.{eventOf, steppedCells}
-use Rattle.pins_theorems.proofs.Fits.{Sized, powered-sized}
+use Rattle.pins_theorems.proofs.Fits.{Sized}
 use Rattle.lines.specs.declared.Line.{Line}
 use Rattle.lines.specs.Reading.{lineAt, fresh, stopped, isStopped, next, read, found, ended, lineFits}
 use Rattle.lines.proofs.Hand.{read-fits, fresh-fits, past-fits}
 use Rattle.lines.proofs.Runs.{read-append, read-still}
 use Rattle.player.specs.declared.Player.{Player}
 use Rattle.player.specs.Players.{startBench, startPlayer, playerFits}
+use Rattle.player.proofs.Starts.{start-row}
 use Rattle.trace.specs.Texts.{textIsBad}
 use Rattle.trace.specs.Chunks.{benchOf, playedLines, chunkBench, chunkPlayer, endPlayer, playerNumber, room, feedNumber, endNumber, SoFar, afterChunk, afterChunks, beforeText, joined, numbersGiven, has11}
 use Rattle.trace.proofs.Choosing.{feed-done, end-done}
 use Rattle.trace.proofs.Whole.{split, text-ended}
-use Rattle.trace.proofs.Cut.{start-fits, chunk-fits, chunk-sized}
+use Rattle.trace.proofs.Cut.{start-fits, start-sized, chunk-fits, chunk-sized}
 
 -- ---- what a call needs to take its chunk, and each chunk leaves so
 
@@ -59,13 +60,16 @@ record Ready (s : SoFar) : Type 0 where
   sized : Sized (devicePart (s .player .device)) (s .player .device)
   whole : lentFits (devicePart (s .player .device)) (length (s .cells .memory)) (length (s .cells .identification)) ≡ true
 
-start-ready : Ready beforeText
-unfolding pick
-start-ready =
+start-whole : (n : ℕ) → lentFits (partOf n) (length (startBench n .memory)) (length (startBench n .identification)) ≡ true
+start-whole n =
+    and-both _ _ (eq-eqb _ _ (length-replicate {A = ℕ} (partOf n .size) 0xff)) (eq-eqb _ _ (length-replicate {A = ℕ} (partOf n .page) 0xff))
+
+start-ready : (n : ℕ) → Ready (beforeText n)
+start-ready n =
     record {
-      fits = start-fits;
-      sized = powered-sized 0 false 5000 false false false 0;
-      whole = and-both _ _ (eq-eqb _ _ (length-replicate {A = ℕ} (m95512 .size) 0xff)) (eq-eqb _ _ (length-replicate {A = ℕ} (m95512 .page) 0xff));
+      fits = start-fits n;
+      sized = start-sized n;
+      whole = ap (λ (P : Part). lentFits P (length (startBench n .memory)) (length (startBench n .identification))) (start-row n) ∙ start-whole n;
     }
 
 next-ready : (s : SoFar) (x : List ℕ) → Ready s → Ready (afterChunk s x)
@@ -121,9 +125,9 @@ text-stopped x = ap isStopped (text-ended x) ∙ stopped-is _ (textIsBad x)
 
 -- ---- 11 exactly where the text has a bad line
 
-pub eleven : (out : List ℕ → List ℕ) → ((x : List ℕ) → room (length x) ≤ length (out x)) → (xs : List (List ℕ))
-    → has11 (numbersGiven out beforeText xs) ≡ textIsBad (joined xs)
-eleven out k xs = given out k beforeText start-ready xs ∙ text-stopped (joined xs)
+pub eleven : (n : ℕ) (out : List ℕ → List ℕ) → ((x : List ℕ) → room (length x) ≤ length (out x)) → (xs : List (List ℕ))
+    → has11 (numbersGiven out (beforeText n) xs) ≡ textIsBad (joined xs)
+eleven n out k xs = given out k (beforeText n) (start-ready n) xs ∙ text-stopped (joined xs)
 
 -- ---- and which chunk gives it: one after which the text is bad, whatever follows. After any other the text can still be good
 
@@ -148,18 +152,18 @@ ends-well w (suc (suc (suc (suc zero)))) k v f n = (10 ∷ [], refl)
 ends-well w (suc (suc (suc (suc (suc zero))))) k v f n = absurd (n refl)
 ends-well w (suc (suc (suc (suc (suc (suc p)))))) k v f n = absurd (true≢false (sym f ∙ past-fits w (suc (suc (suc (suc (suc (suc p)))))) k v (omega arith)))
 
-module _ (xs : List (List ℕ)) (x d : List ℕ) (k : room (length x) ≤ length d) where
+module _ (part : ℕ) (xs : List (List ℕ)) (x d : List ℕ) (k : room (length x) ≤ length d) where
   -- the number that a chunk x gets after the chunks xs
   abbrev number : ℕ
-  number = feedNumber (afterChunks beforeText xs .player) (afterChunks beforeText xs .cells) x d
+  number = feedNumber (afterChunks (beforeText part) xs .player) (afterChunks (beforeText part) xs .cells) x d
 
   abbrev hand : Line
   hand = read (fresh 0) (joined xs ++ x)
 
   number-is : number ≡ pick (isStopped hand) 11 0
   number-is =
-      feed-gives (afterChunks beforeText xs) x d (ready-after beforeText xs start-ready) k
-      ∙ ap (λ (l : Line). pick (isStopped (read l x)) 11 0) (line-after beforeText xs)
+      feed-gives (afterChunks (beforeText part) xs) x d (ready-after (beforeText part) xs (start-ready part)) k
+      ∙ ap (λ (l : Line). pick (isStopped (read l x)) 11 0) (line-after (beforeText part) xs)
       ∙ ap (λ (l : Line). pick (isStopped l) 11 0) (sym (read-append (fresh 0) (joined xs) x))
 
   on-from : (y : List ℕ) → isStopped (ended (read hand y)) ≡ textIsBad ((joined xs ++ x) ++ y)

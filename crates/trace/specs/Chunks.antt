@@ -163,9 +163,9 @@ unfoldable pub afterChunks : SoFar → List (List ℕ) → SoFar
 afterChunks s [] = s
 afterChunks s (x ∷ xs) = afterChunks (afterChunk s x) xs
 
--- before the first chunk
-abbrev pub beforeText : SoFar
-beforeText = record { player = startPlayer; cells = lentTo startBench; output = [] }
+-- before the first chunk, on the part n
+abbrev pub beforeText : ℕ → SoFar
+beforeText n = record { player = startPlayer n; cells = lentTo (startBench n); output = [] }
 
 -- the chunks one after another are the text
 unfoldable pub joined : List (List ℕ) → List ℕ

@@ -1,11 +1,12 @@
--- The whole output of a whole text, from document 01's "Trace text".
+-- The whole output of a whole text, from document 01's "Trace text". It is played on the part n as delivered; document
+-- 01's is 0, the M95512.
 use Prim.Native.Nat.{ℕ, zero, suc, _+_}
 use mathlib.Core.Bool.{Bool, true, not, _&&_}
 use mathlib.Core.List.{List, [], _∷_, _++_, map}
 use lib.ListN.{length}
 use lib.Dec.{eqb}
 use Rattle.laws.specs.Pick.{pick}
-use Rattle.codes.specs.Part.{m95512}
+use Rattle.codes.specs.Part.{partOf}
 use Rattle.pins.specs.Answers.{PinBench, played}
 use Rattle.pins.specs.declared.Event.{Event}
 use Rattle.events.specs.Events.{numberOf}
@@ -55,12 +56,12 @@ abbrev pub textIsBad : List ℕ → Bool
 textIsBad text = hasBad 1000000 text
 
 -- the device and what is lent to it after the last good line
-abbrev pub textBench : List ℕ → PinBench
-textBench text = played m95512 (textNumbers text) startBench
+abbrev pub textBench : ℕ → List ℕ → PinBench
+textBench n text = played (partOf n) (textNumbers text) (startBench n)
 
 -- ---- the output
 
-unfoldable pub textOutput : List ℕ → List ℕ
-textOutput text =
-    header ++ (printed 1 (playedQ m95512 (textNumbers text) startBench)
+unfoldable pub textOutput : ℕ → List ℕ → List ℕ
+textOutput n text =
+    header ++ (printed 1 (playedQ (partOf n) (textNumbers text) (startBench n))
     ++ pick (textIsBad text) (badLine (length (textEvents text) + 1)) [])

@@ -4,6 +4,7 @@
 ghost use mathlib.Core.Path.{_≡_};
 ghost use Prim.Native.Nat.{_<_, _≤_};
 ghost use lib.ListN.{length};
+use codes::M95512;
 use libc::STDOUT_FILENO;
 use player::Player;
 
@@ -68,7 +69,7 @@ fn in_chunks(
     identification: &mut [u8],
     out: &mut [u8],
 ) -> Player {
-    let mut player = player::start();
+    let mut player = player::start(M95512);
     let mut i: usize = 0;
     while i < text.len() {
         let e = chunk_end(i, text.len(), size);
@@ -161,7 +162,13 @@ fn cut(size: usize) {
 fn long_line(memory: &mut [u8], identification: &mut [u8], out: &mut [u8]) {
     title(b"a line of a megabyte");
     let digits = [49u8; 4096];
-    let mut player = fed(player::start(), memory, identification, b"S\t0\nT\t", out);
+    let mut player = fed(
+        player::start(M95512),
+        memory,
+        identification,
+        b"S\t0\nT\t",
+        out,
+    );
     let mut i: u32 = 0;
     while i < 256 {
         player = fed(player, memory, identification, &digits, out);
@@ -213,7 +220,7 @@ fn sum_chunk(
 
 fn frames(text: &[u8], memory: &mut [u8], identification: &mut [u8], out: &mut [u8]) -> Summed {
     let mut so_far = Summed {
-        player: player::start(),
+        player: player::start(M95512),
         bytes: 0,
         sum: 0,
     };
@@ -291,14 +298,19 @@ fn refused(what: &[u8], player: Player, memory: &mut [u8], out: &mut [u8]) {
 }
 
 fn with_flag_2() -> Player {
-    let mut player = player::start();
+    let mut player = player::start(M95512);
     player.headed = 2;
     player
 }
 
 fn refused_memory(out: &mut [u8]) {
     let mut memory = [0u8; 64];
-    refused(b"a memory of 64 bytes", player::start(), &mut memory, out);
+    refused(
+        b"a memory of 64 bytes",
+        player::start(M95512),
+        &mut memory,
+        out,
+    );
     refused(b"and a flag of 2", with_flag_2(), &mut memory, out);
 }
 
@@ -314,7 +326,7 @@ fn refused_player(memory: &mut [u8], out: &mut [u8]) {
 }
 
 fn refused_output(what: &[u8], memory: &mut [u8], out: &mut [u8]) {
-    refused(what, player::start(), memory, out);
+    refused(what, player::start(M95512), memory, out);
 }
 
 fn refused_outputs(memory: &mut [u8]) {
@@ -325,7 +337,7 @@ fn refused_outputs(memory: &mut [u8]) {
 }
 
 fn refused_end(what: &[u8], out: &mut [u8]) {
-    let f = trace::finish(player::start(), out);
+    let f = trace::finish(player::start(M95512), out);
     let answer = f.answer;
     say(what, answer.number() as u64);
 }

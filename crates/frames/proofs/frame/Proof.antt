@@ -20,6 +20,9 @@ instruction-of-requires c κs = search needs
 status-requires : tie.Need-status-requires
 status-requires c κs = search needs
 
+lock-byte-requires : tie.Need-lock-byte-requires
+lock-byte-requires c κs = search needs
+
 show-requires : tie.Need-show-requires
 show-requires c κs = search needs
 
@@ -37,11 +40,13 @@ same-length c = search needs
 
 returns : tie.Need-returns
 returns c =
-    let a = c .before .before .before .before .before .before .before .before .before .before .before .before .before .before .before .before .args in
-    rw (c .after .ensures, c .before .undriven .ensures, c .before .before .before .before .show .ensures, c .before .before .before .before .before .before .status .ensures, c .before .before .before .before .before .before .before .before .running .ensures, c .before .before .before .before .before .before .before .instruction-of .ensures)
+    let a = c .before .before .before .before .before .before .before .before .before .before .before .before .before .before .before .before .before .args in
+    let shows = c .before .before .before .before .before .before in
+    let found = shows .before .before .before in
+    rw (c .after .ensures, c .before .undriven .ensures, c .before .before .before .before .show .ensures, shows .before .status .ensures)
+    (rw (shows .lock-byte .ensures, found .running .ensures, shows .before .before .instruction-of .ensures)
     (shown-frame (ownPart (a .core)) (a .core) (a .memory .now) (a .identification .now) (a .w) (a .bytes .now) (a .bits) (a .out .now)
-    (c .before .before .before .before .before .before .before .before .before .before .before .outcome .ensures)
-    (c .before .before .before .before .before .before .before .before .before .enum-told .given .1))
+    (found .before .before .before .outcome .ensures) (found .before .enum-told .given .1)))
 
 returns-2 : tie.Need-returns-2
 returns-2 c =
@@ -58,6 +63,7 @@ frame-spec =
     running-requires
     instruction-of-requires
     status-requires
+    lock-byte-requires
     show-requires
     undriven-requires
     after-requires

@@ -5,11 +5,11 @@ use Rattle.play.proofs.turns.Statement.{statement}
 use Rattle.play.proofs.turns.Tie as tie
 
 abbrev Inv-loop : tie.InvT-loop
-Inv-loop fd name memory₀ identification₀ text₀ out₀ player₀ left₀ memory identification text out player left =
+Inv-loop part fd name memory₀ identification₀ text₀ out₀ player₀ left₀ memory identification text out player left =
     (length memory ≡ length memory₀) × (length identification ≡ length identification₀) × (length text ≡ length text₀) × (length out ≡ length out₀)
 
 abbrev μ-loop : tie.MeasureT-loop
-μ-loop fd name memory₀ identification₀ text₀ out₀ player₀ left₀ memory identification text out player left = left
+μ-loop part fd name memory₀ identification₀ text₀ out₀ player₀ left₀ memory identification text out player left = left
 
 start-requires : tie.Need-start-requires Inv-loop μ-loop
 start-requires c κs = tt

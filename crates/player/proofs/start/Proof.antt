@@ -1,18 +1,20 @@
-use mathlib.Core.Path.{refl}
+-- The player holds the device that power-up promises, and that is the one to start from (`start-powered`).
+use mathlib.Core.Path.{ap, _∙_}
 use borrow.Author.Needs.{needs}
+use Rattle.pins.specs.declared.Device.{Device}
+use Rattle.pins.specs.declared.Stepped.{Stepped}
+use Rattle.lines.specs.Reading.{fresh}
+use Rattle.player.proofs.Starts.{start-powered}
 use Rattle.player.proofs.start.Statement.{statement}
 use Rattle.player.proofs.start.Tie as tie
-use Rattle.chip.proofs.Core.delivered.Reads as delivered-reads
-use Rattle.pins.proofs.Device.resting.Reads as resting-reads
 
-delivered-requires : tie.Need-delivered-requires
-delivered-requires c κs = search needs
-
-resting-requires : tie.Need-resting-requires
-resting-requires c κs = search needs
+power-up-requires : tie.Need-power-up-requires
+power-up-requires c κs = search needs
 
 returns : tie.Need-returns
-returns c = rw (c .resting .ensures, c .before .delivered .ensures) refl
+returns c =
+    ap (λ (x : Device). record { headed = 0; line = fresh 0; device = x })
+    (ap (λ (s : Stepped). s .device) (c .before .power-up .ensures .0) ∙ start-powered (c .before .before .args .part))
 
 pub start-spec : {M : Type 1} → statement M
-start-spec = tie.close (tie.spec delivered-requires resting-requires returns)
+start-spec = tie.close (tie.spec power-up-requires returns)

@@ -1,96 +1,37 @@
+-- The lock's row, or that of address 0: by what the address picks.
+use mathlib.Core.Path.{sym, ap₂, _∙_}
+use mathlib.Core.Bool.{_&&_}
+use Rattle.codes.specs.Part.{partOf}
+use Rattle.codes.proofs.Rows.{table-row, set-row}
 use borrow.Author.Needs.{needs}
 use Rattle.codes.proofs.instructions.row.Statement.{statement}
 use Rattle.codes.proofs.instructions.row.Tie as tie
 
-enum-told : tie.Need-enum-told
-enum-told c = search needs
+is-wrid-requires : tie.Need-is-wrid-requires
+is-wrid-requires c κs = search needs
 
-known-requires : tie.Need-known-requires
-known-requires c κs = search needs
+picks-lock-requires : tie.Need-picks-lock-requires
+picks-lock-requires c κs = search needs
 
-enum-told-2 : tie.Need-enum-told-2
-enum-told-2 c = search needs
-
-known-requires-2 : tie.Need-known-requires-2
-known-requires-2 c κs = search needs
-
-enum-told-3 : tie.Need-enum-told-3
-enum-told-3 c = search needs
-
-known-requires-3 : tie.Need-known-requires-3
-known-requires-3 c κs = search needs
-
-enum-told-4 : tie.Need-enum-told-4
-enum-told-4 c = search needs
-
-known-requires-4 : tie.Need-known-requires-4
-known-requires-4 c κs = search needs
-
-enum-told-5 : tie.Need-enum-told-5
-enum-told-5 c = search needs
-
-known-requires-5 : tie.Need-known-requires-5
-known-requires-5 c κs = search needs
-
-enum-told-6 : tie.Need-enum-told-6
-enum-told-6 c = search needs
-
-known-requires-6 : tie.Need-known-requires-6
-known-requires-6 c κs = search needs
-
-in-hold-requires : tie.Need-in-hold-requires
-in-hold-requires c κs = search needs
-
-enum-told-7 : tie.Need-enum-told-7
-enum-told-7 c = search needs
-
-unknown-requires : tie.Need-unknown-requires
-unknown-requires c κs = search needs
+lock-requires : tie.Need-lock-requires
+lock-requires c κs = search needs
 
 returns : tie.Need-returns
-returns c = rw (c .before .enum-told .given .1) (c .known .ensures)
+returns c =
+    let a = c .before .before .before .before .args in
+    let test = ap₂ _&&_ (sym (c .before .before .before .is-wrid .ensures)) (sym (c .before .before .picks-lock .ensures)) in
+    c .lock .ensures ∙ set-row (partOf (a .part)) (a .i) (a .address) (a .value) (test ∙ c .before .if1 .taken)
+
+table-requires : tie.Need-table-requires
+table-requires c κs = search needs
 
 returns-2 : tie.Need-returns-2
-returns-2 c = rw (c .before .enum-told2 .given .1) (c .known2 .ensures)
-
-returns-3 : tie.Need-returns-3
-returns-3 c = rw (c .before .enum-told3 .given .1) (c .known3 .ensures)
-
-returns-4 : tie.Need-returns-4
-returns-4 c = rw (c .before .enum-told4 .given .1) (c .known4 .ensures)
-
-returns-5 : tie.Need-returns-5
-returns-5 c = rw (c .before .enum-told5 .given .1) (c .known5 .ensures)
-
-returns-6 : tie.Need-returns-6
-returns-6 c = rw (c .before .before .enum-told6 .given .1, c .in-hold .ensures, c .before .known6 .ensures)
-
-returns-7 : tie.Need-returns-7
-returns-7 c = search needs
+returns-2 c =
+    let a = c .before .before .before .before .args in
+    let test = ap₂ _&&_ (sym (c .before .before .before .is-wrid .ensures)) (sym (c .before .before .picks-lock .ensures)) in
+    c .table .ensures ∙ table-row (partOf (a .part)) (a .i) (a .address) (a .value) (test ∙ c .before .if1 .left)
 
 pub row-spec : {M : Type 1} → statement M
 row-spec =
     tie.close
-    (tie.spec
-    enum-told
-    known-requires
-    enum-told-2
-    known-requires-2
-    enum-told-3
-    known-requires-3
-    enum-told-4
-    known-requires-4
-    enum-told-5
-    known-requires-5
-    enum-told-6
-    known-requires-6
-    in-hold-requires
-    enum-told-7
-    unknown-requires
-    returns
-    returns-2
-    returns-3
-    returns-4
-    returns-5
-    returns-6
-    returns-7)
+    (tie.spec is-wrid-requires picks-lock-requires lock-requires returns table-requires returns-2)

@@ -5,10 +5,10 @@ use Rattle.duel.proofs.cells.pages.Statement.{statement}
 use Rattle.duel.proofs.cells.pages.Tie as tie
 
 abbrev Inv-loop : tie.InvT-loop
-Inv-loop frame_side pin_side run₀ i₀ t5 t6 run i = i ≤ 128
+Inv-loop run₀ frame-side pin-side i₀ t7 run i = i ≤ 128
 
 abbrev μ-loop : tie.MeasureT-loop
-μ-loop frame_side pin_side run₀ i₀ t5 t6 run i = 128 - i
+μ-loop run₀ frame-side pin-side i₀ t7 run i = 128 - i
 
 loop-holds : tie.Need-loop-holds Inv-loop μ-loop
 loop-holds c = search needs
@@ -16,20 +16,14 @@ loop-holds c = search needs
 slice-aggregate-same-at : tie.Need-slice-aggregate-same-at Inv-loop μ-loop
 slice-aggregate-same-at c = search needs
 
-element-copy-out-same-at : tie.Need-element-copy-out-same-at Inv-loop μ-loop
-element-copy-out-same-at c = search needs
+array-read-same-at : tie.Need-array-read-same-at Inv-loop μ-loop
+array-read-same-at c = search needs
+
+array-read-same-at-2 : tie.Need-array-read-same-at-2 Inv-loop μ-loop
+array-read-same-at-2 c = search needs
 
 same-at-requires : tie.Need-same-at-requires Inv-loop μ-loop
 same-at-requires c κs = search needs
-
-slice-aggregate-same-at-2 : tie.Need-slice-aggregate-same-at-2 Inv-loop μ-loop
-slice-aggregate-same-at-2 c = search needs
-
-element-copy-out-same-at-2 : tie.Need-element-copy-out-same-at-2 Inv-loop μ-loop
-element-copy-out-same-at-2 c = search needs
-
-same-at-requires-2 : tie.Need-same-at-requires-2 Inv-loop μ-loop
-same-at-requires-2 c κs = search needs
 
 add-i : tie.Need-add-i Inv-loop μ-loop
 add-i c = search needs
@@ -51,11 +45,9 @@ pages-spec =
     μ-loop
     loop-holds
     slice-aggregate-same-at
-    element-copy-out-same-at
+    array-read-same-at
+    array-read-same-at-2
     same-at-requires
-    slice-aggregate-same-at-2
-    element-copy-out-same-at-2
-    same-at-requires-2
     add-i
     loop-less
     loop-again

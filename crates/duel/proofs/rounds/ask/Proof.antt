@@ -6,9 +6,6 @@ use borrow.Author.Needs.{needs}
 use Rattle.duel.proofs.rounds.ask.Statement.{statement}
 use Rattle.duel.proofs.rounds.ask.Tie as tie
 
-blank-page-requires : tie.Need-blank-page-requires
-blank-page-requires c κs = search needs
-
 slice-aggregate-frame : tie.Need-slice-aggregate-frame
 slice-aggregate-frame c = search needs
 
@@ -58,7 +55,6 @@ pub ask-spec : {M : Type 1} → statement M
 ask-spec =
     tie.close
     (tie.spec
-    blank-page-requires
     slice-aggregate-frame
     frame-requires
     same-length

@@ -1,3 +1,4 @@
+-- Each arm is the clause of its instruction, by its call where it has one.
 use borrow.Author.Needs.{needs}
 use Rattle.edges.proofs.Frame.taking.Statement.{statement}
 use Rattle.edges.proofs.Frame.taking.Tie as tie
@@ -32,6 +33,18 @@ write-byte-requires c κs = search needs
 enum-told-7 : tie.Need-enum-told-7
 enum-told-7 c = search needs
 
+read-byte-requires-2 : tie.Need-read-byte-requires-2
+read-byte-requires-2 c κs = search needs
+
+enum-told-8 : tie.Need-enum-told-8
+enum-told-8 c = search needs
+
+identification-byte-requires : tie.Need-identification-byte-requires
+identification-byte-requires c κs = search needs
+
+enum-told-9 : tie.Need-enum-told-9
+enum-told-9 c = search needs
+
 returns : tie.Need-returns
 returns c = rw (c .enum-told .given .1)
 
@@ -51,7 +64,13 @@ returns-6 : tie.Need-returns-6
 returns-6 c = rw (c .before .enum-told6 .given .1) (c .write-byte .ensures)
 
 returns-7 : tie.Need-returns-7
-returns-7 c = rw (c .enum-told7 .given .1)
+returns-7 c = rw (c .before .enum-told7 .given .1) (c .read-byte2 .ensures)
+
+returns-8 : tie.Need-returns-8
+returns-8 c = rw (c .before .enum-told8 .given .1) (c .identification-byte .ensures)
+
+returns-9 : tie.Need-returns-9
+returns-9 c = rw (c .enum-told9 .given .1)
 
 pub taking-spec : {M : Type 1} → statement M
 taking-spec =
@@ -67,10 +86,16 @@ taking-spec =
     enum-told-6
     write-byte-requires
     enum-told-7
+    read-byte-requires-2
+    enum-told-8
+    identification-byte-requires
+    enum-told-9
     returns
     returns-2
     returns-3
     returns-4
     returns-5
     returns-6
-    returns-7)
+    returns-7
+    returns-8
+    returns-9)

@@ -1,3 +1,4 @@
+-- Each arm is the clause of its instruction.
 use borrow.Author.Needs.{needs}
 use Rattle.edges.proofs.falling.outputs.Statement.{statement}
 use Rattle.edges.proofs.falling.outputs.Tie as tie
@@ -23,6 +24,12 @@ enum-told-6 c = search needs
 enum-told-7 : tie.Need-enum-told-7
 enum-told-7 c = search needs
 
+enum-told-8 : tie.Need-enum-told-8
+enum-told-8 c = search needs
+
+enum-told-9 : tie.Need-enum-told-9
+enum-told-9 c = search needs
+
 returns : tie.Need-returns
 returns c = search needs
 
@@ -42,7 +49,13 @@ returns-6 : tie.Need-returns-6
 returns-6 c = search needs
 
 returns-7 : tie.Need-returns-7
-returns-7 c = search needs
+returns-7 c = rw (c .enum-told7 .given .1)
+
+returns-8 : tie.Need-returns-8
+returns-8 c = search needs
+
+returns-9 : tie.Need-returns-9
+returns-9 c = search needs
 
 pub outputs-spec : {M : Type 1} → statement M
 outputs-spec =
@@ -55,10 +68,14 @@ outputs-spec =
     enum-told-5
     enum-told-6
     enum-told-7
+    enum-told-8
+    enum-told-9
     returns
     returns-2
     returns-3
     returns-4
     returns-5
     returns-6
-    returns-7)
+    returns-7
+    returns-8
+    returns-9)

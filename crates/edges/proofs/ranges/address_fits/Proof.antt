@@ -1,3 +1,4 @@
+-- Each arm is the clause of its instruction, by its call where it has one.
 use borrow.Author.Needs.{needs}
 use Rattle.edges.proofs.ranges.address_fits.Statement.{statement}
 use Rattle.edges.proofs.ranges.address_fits.Tie as tie
@@ -29,6 +30,18 @@ taken-so-far-requires-2 c κs = search needs
 enum-told-7 : tie.Need-enum-told-7
 enum-told-7 c = search needs
 
+taken-so-far-requires-3 : tie.Need-taken-so-far-requires-3
+taken-so-far-requires-3 c κs = search needs
+
+enum-told-8 : tie.Need-enum-told-8
+enum-told-8 c = search needs
+
+taken-so-far-requires-4 : tie.Need-taken-so-far-requires-4
+taken-so-far-requires-4 c κs = search needs
+
+enum-told-9 : tie.Need-enum-told-9
+enum-told-9 c = search needs
+
 returns : tie.Need-returns
 returns c = rw (c .enum-told .given .1)
 
@@ -48,7 +61,13 @@ returns-6 : tie.Need-returns-6
 returns-6 c = rw (c .before .enum-told6 .given .1) (c .taken-so-far2 .ensures)
 
 returns-7 : tie.Need-returns-7
-returns-7 c = rw (c .enum-told7 .given .1)
+returns-7 c = rw (c .before .enum-told7 .given .1) (c .taken-so-far3 .ensures)
+
+returns-8 : tie.Need-returns-8
+returns-8 c = rw (c .before .enum-told8 .given .1) (c .taken-so-far4 .ensures)
+
+returns-9 : tie.Need-returns-9
+returns-9 c = rw (c .enum-told9 .given .1)
 
 pub address-fits-spec : {M : Type 1} → statement M
 address-fits-spec =
@@ -63,10 +82,16 @@ address-fits-spec =
     enum-told-6
     taken-so-far-requires-2
     enum-told-7
+    taken-so-far-requires-3
+    enum-told-8
+    taken-so-far-requires-4
+    enum-told-9
     returns
     returns-2
     returns-3
     returns-4
     returns-5
     returns-6
-    returns-7)
+    returns-7
+    returns-8
+    returns-9)

@@ -1,5 +1,10 @@
--- By the instruction, as its definition goes.
-use Rattle.fields.proofs.Latching.{written-row}
+-- A write of cells or any other instruction: each is the effect.
+use mathlib.Core.Path.{sym, ap, ap₂, _∙_}
+use mathlib.Core.Bool.{_||_}
+use lib.ListN.{getD}
+use Rattle.chip.specs.Records.{ownPart}
+use Rattle.chip.specs.Effects.{effect}
+use Rattle.fields.specs.Bytes.{address, written}
 use borrow.Author.Needs.{needs}
 use Rattle.frames.proofs.executed.execute.Statement.{statement}
 use Rattle.frames.proofs.executed.execute.Tie as tie
@@ -7,98 +12,51 @@ use Rattle.frames.proofs.executed.execute.Tie as tie
 instruction-of-requires : tie.Need-instruction-of-requires
 instruction-of-requires c κs = search needs
 
-enum-told : tie.Need-enum-told
-enum-told c = search needs
+is-write-requires : tie.Need-is-write-requires
+is-write-requires c κs = search needs
 
-with-wel-requires : tie.Need-with-wel-requires
-with-wel-requires c κs = search needs
+is-wrid-requires : tie.Need-is-wrid-requires
+is-wrid-requires c κs = search needs
 
-enum-told-2 : tie.Need-enum-told-2
-enum-told-2 c = search needs
+write-cells-requires : tie.Need-write-cells-requires
+write-cells-requires c κs =
+    let test = ap₂ _||_ (sym (c .before .before .is-write .ensures)) (sym (c .before .is-wrid .ensures)) in
+    test ∙ c .if1 .taken
 
-with-wel-requires-2 : tie.Need-with-wel-requires-2
-with-wel-requires-2 c κs = search needs
-
-enum-told-3 : tie.Need-enum-told-3
-enum-told-3 c = search needs
-
-enum-told-4 : tie.Need-enum-told-4
-enum-told-4 c = search needs
+returns : tie.Need-returns
+returns c =
+    let a = c .before .before .before .before .before .before .args in
+    let P = ownPart (a .core) in
+    let s = a .bytes .now in
+    c .write-cells .ensures (getD s 1 0)
+    ∙ ap (λ i. effect P i (address P s) (getD s 1 0) (written P s) (a .core)) (c .before .before .before .before .instruction-of .ensures)
 
 byte-at-requires : tie.Need-byte-at-requires
 byte-at-requires c κs = search needs
 
-begin-status-requires : tie.Need-begin-status-requires
-begin-status-requires c κs = search needs
-
-enum-told-5 : tie.Need-enum-told-5
-enum-told-5 c = search needs
-
-enum-told-6 : tie.Need-enum-told-6
-enum-told-6 c = search needs
-
-address-of-requires : tie.Need-address-of-requires
-address-of-requires c κs = search needs
-
-cast-begin-page : tie.Need-cast-begin-page
-cast-begin-page c = search needs
-
-latch-of-requires : tie.Need-latch-of-requires
-latch-of-requires c κs = search needs
-
-begin-page-requires : tie.Need-begin-page-requires
-begin-page-requires c κs = search needs
-
-enum-told-7 : tie.Need-enum-told-7
-enum-told-7 c = search needs
-
-returns : tie.Need-returns
-returns c = rw (← c .before .before .before .instruction-of .ensures, c .before .enum-told .given .1) (c .with-wel .ensures)
+command-requires : tie.Need-command-requires
+command-requires c κs =
+    let test = ap₂ _||_ (sym (c .before .before .before .is-write .ensures)) (sym (c .before .before .is-wrid .ensures)) in
+    test ∙ c .before .if1 .left
 
 returns-2 : tie.Need-returns-2
-returns-2 c = rw (← c .before .before .before .instruction-of .ensures, c .before .enum-told2 .given .1) (c .with-wel2 .ensures)
-
-returns-3 : tie.Need-returns-3
-returns-3 c = rw (← c .before .before .instruction-of .ensures, c .enum-told3 .given .1)
-
-returns-4 : tie.Need-returns-4
-returns-4 c =
-    rw (← c .before .before .before .before .instruction-of .ensures, c .before .before .enum-told4 .given .1, c .begin-status .ensures, c .before .byte-at .ensures)
-
-returns-5 : tie.Need-returns-5
-returns-5 c = rw (← c .before .before .instruction-of .ensures, c .enum-told5 .given .1)
-
-returns-6 : tie.Need-returns-6
-returns-6 c =
-    rw (← c .before .before .before .before .before .instruction-of .ensures, c .before .before .before .enum-told6 .given .1, c .begin-page .ensures, c .before .latch-of .ensures, c .before .before .address-of .ensures, written-row (c .before .before .before .before .before .before .before .args .core .part) (c .before .before .before .before .before .before .before .args .bytes .now))
-
-returns-7 : tie.Need-returns-7
-returns-7 c = rw (← c .before .before .instruction-of .ensures, c .enum-told7 .given .1)
+returns-2 c =
+    let a = c .before .before .before .before .before .before .before .args in
+    let P = ownPart (a .core) in
+    let s = a .bytes .now in
+    c .command .ensures (address P s) (written P s)
+    ∙ ap₂ (λ i v. effect P i (address P s) v (written P s) (a .core)) (c .before .before .before .before .before .instruction-of .ensures)
+    (c .before .byte-at .ensures)
 
 pub execute-spec : {M : Type 1} → statement M
 execute-spec =
     tie.close
     (tie.spec
     instruction-of-requires
-    enum-told
-    with-wel-requires
-    enum-told-2
-    with-wel-requires-2
-    enum-told-3
-    enum-told-4
-    byte-at-requires
-    begin-status-requires
-    enum-told-5
-    enum-told-6
-    address-of-requires
-    cast-begin-page
-    latch-of-requires
-    begin-page-requires
-    enum-told-7
+    is-write-requires
+    is-wrid-requires
+    write-cells-requires
     returns
-    returns-2
-    returns-3
-    returns-4
-    returns-5
-    returns-6
-    returns-7)
+    byte-at-requires
+    command-requires
+    returns-2)

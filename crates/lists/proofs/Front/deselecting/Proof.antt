@@ -1,7 +1,8 @@
+-- What may begin a cycle is left to the whole device; for the others `InPlace` says what they move.
 use mathlib.Core.Path.{refl, sym, _∙_}
 use Rattle.chip.specs.Records.{ownPart}
 use Rattle.codes.specs.Verdicts.{verdictBy}
-use Rattle.codes.specs.declared.Instruction.the-variants.{Wren, Wrdi, Rdsr, Read, Silence}
+use Rattle.codes.specs.declared.Instruction.the-variants.{Wren, Wrdi, Rdsr, Read, Rdid, Silence}
 use Rattle.lists.specs.Ways.{whole}
 use Rattle.lists.proofs.InPlace.{dropped, enabled}
 use borrow.Author.Needs.{needs}
@@ -37,6 +38,12 @@ enum-told-6 c = search needs
 
 enum-told-7 : tie.Need-enum-told-7
 enum-told-7 c = search needs
+
+enum-told-8 : tie.Need-enum-told-8
+enum-told-8 c = search needs
+
+enum-told-9 : tie.Need-enum-told-9
+enum-told-9 c = search needs
 
 returns : tie.Need-returns
 unfolding verdictBy
@@ -78,7 +85,16 @@ returns-7 : tie.Need-returns-7
 returns-7 c =
     let at = c .before .before .before in
     let k = at .args .core in
-    λ m l. dropped (ownPart k) (whole (at .args .self) l k) (at .pre) Silence (sym (c .before .before .decode .ensures) ∙ c .enum-told7 .given .1) refl
+    λ m l. dropped (ownPart k) (whole (at .args .self) l k) (at .pre) Rdid (sym (c .before .before .decode .ensures) ∙ c .enum-told7 .given .1) refl
+
+returns-8 : tie.Need-returns-8
+returns-8 c = search needs
+
+returns-9 : tie.Need-returns-9
+returns-9 c =
+    let at = c .before .before .before in
+    let k = at .args .core in
+    λ m l. dropped (ownPart k) (whole (at .args .self) l k) (at .pre) Silence (sym (c .before .before .decode .ensures) ∙ c .enum-told9 .given .1) refl
 
 pub deselecting-spec : {M : Type 1} → statement M
 deselecting-spec =
@@ -94,10 +110,14 @@ deselecting-spec =
     enum-told-5
     enum-told-6
     enum-told-7
+    enum-told-8
+    enum-told-9
     returns
     returns-2
     returns-3
     returns-4
     returns-5
     returns-6
-    returns-7)
+    returns-7
+    returns-8
+    returns-9)

@@ -1,3 +1,4 @@
+-- Each arm is the clause of its instruction: the side that the count picks, by its call.
 use mathlib.Core.Path.{refl, ap, _∙_}
 use Rattle.laws.specs.Pick.{eq-so, ne-so, le-so, gt-so}
 use Rattle.edges.specs.declared.Frame.{Frame}
@@ -51,53 +52,91 @@ latch-byte-requires c κs = search needs
 enum-told-4 : tie.Need-enum-told-4
 enum-told-4 c = search needs
 
+address-byte-requires-3 : tie.Need-address-byte-requires-3
+address-byte-requires-3 c κs = search needs
+
+returns-4 : tie.Need-returns-4
+returns-4 c =
+    λ m l k. rw (c .before .before .enum-told4 .given .1) (c .address-byte3 .ensures m l k ∙ ap
+    (λ (f : Frame). risenTo f (whole (c .before .before .before .before .args .self) l k)) (le-so _ (c .before .if4 .taken) refl))
+
 unkept-requires-3 : tie.Need-unkept-requires-3
 unkept-requires-3 c κs = search needs
 
 enum-told-5 : tie.Need-enum-told-5
 enum-told-5 c = search needs
 
-unkept-requires-4 : tie.Need-unkept-requires-4
-unkept-requires-4 c κs = search needs
+address-byte-requires-4 : tie.Need-address-byte-requires-4
+address-byte-requires-4 c κs = search needs
+
+returns-5 : tie.Need-returns-5
+returns-5 c =
+    λ m l k. rw (c .before .before .enum-told5 .given .1) (c .address-byte4 .ensures m l k ∙ ap
+    (λ (f : Frame). risenTo f (whole (c .before .before .before .before .args .self) l k)) (le-so _ (c .before .if5 .taken) refl))
+
+identification-data-requires : tie.Need-identification-data-requires
+identification-data-requires c κs = search needs
 
 enum-told-6 : tie.Need-enum-told-6
 enum-told-6 c = search needs
 
-unkept-requires-5 : tie.Need-unkept-requires-5
-unkept-requires-5 c κs = search needs
+unkept-requires-4 : tie.Need-unkept-requires-4
+unkept-requires-4 c κs = search needs
 
 enum-told-7 : tie.Need-enum-told-7
 enum-told-7 c = search needs
 
+unkept-requires-5 : tie.Need-unkept-requires-5
+unkept-requires-5 c κs = search needs
+
+enum-told-8 : tie.Need-enum-told-8
+enum-told-8 c = search needs
+
 unkept-requires-6 : tie.Need-unkept-requires-6
 unkept-requires-6 c κs = search needs
 
-returns-4 : tie.Need-returns-4
-returns-4 c =
-    λ m l k. rw (c .before .before .enum-told .given .1)
-    (c .unkept .ensures m l k ∙ ap (λ (f : Frame). risenTo f (whole (c .before .before .before .before .args .self) l k)) (ne-so _ (c .before .if1 .left) refl))
+enum-told-9 : tie.Need-enum-told-9
+enum-told-9 c = search needs
 
-returns-5 : tie.Need-returns-5
-returns-5 c =
-    λ m l k. rw (c .before .before .enum-told2 .given .1) (c .unkept2 .ensures m l k ∙ ap
-    (λ (f : Frame). risenTo f (whole (c .before .before .before .before .args .self) l k)) (gt-so _ (c .before .if2 .left) refl))
+unkept-requires-7 : tie.Need-unkept-requires-7
+unkept-requires-7 c κs = search needs
 
 returns-6 : tie.Need-returns-6
 returns-6 c =
+    λ m l k. rw (c .before .before .enum-told .given .1) (c .unkept .ensures m l k ∙ ap
+    (λ (f : Frame). risenTo f (whole (c .before .before .before .before .args .self) l k)) (ne-so _ (c .before .if1 .left) refl))
+
+returns-7 : tie.Need-returns-7
+returns-7 c =
+    λ m l k. rw (c .before .before .enum-told2 .given .1) (c .unkept2 .ensures m l k ∙ ap
+    (λ (f : Frame). risenTo f (whole (c .before .before .before .before .args .self) l k)) (gt-so _ (c .before .if2 .left) refl))
+
+returns-8 : tie.Need-returns-8
+returns-8 c =
     λ m l k. rw (c .before .before .enum-told3 .given .1) (c .latch-byte .ensures m l k ∙ ap
     (λ (f : Frame). risenTo f (whole (c .before .before .before .before .args .self) l k)) (gt-so _ (c .before .if3 .left) refl))
 
-returns-7 : tie.Need-returns-7
-returns-7 c = λ m l k. rw (c .before .enum-told4 .given .1) (c .unkept3 .ensures m l k)
-
-returns-8 : tie.Need-returns-8
-returns-8 c = λ m l k. rw (c .before .enum-told5 .given .1) (c .unkept4 .ensures m l k)
-
 returns-9 : tie.Need-returns-9
-returns-9 c = λ m l k. rw (c .before .enum-told6 .given .1) (c .unkept5 .ensures m l k)
+returns-9 c =
+    λ m l k. rw (c .before .before .enum-told4 .given .1) (c .unkept3 .ensures m l k ∙ ap
+    (λ (f : Frame). risenTo f (whole (c .before .before .before .before .args .self) l k)) (gt-so _ (c .before .if4 .left) refl))
 
 returns-10 : tie.Need-returns-10
-returns-10 c = λ m l k. rw (c .before .enum-told7 .given .1) (c .unkept6 .ensures m l k)
+returns-10 c =
+    λ m l k. rw (c .before .before .enum-told5 .given .1) (c .identification-data .ensures m l k ∙ ap
+    (λ (f : Frame). risenTo f (whole (c .before .before .before .before .args .self) l k)) (gt-so _ (c .before .if5 .left) refl))
+
+returns-11 : tie.Need-returns-11
+returns-11 c = λ m l k. rw (c .before .enum-told6 .given .1) (c .unkept4 .ensures m l k)
+
+returns-12 : tie.Need-returns-12
+returns-12 c = λ m l k. rw (c .before .enum-told7 .given .1) (c .unkept5 .ensures m l k)
+
+returns-13 : tie.Need-returns-13
+returns-13 c = λ m l k. rw (c .before .enum-told8 .given .1) (c .unkept6 .ensures m l k)
+
+returns-14 : tie.Need-returns-14
+returns-14 c = λ m l k. rw (c .before .enum-told9 .given .1) (c .unkept7 .ensures m l k)
 
 pub taking-spec : {M : Type 1} → statement M
 taking-spec =
@@ -116,17 +155,27 @@ taking-spec =
     returns-3
     latch-byte-requires
     enum-told-4
+    address-byte-requires-3
+    returns-4
     unkept-requires-3
     enum-told-5
-    unkept-requires-4
-    enum-told-6
-    unkept-requires-5
-    enum-told-7
-    unkept-requires-6
-    returns-4
+    address-byte-requires-4
     returns-5
+    identification-data-requires
+    enum-told-6
+    unkept-requires-4
+    enum-told-7
+    unkept-requires-5
+    enum-told-8
+    unkept-requires-6
+    enum-told-9
+    unkept-requires-7
     returns-6
     returns-7
     returns-8
     returns-9
-    returns-10)
+    returns-10
+    returns-11
+    returns-12
+    returns-13
+    returns-14)

@@ -1,3 +1,4 @@
+-- Each arm is the clause of the instruction that the code decoded, by its call where it has one.
 use mathlib.Core.Path.{sym, _∙_}
 use borrow.Author.Needs.{needs}
 use Rattle.pins.proofs.Device.executed_now.Statement.{statement}
@@ -39,6 +40,15 @@ begin-page-requires c κs = search needs
 enum-told-7 : tie.Need-enum-told-7
 enum-told-7 c = search needs
 
+enum-told-8 : tie.Need-enum-told-8
+enum-told-8 c = search needs
+
+begin-identification-requires : tie.Need-begin-identification-requires
+begin-identification-requires c κs = search needs
+
+enum-told-9 : tie.Need-enum-told-9
+enum-told-9 c = search needs
+
 returns : tie.Need-returns
 returns c = rw (sym (c .before .before .before .decode .ensures) ∙ c .before .enum-told .given .1) (c .with-wel .ensures)
 
@@ -60,6 +70,12 @@ returns-6 c = rw (sym (c .before .before .before .before .decode .ensures) ∙ c
 returns-7 : tie.Need-returns-7
 returns-7 c = rw (sym (c .before .before .decode .ensures) ∙ c .enum-told7 .given .1)
 
+returns-8 : tie.Need-returns-8
+returns-8 c = rw (sym (c .before .before .before .decode .ensures) ∙ c .before .enum-told8 .given .1) (c .begin-identification .ensures)
+
+returns-9 : tie.Need-returns-9
+returns-9 c = rw (sym (c .before .before .decode .ensures) ∙ c .enum-told9 .given .1)
+
 pub executed-now-spec : {M : Type 1} → statement M
 executed-now-spec =
     tie.close
@@ -76,10 +92,15 @@ executed-now-spec =
     enum-told-6
     begin-page-requires
     enum-told-7
+    enum-told-8
+    begin-identification-requires
+    enum-told-9
     returns
     returns-2
     returns-3
     returns-4
     returns-5
     returns-6
-    returns-7)
+    returns-7
+    returns-8
+    returns-9)

@@ -1,3 +1,4 @@
+-- The verdict by its call, on the instruction and the protection that two others gave.
 use borrow.Author.Needs.{needs}
 use Rattle.pins.proofs.Device.verdict_now.Statement.{statement}
 use Rattle.pins.proofs.Device.verdict_now.Tie as tie
@@ -14,17 +15,19 @@ cast-bits-2 c = search needs
 add-bits : tie.Need-add-bits
 add-bits c = search needs
 
-protects-requires : tie.Need-protects-requires
-protects-requires c κs = search needs
-
 decode-requires : tie.Need-decode-requires
 decode-requires c κs = search needs
+
+barred-requires : tie.Need-barred-requires
+barred-requires c κs = search needs
 
 judge-requires : tie.Need-judge-requires
 judge-requires c κs = search needs
 
 returns : tie.Need-returns
-returns c = rw (c .judge .ensures, c .before .before .before .before .decode .ensures, c .before .before .before .before .before .protects .ensures)
+returns c =
+    let b = c .before .before .before .before in
+    rw (c .judge .ensures, b .barred .ensures, b .before .decode .ensures)
 
 pub verdict-now-spec : {M : Type 1} → statement M
 verdict-now-spec =
@@ -34,7 +37,7 @@ verdict-now-spec =
     mul-bits
     cast-bits-2
     add-bits
-    protects-requires
     decode-requires
+    barred-requires
     judge-requires
     returns)

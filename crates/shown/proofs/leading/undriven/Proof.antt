@@ -29,6 +29,15 @@ enum-told-6 c = search needs
 enum-told-7 : tie.Need-enum-told-7
 enum-told-7 c = search needs
 
+read-undriven-requires-2 : tie.Need-read-undriven-requires-2
+read-undriven-requires-2 c κs = search needs
+
+enum-told-8 : tie.Need-enum-told-8
+enum-told-8 c = search needs
+
+enum-told-9 : tie.Need-enum-told-9
+enum-told-9 c = search needs
+
 returns : tie.Need-returns
 returns c = search needs
 
@@ -48,7 +57,13 @@ returns-6 : tie.Need-returns-6
 returns-6 c = search needs
 
 returns-7 : tie.Need-returns-7
-returns-7 c = search needs
+returns-7 c = rw (c .before .enum-told7 .given .1) (c .read-undriven2 .ensures)
+
+returns-8 : tie.Need-returns-8
+returns-8 c = search needs
+
+returns-9 : tie.Need-returns-9
+returns-9 c = search needs
 
 pub undriven-spec : {M : Type 1} → statement M
 undriven-spec =
@@ -63,10 +78,15 @@ undriven-spec =
     read-undriven-requires
     enum-told-6
     enum-told-7
+    read-undriven-requires-2
+    enum-told-8
+    enum-told-9
     returns
     returns-2
     returns-3
     returns-4
     returns-5
     returns-6
-    returns-7)
+    returns-7
+    returns-8
+    returns-9)

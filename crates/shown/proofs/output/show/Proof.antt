@@ -13,8 +13,8 @@ lengths-fit-requires c κs = search needs
 
 show-taken-requires : tie.Need-show-taken-requires
 show-taken-requires c κs =
-    let a = c .before .before .before .before .before .before .args in
-    lengths-out (partOf (a .part)) (length (a .memory .now)) (length (a .bytes .now)) (a .bits) (length (a .out .now))
+    let a = c .before .before .before .before .before .before .before .args in
+    lengths-out (partOf (a .part)) (length (a .memory .now)) (length (a .identification .now)) (length (a .bytes .now)) (a .bits) (length (a .out .now))
     (sym (c .before .before .lengths-fit .ensures) ∙ c .before .if1 .taken)
 
 same-length : tie.Need-same-length

@@ -1,4 +1,4 @@
--- By the instruction: five drive nothing, RDSR shows the status and READ the cells.
+-- By the instruction: six drive nothing, RDSR shows the status, READ the cells, 83h the identification page or its lock.
 use Rattle.laws.specs.Table.{table-replicate}
 use borrow.Author.Needs.{needs}
 use Rattle.shown.proofs.output.show_bytes.Statement.{statement}
@@ -43,8 +43,20 @@ fill-requires-4 c κs = search needs
 enum-told-7 : tie.Need-enum-told-7
 enum-told-7 c = search needs
 
+show-identified-requires : tie.Need-show-identified-requires
+show-identified-requires c κs = search needs
+
+enum-told-8 : tie.Need-enum-told-8
+enum-told-8 c = search needs
+
 fill-requires-5 : tie.Need-fill-requires-5
 fill-requires-5 c κs = search needs
+
+enum-told-9 : tie.Need-enum-told-9
+enum-told-9 c = search needs
+
+fill-requires-6 : tie.Need-fill-requires-6
+fill-requires-6 c κs = search needs
 
 same-length : tie.Need-same-length
 same-length c = search needs
@@ -86,7 +98,19 @@ same-length-7 : tie.Need-same-length-7
 same-length-7 c = search needs
 
 returns-7 : tie.Need-returns-7
-returns-7 c = rw (c .before .before .fill5 .ensures, c .before .before .before .before .enum-told7 .given .1) (table-replicate _ 255)
+returns-7 c = rw (c .before .before .before .before .enum-told7 .given .1) (c .before .before .show-identified .ensures)
+
+same-length-8 : tie.Need-same-length-8
+same-length-8 c = search needs
+
+returns-8 : tie.Need-returns-8
+returns-8 c = rw (c .before .before .fill5 .ensures, c .before .before .before .before .enum-told8 .given .1) (table-replicate _ 255)
+
+same-length-9 : tie.Need-same-length-9
+same-length-9 c = search needs
+
+returns-9 : tie.Need-returns-9
+returns-9 c = rw (c .before .before .fill6 .ensures, c .before .before .before .before .enum-told9 .given .1) (table-replicate _ 255)
 
 pub show-bytes-spec : {M : Type 1} → statement M
 show-bytes-spec =
@@ -105,7 +129,11 @@ show-bytes-spec =
     enum-told-6
     fill-requires-4
     enum-told-7
+    show-identified-requires
+    enum-told-8
     fill-requires-5
+    enum-told-9
+    fill-requires-6
     same-length
     returns
     same-length-2
@@ -119,4 +147,8 @@ show-bytes-spec =
     same-length-6
     returns-6
     same-length-7
-    returns-7)
+    returns-7
+    same-length-8
+    returns-8
+    same-length-9
+    returns-9)

@@ -2,7 +2,7 @@
 use lib.ListN.{length}
 use Rattle.codes.specs.Part.{partOf}
 use Rattle.fields.specs.Bytes.{instruction, address}
-use Rattle.shown.specs.Shown.{byteOut, output}
+use Rattle.shown.specs.Shown.{sights, byteOut, output}
 use Rattle.shown.proofs.Padding.{few-unused, padded-last}
 use native.Mathlib.Omega.{arith}
 use borrow.Author.Needs.{needs}
@@ -23,19 +23,19 @@ mul-pad c = search needs
 
 sub-pad : tie.Need-sub-pad
 sub-pad c =
-    let start = c .before .before .before .before .before .before .before .before .before .before in
+    let start = c .before .before .before .before .before .before .before .before .before .before .before in
     let unused = few-unused (length (start .args .bytes .now)) (start .args .bits) (start .pre .1 .1 .0) in
     unused .0
 
 cast-pad : tie.Need-cast-pad
 cast-pad c =
-    let start = c .before .before .before .before .before .before .before .before .before .before in
+    let start = c .before .before .before .before .before .before .before .before .before .before .before in
     let unused = few-unused (length (start .args .bytes .now)) (start .args .bits) (start .pre .1 .1 .0) in
     omega arith
 
 pad-requires : tie.Need-pad-requires
 pad-requires c κs =
-    let start = c .before .before .before .before .before .before .before .before .before .before in
+    let start = c .before .before .before .before .before .before .before .before .before .before .before in
     let unused = few-unused (length (start .args .bytes .now)) (start .args .bits) (start .pre .1 .1 .0) in
     unused .1
 
@@ -45,11 +45,13 @@ same-length c = search needs
 returns : tie.Need-returns
 unfolding output
 returns c =
-    let start = c .before .before .before .before .before .before .before .before .before .before .before .before .before in
+    let start = c .before .before .before .before .before .before .before .before .before .before .before .before .before .before in
     let a = start .args in
-    rw (c .before .before .pad .ensures, c .before .before .before .before .before .before .show-bytes .ensures, start .pre .1 .1 .1, c .before .before .before .before .before .before .before .before .before .instruction-of .ensures, c .before .before .before .before .before .before .before .before .address-of .ensures)
-    (padded-last (byteOut (partOf (a .part)) (instruction (partOf (a .part)) (a .bytes .now)) (a .ran) (λ j. a .status) (a .memory .now)
-    (address (partOf (a .part)) (a .bytes .now))) (length (a .bytes .now)) (a .bits))
+    let shown = c .before .before .before .before .before .before in
+    rw (c .before .before .pad .ensures, shown .show-bytes .ensures, start .pre .1 .1 .1)
+    (rw (shown .before .before .before .instruction-of .ensures, shown .before .before .address-of .ensures)
+    (padded-last (byteOut (partOf (a .part)) (instruction (partOf (a .part)) (a .bytes .now)) (a .ran)
+    (sights (a .status) (a .lock) (a .memory .now) (a .identification .now)) (address (partOf (a .part)) (a .bytes .now))) (length (a .bytes .now)) (a .bits)))
 
 pub show-taken-spec : {M : Type 1} → statement M
 show-taken-spec =

@@ -1,0 +1,78 @@
+-- The lock over frames and readings: it changes only where a cycle of its own ends, never opens, and waits only once a frame that sets it is executed. A
+-- page that is locked while none waits never changes, and none comes to wait.
+use mathlib.Core.Path.{_≡_, refl, ap, _∙_}
+use mathlib.Core.Bool.{Bool, false, _&&_}
+use mathlib.Core.List.{List, [], _∷_}
+use Prim.Native.Nat.{ℕ}
+use lib.ListN.{getD}
+use Rattle.laws.specs.Pick.{pick, pick-case, pick-same, at-no, and-no-right}
+use Rattle.laws.specs.And.{and-other, or-none-out}
+use Rattle.codes.specs.Part.{Part}
+use Rattle.codes.specs.Instructions.{isWrid, picksLock}
+use Rattle.codes.specs.Verdicts.{isExecuted}
+use Rattle.chip.specs.Records.{running, waitsLock}
+use Rattle.chip.specs.Time.{ends}
+use Rattle.chip.specs.declared.Core.{Core}
+use Rattle.chip.proofs.Kept.{effect-lock}
+use Rattle.chip.proofs.Passing.{lock-rule}
+use Rattle.chip.proofs.Locking.{Locked, locked-effect, locked-timed, locked-cells, effect-awaits-lock, timed-awaits-lock}
+use Rattle.fields.specs.Bytes.{instruction, address, written}
+use Rattle.frames.specs.After.{judged, after}
+use Rattle.frames.specs.Play.{Act, frame, reading, FrameBench, acted, actedAll, setsIt, setsAny}
+
+-- a frame leaves the lock, a reading sets it where its cycle ends
+after-lock : (P : Part) (ran w : Bool) (c : Core) (s : List ℕ) (n : ℕ) → after P ran w c s n .lock ≡ c .lock
+after-lock P ran w c s n =
+    pick-case (λ (x : Core). x .lock ≡ c .lock) (isExecuted (judged P ran w c s n))
+    (λ e. effect-lock P (instruction P s) (address P s) (getD s 1 0) (written P s) c) (λ e. refl)
+
+-- ---- it never opens
+
+acted-open : (P : Part) (a : Act) (d : FrameBench) → d .core .lock ≡ 1 → acted P a d .core .lock ≡ 1
+acted-open P (frame w s n) d k = after-lock P (running (d .core)) w (d .core) s n ∙ k
+acted-open P (reading t) d k =
+    lock-rule P t (d .core) ∙ ap (pick (ends t (d .core) && waitsLock (d .core .waits)) 1) k ∙ pick-same _ 1
+
+pub lock-stays : (P : Part) (acts : List Act) (d : FrameBench) → d .core .lock ≡ 1 → actedAll P acts d .core .lock ≡ 1
+lock-stays P [] d k = k
+lock-stays P (a ∷ acts) d k = lock-stays P acts (acted P a d) (acted-open P a d k)
+
+-- ---- a page that is locked while none waits
+
+acted-locked : (P : Part) (a : Act) (d : FrameBench) → Locked (d .core) → Locked (acted P a d .core) × (acted P a d .identification ≡ d .identification)
+acted-locked P (frame w s n) d k = (
+  pick-case Locked (isExecuted (judged P (running (d .core)) w (d .core) s n))
+      (λ e. locked-effect P (address P s) (getD s 1 0) _ n _ _ _ _ (written P s) (d .core) k (instruction P s) e) (λ e. k),
+  refl,
+)
+acted-locked P (reading t) d k = (locked-timed P t (d .core) k, locked-cells P t (d .core) k (d .identification))
+
+pub locked-page : (P : Part) (acts : List Act) (d : FrameBench) → Locked (d .core)
+    → Locked (actedAll P acts d .core) × (actedAll P acts d .identification ≡ d .identification)
+locked-page P [] d k = (k, refl)
+locked-page P (a ∷ acts) d k =
+    let one = acted-locked P a d k in
+    let again = locked-page P acts (acted P a d) (one .0) in
+    (again .0, again .1 ∙ one .1)
+
+-- ---- a lock that does not wait, and that no frame executed in the list sets, is as it was
+
+acted-awaits-lock : (P : Part) (a : Act) (d : FrameBench) → waitsLock (d .core .waits) ≡ false → setsIt P a (d .core) ≡ false
+    → waitsLock (acted P a d .core .waits) ≡ false
+acted-awaits-lock P (frame w s n) d h none =
+    pick-case (λ (x : Core). waitsLock (x .waits) ≡ false) (isExecuted (judged P (running (d .core)) w (d .core) s n))
+    (λ e. effect-awaits-lock P (instruction P s) (address P s) (getD s 1 0) (written P s) (d .core)
+    (and-other (isExecuted (judged P (running (d .core)) w (d .core) s n)) (isWrid (instruction P s) && picksLock (address P s)) none e) h)
+    (λ e. h)
+acted-awaits-lock P (reading t) d h none = timed-awaits-lock P t (d .core) h
+
+acted-lock : (P : Part) (a : Act) (d : FrameBench) → waitsLock (d .core .waits) ≡ false → acted P a d .core .lock ≡ d .core .lock
+acted-lock P (frame w s n) d h = after-lock P (running (d .core)) w (d .core) s n
+acted-lock P (reading t) d h = lock-rule P t (d .core) ∙ at-no _ _ (and-no-right (ends t (d .core)) (waitsLock (d .core .waits)) h)
+
+pub acted-all-lock : (P : Part) (acts : List Act) (d : FrameBench) → waitsLock (d .core .waits) ≡ false → setsAny P acts d ≡ false
+    → actedAll P acts d .core .lock ≡ d .core .lock
+acted-all-lock P [] d h none = refl
+acted-all-lock P (a ∷ acts) d h none =
+    let two = or-none-out (setsIt P a (d .core)) (setsAny P acts (acted P a d)) none in
+    acted-all-lock P acts (acted P a d) (acted-awaits-lock P a d h (two .0)) (two .1) ∙ acted-lock P a d h

@@ -1,0 +1,196 @@
+-- The lock over events: it changes only where a cycle of its own ends, never opens, and waits only once a frame that sets it is accepted. A page that is
+-- locked while none waits never changes, and none comes to wait.
+use mathlib.Core.Path.{_≡_, refl, ap, sym, _∙_}
+use mathlib.Core.List.{List, [], _∷_}
+use mathlib.Core.Bool.{Bool, true, false, not, _&&_, _||_}
+use Prim.Native.Nat.{ℕ}
+use lib.Dec.{eqb}
+use Rattle.laws.specs.Pick.{pick, pick-case, pick-same, at-no, and-both, and-no-left, and-no-right}
+use Rattle.laws.specs.And.{and-other, or-none-out, or-none-in}
+use Rattle.codes.specs.Part.{Part}
+use Rattle.codes.specs.Status.{bit, on}
+use Rattle.codes.specs.Instructions.{decode, isWrid, picksLock}
+use Rattle.codes.specs.Verdicts.{isExecuted}
+use Rattle.codes.specs.declared.Instruction.{Instruction}
+use Rattle.codes.specs.declared.Instruction.the-variants.{Wren, Wrdi, Rdsr, Wrsr, Read, Write, Rdid, Wrid, Silence}
+use Rattle.codes.proofs.Sound.{Sound}
+use Rattle.chip.specs.Lents.{Lent}
+use Rattle.chip.specs.Records.{waitsIdentification, waitsLock}
+use Rattle.chip.specs.Time.{ends, timed}
+use Rattle.chip.specs.Cells.{identificationCells, writer}
+use Rattle.chip.specs.declared.Core.{Core}
+use Rattle.chip.proofs.Kept.{effect-lock}
+use Rattle.chip.proofs.Passing.{lock-rule}
+use Rattle.chip.proofs.Locking.{Locked, locked-effect, locked-timed, locked-cells, effect-awaits-lock, timed-awaits-lock}
+use Rattle.pins.specs.declared.Device.{Device}
+use Rattle.pins.specs.declared.Event.{Event}
+use Rattle.pins.specs.declared.Event.the-variants.{S, C, D, W, Hold, Time}
+use Rattle.pins.specs.Devices.{withC, withPins, selected, counting}
+use Rattle.pins.specs.Ranges.{deviceFits}
+use Rattle.pins.specs.Events.{judgedNow, executedNow, decided, renewed, onS, onC, onD, onW, onHold, onTime, stepped, steppedIdentification, eventOf}
+use Rattle.pins.specs.Answers.{PinBench, lentTo, afterEvent, played}
+use Rattle.pins_theorems.specs.Cells.{endsCycle}
+use Rattle.pins_theorems.specs.Hands.{Hand, noHand, handAfter, codeOf, startOf}
+use Rattle.pins_theorems.specs.Locks.{locks, acceptsLock, acceptedLock}
+use Rattle.pins_theorems.proofs.Parts.{parts}
+use Rattle.pins_theorems.proofs.Fits.{Sized, stepped-fits, stepped-sized}
+use Rattle.pins_theorems.proofs.Accepted.{Clocked, picks-start, event-clocked, unselected-clocked}
+
+-- ---- the record after an event: S rising may execute a frame, a reading passes time, and every other event leaves it
+
+module _ (P : Part) (x : Device) where
+  on-s-core : (Q : Core → Type 0) → Q (x .core) → (on (x .pins .s) ≡ false → isExecuted (judgedNow P x) ≡ true → Q (executedNow P x))
+      → Q (onS P true x .core)
+  unfolding onS pick
+  on-s-core Q stays does =
+      pick-case (λ (y : Device). Q (y .core)) (eqb (x .pins .s) 1) (λ s. stays)
+      (λ s. pick-case Q (isExecuted (judgedNow P x)) (λ e. does s e) (λ e. stays))
+
+  on-c-core : (Q : Core → Type 0) → Q (x .core) → (level : Bool) (m : Lent) → Q (onC P level m x .core)
+  unfolding onC
+  on-c-core Q stays level m =
+      pick-case (λ (y : Device). Q (y .core)) (eqb (x .pins .c) (bit level)) (λ e. stays)
+      (λ e. pick-case (λ (y : Device). Q (y .core)) level
+      (λ l. pick-case (λ (y : Device). Q (withPins (withC 1 (x .pins)) y .core)) (counting x) (λ n. stays) (λ n. stays))
+      (λ l. pick-case (λ (y : Device). Q (renewed (withPins (withC 0 (x .pins)) y) .core)) (counting x) (λ n. stays) (λ n. stays)))
+
+  on-select-core : (Q : Core → Type 0) → Q (x .core) → Q (onS P false x .core)
+  unfolding onS pick
+  on-select-core Q stays = pick-case (λ (y : Device). Q (y .core)) (eqb (x .pins .s) 0) (λ e. stays) (λ e. stays)
+
+  on-hold-core : (Q : Core → Type 0) → Q (x .core) → (level : Bool) → Q (onHold level x .core)
+  unfolding onHold
+  on-hold-core Q stays level = pick-case (λ (y : Device). Q (y .core)) (on (x .pins .c)) (λ e. stays) (λ e. stays)
+
+  pub stepped-core : (Q : Event → Core → Type 0) → ((e : Event) → endsCycle e (x .core) ≡ false → Q e (x .core))
+      → (on (x .pins .s) ≡ false → isExecuted (judgedNow P x) ≡ true → Q (S true) (executedNow P x)) → ((t : ℕ) → Q (Time t) (timed P t (x .core)))
+      → (m : Lent) (e : Event) → Q e (stepped P m e x .core)
+  unfolding onD onW onTime
+  stepped-core Q stays does passes m (S true) = on-s-core (Q (S true)) (stays (S true) refl) does
+  stepped-core Q stays does passes m (S false) = on-select-core (Q (S false)) (stays (S false) refl)
+  stepped-core Q stays does passes m (C level) = on-c-core (Q (C level)) (stays (C level) refl) level m
+  stepped-core Q stays does passes m (D level) = stays (D level) refl
+  stepped-core Q stays does passes m (W level) = stays (W level) refl
+  stepped-core Q stays does passes m (Hold level) = on-hold-core (Q (Hold level)) (stays (Hold level) refl) level
+  stepped-core Q stays does passes m (Time t) = passes t
+
+-- ---- the lock never opens
+
+executed-lock : (P : Part) (x : Device) → executedNow P x .lock ≡ x .core .lock
+executed-lock P x = effect-lock P (decode P (x .frame .code)) (x .frame .address) (x .frame .value) (x .frame .latch) (x .core)
+
+never-opens : (P : Part) (x : Device) → x .core .lock ≡ 1 → (m : Lent) (e : Event) → stepped P m e x .core .lock ≡ 1
+never-opens P x k =
+    stepped-core P x (λ e c. c .lock ≡ 1) (λ e n. k) (λ s e. executed-lock P x ∙ k)
+    (λ t. lock-rule P t (x .core) ∙ ap (pick (ends t (x .core) && waitsLock (x .core .waits)) 1) k ∙ pick-same _ 1)
+
+pub lock-stays : (P : Part) (es : List ℕ) (b : PinBench) → b .device .core .lock ≡ 1 → played P es b .device .core .lock ≡ 1
+unfolding played
+lock-stays P [] b k = k
+lock-stays P (e ∷ es) b k = lock-stays P es (afterEvent P e b) (never-opens P (b .device) k (lentTo b) (eventOf e))
+
+-- ---- a page that is locked while none waits
+
+module _ (P : Part) (x : Device) (k : Locked (x .core)) where
+  stepped-locked : (m : Lent) (e : Event) → Locked (stepped P m e x .core)
+  stepped-locked =
+      stepped-core P x (λ e c. Locked c) (λ e n. k)
+      (λ s e. locked-effect P (x .frame .address) (x .frame .value) (x .frame .value) _ _ _ _ _ (x .frame .latch) (x .core) k
+      (decode P (x .frame .code)) e)
+      (λ t. locked-timed P t (x .core) k)
+
+  stepped-page : (d : List ℕ) (e : Event) → steppedIdentification P e x d ≡ d
+  stepped-page d (S level) = refl
+  stepped-page d (C level) = refl
+  stepped-page d (D level) = refl
+  stepped-page d (W level) = refl
+  stepped-page d (Hold level) = refl
+  stepped-page d (Time t) = locked-cells P t (x .core) k d
+
+-- never changes, and none comes to wait, over any list of events
+pub locked-page : (P : Part) (es : List ℕ) (b : PinBench) → Locked (b .device .core)
+    → Locked (played P es b .device .core) × (played P es b .identification ≡ b .identification)
+unfolding played
+locked-page P [] b k = (k, refl)
+locked-page P (e ∷ es) b k =
+    let again = locked-page P es (afterEvent P e b) (stepped-locked P (b .device) k (lentTo b) (eventOf e)) in
+    (again .0, again .1 ∙ stepped-page P (b .device) k (b .identification) (eventOf e))
+
+-- ---- the lock changes only where a cycle of its own ends ..
+
+pub event-lock : (P : Part) (x : Device) (m : Lent) (e : Event)
+    → stepped P m e x .core .lock ≡ pick (endsCycle e (x .core) && waitsLock (x .core .waits)) 1 (x .core .lock)
+event-lock P x =
+    stepped-core P x (λ e c. c .lock ≡ pick (endsCycle e (x .core) && waitsLock (x .core .waits)) 1 (x .core .lock))
+    (λ e n. sym (at-no _ _ (and-no-left (endsCycle e (x .core)) (waitsLock (x .core .waits)) n)))
+    (λ s e. executed-lock P x ∙ sym (at-no _ _ refl)) (λ t. lock-rule P t (x .core))
+
+-- .. and waits only once a frame that sets it is executed
+
+event-awaits-lock : (P : Part) (x : Device) → waitsLock (x .core .waits) ≡ false → (m : Lent) (e : Event) → locks P e x ≡ false
+    → waitsLock (stepped P m e x .core .waits) ≡ false
+event-awaits-lock P x h =
+    stepped-core P x (λ e c. locks P e x ≡ false → waitsLock (c .waits) ≡ false) (λ e n none. h)
+    (λ s e none.
+    let f = x .frame in
+    let sets = isWrid (decode P (f .code)) && picksLock (f .address) in
+    effect-awaits-lock P (decode P (f .code)) (f .address) (f .value) (f .latch) (x .core)
+    (and-other (not (on (x .pins .s)) && isExecuted (judgedNow P x)) sets none
+    (and-both (not (on (x .pins .s))) (isExecuted (judgedNow P x)) (ap not s) e)) h)
+    (λ t none. timed-awaits-lock P t (x .core) h)
+
+-- ---- by the accepted frame: the code and the address are those clocked in since its select
+
+wrid-writer : (j : Instruction) → isWrid j ≡ writer identificationCells j
+wrid-writer Wren = refl
+wrid-writer Wrdi = refl
+wrid-writer Rdsr = refl
+wrid-writer Wrsr = refl
+wrid-writer Read = refl
+wrid-writer Write = refl
+wrid-writer Rdid = refl
+wrid-writer Wrid = refl
+wrid-writer Silence = refl
+
+module _ (P : Part) (sound : Sound P) where
+  -- a frame in hand sets the lock where its bytes do
+  sets-same : (x : Device) (h : Hand) → Clocked identificationCells P 0 h (x .frame)
+      → (isWrid (decode P (x .frame .code)) && picksLock (x .frame .address))
+      ≡ (isWrid (decode P (codeOf (h .bytes))) && picksLock (startOf P (h .bytes)))
+  sets-same x h c =
+      go (isWrid (decode P (x .frame .code))) refl ∙ ap (λ (n : ℕ). isWrid (decode P n) && picksLock (startOf P (h .bytes))) (c .code)
+    where
+      j : Instruction
+      j = decode P (x .frame .code)
+
+      go : (b : Bool) → isWrid j ≡ b → (isWrid j && picksLock (x .frame .address)) ≡ (isWrid j && picksLock (startOf P (h .bytes)))
+      go true q = ap (λ (t : Bool). isWrid j && t) (ap picksLock (c .address (sym (wrid-writer j) ∙ q)) ∙ picks-start P sound (h .bytes))
+      go false q = and-no-left (isWrid j) (picksLock (x .frame .address)) q ∙ sym (and-no-left (isWrid j) (picksLock (startOf P (h .bytes))) q)
+
+  unaccepted-lock : (x : Device) (h : Hand) → Clocked identificationCells P 0 h (x .frame) → (e : Event) → acceptsLock P e x h ≡ false → locks P e x ≡ false
+  unaccepted-lock x h c (S level) none =
+      ap (λ (t : Bool). level && not (on (x .pins .s)) && isExecuted (judgedNow P x) && t) (sets-same x h c) ∙ none
+  unaccepted-lock x h c (C level) none = refl
+  unaccepted-lock x h c (D level) none = refl
+  unaccepted-lock x h c (W level) none = refl
+  unaccepted-lock x h c (Hold level) none = refl
+  unaccepted-lock x h c (Time t) none = refl
+
+  accepted-lock-from : (es : List ℕ) (b : PinBench) (h : Hand) → Sized P (b .device) → deviceFits P (b .device) ≡ true
+      → Clocked identificationCells P 0 h (b .device .frame) → waitsLock (b .device .core .waits) ≡ false → acceptedLock P es b h ≡ false
+      → played P es b .device .core .lock ≡ b .device .core .lock
+  unfolding played acceptedLock
+  accepted-lock-from [] b h sized fits c a none = refl
+  accepted-lock-from (e ∷ es) b h sized fits c a none =
+      let x = b .device in
+      let two = or-none-out (acceptsLock P (eventOf e) x h) (acceptedLock P es (afterEvent P e b) (handAfter (eventOf e) x h)) none in
+      accepted-lock-from es (afterEvent P e b) (handAfter (eventOf e) x h) (stepped-sized P x sized (lentTo b) (eventOf e))
+      (stepped-fits P sound x sized fits (lentTo b) (eventOf e)) (event-clocked identificationCells P sound 0 x h (parts P x fits) c (lentTo b) (eventOf e))
+      (event-awaits-lock P x a (lentTo b) (eventOf e) (unaccepted-lock x h c (eventOf e) (two .0))) (two .1)
+      ∙ event-lock P x (lentTo b) (eventOf e) ∙ at-no _ _ (and-no-right (endsCycle (eventOf e) (x .core)) (waitsLock (x .core .waits)) a)
+
+  -- a lock that does not wait, and that no frame accepted in the list sets by the bytes since its own select, is as it was
+  pub accepted-lock : (es : List ℕ) (b : PinBench) → Sized P (b .device) → deviceFits P (b .device) ≡ true → selected (b .device) ≡ false
+      → waitsLock (b .device .core .waits) ≡ false → acceptedLock P es b noHand ≡ false → played P es b .device .core .lock ≡ b .device .core .lock
+  accepted-lock es b sized fits s a none =
+      accepted-lock-from es b noHand sized fits (unselected-clocked identificationCells P sound 0 (b .device) fits s) a none
