@@ -99,7 +99,8 @@ risingDeed P x =
 abbrev pub deedOf : Part → Event → Device → Deed
 deedOf P (S level) x =
     pick (eqb (x .pins .s) (bit level)) keep
-    (pick level (pick (isExecuted (judgedNow P x)) (executedDeed (decode P (x .frame .code)) (x .frame .address)) empty) empty)
+    (pick level
+    (pick (isExecuted (judgedNow P x)) (executedDeed (decode P (x .frame .code)) (x .frame .address)) empty) empty)
 deedOf P (C level) x =
     pick (eqb (x .pins .c) (bit level)) keep (pick level (pick (counting x) (risingDeed P x) keep) keep)
 deedOf P (D level) x = keep
