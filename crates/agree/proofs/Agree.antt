@@ -24,7 +24,7 @@ use Rattle.shown.specs.Shown.{Sights, sights, byteOut, output}
 use Rattle.shown.proofs.Padding.{few-unused}
 use Rattle.frames.specs.After.{after}
 use Rattle.frames.specs.Answers.{frameOutcome, framed, framedOutput}
-use Rattle.frames.specs.Play.{frame, FrameBench, frameBench, acted}
+use Rattle.frames.specs.Play.{frame, FrameBench, acted}
 use Rattle.frames.proofs.Kept.{after-within}
 use Rattle.pins.specs.declared.Pins.{Pins}
 use Rattle.pins.specs.declared.Device.{Device}
@@ -39,6 +39,7 @@ use Rattle.agree.specs.Reports.{shared, asOne, watched, outputBits, leve
 use Rattle.codes.proofs.Sound.{Sound, sound-of}
 use Rattle.laws.specs.Flags.{bit-on}
 use Rattle.agree.proofs.Ticks.{seenOf, endOf, decides}
+use Rattle.agree.proofs.Steps.{steady, steady-still}
 use Rattle.agree.proofs.Bytes.{onQ, shown-bit, none, seen-bytes, end-bytes}
 use Rattle.agree.proofs.Seen.{seen-table}
 use Rattle.agree.proofs.Ends.{end-table}
@@ -71,8 +72,8 @@ module _ (P : Part) (sound : Sound P) where
     frame-seen : seenOf asOne P m c (noFrame P) (bitsOf s n) ≡ bitsOf (framedOutput P c (m .memory) (m .identification) s n (replicate (length s) 0)) n
     frame-seen =
         let few = few-unused (length s) n (sendable .counted) in
-        seen-bytes P sound m c asOne onQ shown-bit s n (noFrame P) none (sendable .bytes)
-        ∙ ap (λ l. take n (flat l)) (seen-table P sound m c s)
+        seen-bytes P sound m c asOne onQ shown-bit s n 0 (noFrame P) none (sendable .bytes)
+        ∙ ap (λ l. take n (flat l)) (seen-table P sound (steady m c) m (lockByte c) (steady-still m c) s)
         ∙ sym (ap (λ l. take n (flat l)) framed-output ∙ padding (few .0) (few .1))
       where
         shown : ℕ → ℕ
@@ -91,8 +92,8 @@ module _ (P : Part) (sound : Sound P) where
     frame-core : decides P c w (endOf P m c (noFrame P) (bitsOf s n)) ≡ after P (running c) w c s n
     frame-core =
         let few = few-unused (length s) n (sendable .counted) in
-        end-bytes P sound m c s n (noFrame P) w none (sendable .bytes) (few .0)
-        ∙ end-table P sound m c w s n (few .0) (omega arith)
+        end-bytes P sound m c s n 0 (noFrame P) w none (sendable .bytes) (few .0)
+        ∙ end-table P sound (steady m c) c w s n (few .0) (omega arith)
 
   -- ---- the start: an unselected device inside its ranges
 

@@ -12,13 +12,11 @@ use native.Mathlib.Omega.{arith}
 use Rattle.laws.specs.Pick.{pick, at-yes, at-no, and-both}
 use Rattle.codes.specs.Part.{Part}
 use Rattle.codes.specs.Status.{bit, on, bitOf}
-use Rattle.latch.specs.Latches.{noLatch}
 use Rattle.chip.specs.Lents.{Lent}
 use Rattle.chip.specs.Records.{running}
 use Rattle.codes.specs.Instructions.{decode}
 use Rattle.chip.specs.declared.Core.{Core}
 use Rattle.latch.specs.declared.Latch.{Latch}
-use Rattle.codes.specs.declared.Instruction.{Instruction}
 use Rattle.edges.specs.declared.Frame.{Frame}
 use Rattle.edges.specs.declared.Level.{Level}
 use Rattle.edges.specs.declared.Level.the-variants.{Zero, One}
@@ -31,7 +29,8 @@ use Rattle.agree.specs.Reports.{asOne}
 use Rattle.codes.proofs.Sound.{Sound}
 use Rattle.laws.specs.Flags.{on-bit, bit-on, bit-small}
 use Rattle.agree.proofs.Ticks.{tick, shows, seenOf, endOf, decidesAt, decides}
-use Rattle.agree.proofs.Steps.{shownAt, midByte, stepByte, afterBytes, drives, afterFall, addressOf, valueOf, latchOf, first-is, step-is}
+use Rattle.agree.proofs.Steps.{shownAt, midByte, Course, steady, stepByte, afterBytes, drives}
+use Rattle.agree.proofs.Steps.{drivesOf, step, bytesSeen, bytesEnd, step-first, step-more}
 
 -- ---- the bits of a byte, joined
 
@@ -130,9 +129,12 @@ shownBits v k zero = []
 shownBits v k (suc n) = on (bitOf (7 - k) v) ∷ shownBits v (suc k) n
 
 module _ (P : Part) (sound : Sound P) (m : Lent) (c : Core) where
-  -- in data output
-  abbrev pub drivesOf : Frame → Bool
-  drivesOf f = outputs P (decode P (f .code)) (f .taken) (on (f .ran))
+  -- one record throughout the frame
+  abbrev T : Course
+  T = steady m c
+
+  abbrev drivesNow : Frame → Bool
+  drivesNow f = drivesOf P sound T f
 
   -- ---- one of the first seven ticks
 
@@ -150,7 +152,7 @@ module _ (P : Part) (sound : Sound P) (m : Lent) (c : Core) where
       at-yes _ _ (lt-ltb k 7 h)
       ∙ ap₂ (λ n v. withOut (f .out) (shownAt b k) (withBits n v f)) next (shifted d a l)
 
-  mid-fall : (b : Bool) (f : Frame) (k a : ℕ) → drivesOf f ≡ b → k < 7 → fallen P m c (rose b k a f) ≡ midByte b (suc k) a f
+  mid-fall : (b : Bool) (f : Frame) (k a : ℕ) → drivesNow f ≡ b → k < 7 → fallen P m c (rose b k a f) ≡ midByte b (suc k) a f
   unfolding fallen
   mid-fall true f k a e h =
       let next : suc k + 1 ≡ suc (suc k) = omega arith in
@@ -159,13 +161,13 @@ module _ (P : Part) (sound : Sound P) (m : Lent) (c : Core) where
       ∙ ap (λ n. withOut (f .out) n (withBits (suc k) a f)) next
   mid-fall false f k a e h = at-no _ _ e
 
-  mid-tick : (b d : Bool) (f : Frame) (k a : ℕ) → drivesOf f ≡ b → k < 7 → a < 128 → tick P m c d (midByte b k a f) ≡ midByte b (suc k) (2 * a + bit d) f
+  mid-tick : (b d : Bool) (f : Frame) (k a : ℕ) → drivesNow f ≡ b → k < 7 → a < 128 → tick P m c d (midByte b k a f) ≡ midByte b (suc k) (2 * a + bit d) f
   mid-tick b d f k a e h l = ap (fallen P m c) (mid-rise b d f k a h l) ∙ mid-fall b f k (2 * a + bit d) e h
 
   -- the eighth: the byte v is whole
-  last-tick : (b d : Bool) (f : Frame) (a v : ℕ) → 2 * a + bit d ≡ v → v < 256 → tick P m c d (midByte b 7 a f) ≡ stepByte P sound m c b v f
+  last-tick : (j : ℕ) (b d : Bool) (f : Frame) (a v : ℕ) → 2 * a + bit d ≡ v → v < 256 → tick P m c d (midByte b 7 a f) ≡ stepByte P sound T j b v f
   unfolding risen wholeByte stepByte
-  last-tick b d f a v e h =
+  last-tick j b d f a v e h =
       let whole : shiftedIn a (bit d) ≡ v = rw (on-bit d, e) (mod-eq-of-lt h) in
       ap (fallen P m c) (at-no _ _ (le-ltb 7 7 (omega arith)) ∙ ap (λ x. wholeByte P (running c) x (midByte b 7 a f)) whole)
 
@@ -184,7 +186,7 @@ module _ (P : Part) (sound : Sound P) (m : Lent) (c : Core) where
   twice-below : (k a : ℕ) (d : Bool) → a < 2 ^ k → 2 * a + bit d < 2 ^ suc k
   twice-below k a d h = omega (arith, bit-small d, pow-suc 2 k)
 
-  mid-end : (bs rest : List Bool) (b : Bool) (f : Frame) (k a : ℕ) → drivesOf f ≡ b → k + length bs ≤ 7 → a < 2 ^ k
+  mid-end : (bs rest : List Bool) (b : Bool) (f : Frame) (k a : ℕ) → drivesNow f ≡ b → k + length bs ≤ 7 → a < 2 ^ k
       → endOf P m c (midByte b k a f) (bs ++ rest) ≡ endOf P m c (midByte b (k + length bs) (joined a bs) f) rest
   unfolding endOf joined
   mid-end [] rest b f k a e h l = ap (λ n. endOf P m c (midByte b n a f) rest) (omega arith)
@@ -194,49 +196,25 @@ module _ (P : Part) (sound : Sound P) (m : Lent) (c : Core) where
       ∙ mid-end bs rest b f (suc k) (2 * a + bit d) e (omega arith) (twice-below k a d l)
       ∙ ap (λ n. endOf P m c (midByte b n (joined (2 * a + bit d) bs) f) rest) next
 
-  -- ---- a frame, byte by byte
-
-  unfoldable pub step : ℕ → Frame → Frame
-  step v f = stepByte P sound m c (drivesOf f) v f
-
-  unfoldable pub bytesSeen : (Bool → Frame → ℕ) → Frame → List ℕ → List ℕ
-  bytesSeen over f [] = []
-  bytesSeen over f (v ∷ vs) = over (drivesOf f) f ∷ bytesSeen over (step v f) vs
-
-  unfoldable pub bytesEnd : Frame → List ℕ → Frame
-  bytesEnd f [] = f
-  bytesEnd f (v ∷ vs) = bytesEnd (step v f) vs
-
-  pub step-first : (i : Instruction) (v : ℕ) → decode P v ≡ i → step v (noFrame P) ≡ afterFall P sound m c i v 1 0 0 0 (noLatch P)
-  unfolding step decode pick
-  step-first i v e = first-is P sound m c i v e
-
-  pub step-more : (i : Instruction) (u v j a x o z : ℕ) (l : Latch) → decode P v ≡ i → 1 ≤ j
-      → let n = min (P .most) j in
-      step u (afterBytes P sound m c v j a x o z l) ≡ afterFall P sound m c i v (suc j) (addressOf P i n u a) (valueOf P i n u a x) o (latchOf P i n u a l)
-  unfolding step
-  step-more i u v j a x o z l e k =
-      ap₂ (λ d r. stepByte P sound m c (outputs P d (min (P .most) j) r) u (afterBytes P sound m c v j a x o z l)) e (on-bit (running c))
-      ∙ step-is P sound m c i u v j a x o z l e k
-
   -- a byte's start: no bit taken, and nothing or the first bit shown
-  pub data Reached : Frame → Type 0 where
-    none : Reached (noFrame P)
-    some : (v j a x o : ℕ) (l : Latch) → 1 ≤ j → Reached (afterBytes P sound m c v j a x o (shownAt (drives P sound m c (decode P v) j) 0) l)
+  pub data Reached : ℕ → Frame → Type 0 where
+    none : Reached 0 (noFrame P)
+    some : (v j a x o : ℕ) (l : Latch) → 1 ≤ j → Reached j (afterBytes P sound T v j a x o (shownAt (drives P sound T (decode P v) j) 0) l)
 
-  as-mid : (f : Frame) → Reached f → f ≡ midByte (drivesOf f) 0 0 f
-  as-mid f none = unfold decode pick in refl
-  as-mid f (some v j a x o l h) =
-      ap (λ r. afterBytes P sound m c v j a x o (shownAt (outputs P (decode P v) (min (P .most) j) r) 0) l) (sym (on-bit (running c)))
+  as-mid : (j : ℕ) (f : Frame) → Reached j f → f ≡ midByte (drivesNow f) 0 0 f
+  as-mid j f none = unfold decode pick in refl
+  as-mid k f (some v j a x o l h) =
+      ap (λ r. afterBytes P sound T v j a x o (shownAt (outputs P (decode P v) (min (P .most) j) r) 0) l) (sym (on-bit (running c)))
 
-  reached-step : (u : ℕ) (f : Frame) → Reached f → Reached (step u f)
-  reached-step u f none = subst⁻¹ Reached (step-first (decode P u) u refl) (some u 1 _ _ _ _ (omega arith))
-  reached-step u f (some v j a x o l h) = subst⁻¹ Reached (step-more (decode P v) u v j a x o _ l refl h) (some v (suc j) _ _ _ _ (omega arith))
+  reached-step : (u j : ℕ) (f : Frame) → Reached j f → Reached (suc j) (step P sound T j u f)
+  reached-step u j f none = subst⁻¹ (Reached 1) (step-first P sound T (decode P u) u refl) (some u 1 _ _ _ _ (omega arith))
+  reached-step u k f (some v j a x o l h) =
+      subst⁻¹ (Reached (suc j)) (step-more P sound T (decode P v) u v j a x o _ l refl h) (some v (suc j) _ _ _ _ (omega arith))
 
   -- what is seen of the ticks: look of each level, and the byte that has those bits over a byte of the frame
   module _ (look : Level → Bool) (over : Bool → Frame → ℕ)
       (looks : (b : Bool) (k a : ℕ) (f : Frame) → k ≤ 7 → look (shows (midByte b k a f)) ≡ on (bitOf (7 - k) (over b f))) where
-    mid-seen : (bs rest : List Bool) (b : Bool) (f : Frame) (k a : ℕ) → drivesOf f ≡ b → k + length bs ≤ 7 → a < 2 ^ k
+    mid-seen : (bs rest : List Bool) (b : Bool) (f : Frame) (k a : ℕ) → drivesNow f ≡ b → k + length bs ≤ 7 → a < 2 ^ k
         → seenOf look P m c (midByte b k a f) (bs ++ rest)
         ≡ shownBits (over b f) k (length bs) ++ seenOf look P m c (midByte b (k + length bs) (joined a bs) f) rest
     unfolding seenOf joined shownBits
@@ -248,73 +226,75 @@ module _ (P : Part) (sound : Sound P) (m : Lent) (c : Core) where
         ∙ mid-seen bs rest b f (suc k) (2 * a + bit d) e (omega arith) (twice-below k a d l)
         ∙ ap (λ n. shownBits (over b f) (suc k) (length bs) ++ seenOf look P m c (midByte b n (joined (2 * a + bit d) bs) f) rest) next)
 
-    cons-seen : (f : Frame) (v : ℕ) (vs : List ℕ) (n : ℕ) → v < 256
-        → ((k : ℕ) → seenOf look P m c (step v f) (take k (flat vs)) ≡ take k (flat (bytesSeen over (step v f) vs)))
-        → seenOf look P m c (midByte (drivesOf f) 0 0 f) (take n (flat (v ∷ vs))) ≡ take n (flat (bytesSeen over f (v ∷ vs)))
+    cons-seen : (j : ℕ) (f : Frame) (v : ℕ) (vs : List ℕ) (n : ℕ) → v < 256
+        → ((k : ℕ) → seenOf look P m c (step P sound T j v f) (take k (flat vs)) ≡ take k (flat (bytesSeen P sound T over (suc j) (step P sound T j v f) vs)))
+        → seenOf look P m c (midByte (drivesNow f) 0 0 f) (take n (flat (v ∷ vs))) ≡ take n (flat (bytesSeen P sound T over j f (v ∷ vs)))
     unfolding flat bytesSeen seenOf shownBits step
-    cons-seen f v vs zero h ih = mid-seen ([]) [] (drivesOf f) f 0 0 refl (omega arith) (omega arith)
-    cons-seen f v vs (suc zero) h ih = mid-seen (take 1 (high7 v)) [] (drivesOf f) f 0 0 refl (omega arith) (omega arith)
-    cons-seen f v vs (suc (suc zero)) h ih = mid-seen (take 2 (high7 v)) [] (drivesOf f) f 0 0 refl (omega arith) (omega arith)
-    cons-seen f v vs (suc (suc (suc zero))) h ih = mid-seen (take 3 (high7 v)) [] (drivesOf f) f 0 0 refl (omega arith) (omega arith)
-    cons-seen f v vs (suc (suc (suc (suc zero)))) h ih = mid-seen (take 4 (high7 v)) [] (drivesOf f) f 0 0 refl (omega arith) (omega arith)
-    cons-seen f v vs (suc (suc (suc (suc (suc zero))))) h ih = mid-seen (take 5 (high7 v)) [] (drivesOf f) f 0 0 refl (omega arith) (omega arith)
-    cons-seen f v vs (suc (suc (suc (suc (suc (suc zero)))))) h ih = mid-seen (take 6 (high7 v)) [] (drivesOf f) f 0 0 refl (omega arith) (omega arith)
-    cons-seen f v vs (suc (suc (suc (suc (suc (suc (suc zero))))))) h ih = mid-seen (high7 v) [] (drivesOf f) f 0 0 refl (omega arith) (omega arith)
-    cons-seen f v vs (suc (suc (suc (suc (suc (suc (suc (suc n)))))))) h ih =
-        let b = drivesOf f in
+    cons-seen j f v vs zero h ih = mid-seen ([]) [] (drivesNow f) f 0 0 refl (omega arith) (omega arith)
+    cons-seen j f v vs (suc zero) h ih = mid-seen (take 1 (high7 v)) [] (drivesNow f) f 0 0 refl (omega arith) (omega arith)
+    cons-seen j f v vs (suc (suc zero)) h ih = mid-seen (take 2 (high7 v)) [] (drivesNow f) f 0 0 refl (omega arith) (omega arith)
+    cons-seen j f v vs (suc (suc (suc zero))) h ih = mid-seen (take 3 (high7 v)) [] (drivesNow f) f 0 0 refl (omega arith) (omega arith)
+    cons-seen j f v vs (suc (suc (suc (suc zero)))) h ih = mid-seen (take 4 (high7 v)) [] (drivesNow f) f 0 0 refl (omega arith) (omega arith)
+    cons-seen j f v vs (suc (suc (suc (suc (suc zero))))) h ih = mid-seen (take 5 (high7 v)) [] (drivesNow f) f 0 0 refl (omega arith) (omega arith)
+    cons-seen j f v vs (suc (suc (suc (suc (suc (suc zero)))))) h ih = mid-seen (take 6 (high7 v)) [] (drivesNow f) f 0 0 refl (omega arith) (omega arith)
+    cons-seen j f v vs (suc (suc (suc (suc (suc (suc (suc zero))))))) h ih = mid-seen (high7 v) [] (drivesNow f) f 0 0 refl (omega arith) (omega arith)
+    cons-seen j f v vs (suc (suc (suc (suc (suc (suc (suc (suc n)))))))) h ih =
+        let b = drivesNow f in
         let a = joined 0 (high7 v) in
         mid-seen (high7 v) (on (bitOf 0 v) ∷ take n (flat vs)) b f 0 0 refl (omega arith) (omega arith)
         ∙ ap₂ (λ x l. shownBits (over b f) 0 7 ++ (x ∷ l)) (looks b 7 a f (omega arith))
-        (ap (λ g. seenOf look P m c g (take n (flat vs))) (last-tick b (on (bitOf 0 v)) f a v (joined-eight v h) h) ∙ ih n)
+        (ap (λ g. seenOf look P m c g (take n (flat vs))) (last-tick j b (on (bitOf 0 v)) f a v (joined-eight v h) h) ∙ ih n)
 
-    pub seen-bytes : (s : List ℕ) (n : ℕ) (f : Frame) → Reached f → ((i : ℕ) → getD s i 0 < 256)
-        → seenOf look P m c f (take n (flat s)) ≡ take n (flat (bytesSeen over f s))
+    pub seen-bytes : (s : List ℕ) (n j : ℕ) (f : Frame) → Reached j f → ((i : ℕ) → getD s i 0 < 256)
+        → seenOf look P m c f (take n (flat s)) ≡ take n (flat (bytesSeen P sound T over j f s))
     unfolding flat bytesSeen seenOf
-    seen-bytes [] n f r h = rw take-nil
-    seen-bytes (v ∷ vs) n f r h =
-        ap (λ g. seenOf look P m c g (take n (flat (v ∷ vs)))) (as-mid f r)
-        ∙ cons-seen f v vs n (h 0) (λ k. seen-bytes vs k (step v f) (reached-step v f r) (λ i. h (suc i)))
+    seen-bytes [] n j f r h = rw take-nil
+    seen-bytes (v ∷ vs) n j f r h =
+        ap (λ g. seenOf look P m c g (take n (flat (v ∷ vs)))) (as-mid j f r)
+        ∙ cons-seen j f v vs n (h 0) (λ k. seen-bytes vs k (suc j) (step P sound T j v f) (reached-step v j f r) (λ i. h (suc i)))
 
-  cons-end : (f : Frame) (v : ℕ) (vs : List ℕ) (n : ℕ) (w : Bool) → v < 256 → n ≤ 8 * suc (length vs)
+  cons-end : (i : ℕ) (f : Frame) (v : ℕ) (vs : List ℕ) (n : ℕ) (w : Bool) → v < 256 → n ≤ 8 * suc (length vs)
       → ((k : ℕ) → k ≤ 8 * length vs
-      → decides P c w (endOf P m c (step v f) (take k (flat vs))) ≡ decidesAt P c w (k % 8) (bytesEnd (step v f) (take (k / 8) vs)))
-      → decides P c w (endOf P m c (midByte (drivesOf f) 0 0 f) (take n (flat (v ∷ vs)))) ≡ decidesAt P c w (n % 8) (bytesEnd f (take (n / 8) (v ∷ vs)))
+      → decides P c w (endOf P m c (step P sound T i v f) (take k (flat vs)))
+      ≡ decidesAt P c w (k % 8) (bytesEnd P sound T (suc i) (step P sound T i v f) (take (k / 8) vs)))
+      → decides P c w (endOf P m c (midByte (drivesNow f) 0 0 f) (take n (flat (v ∷ vs))))
+      ≡ decidesAt P c w (n % 8) (bytesEnd P sound T i f (take (n / 8) (v ∷ vs)))
   unfolding flat bytesEnd endOf step decides decidesAt
-  cons-end f v vs zero w h u ih =
-      ap (decides P c w) (mid-end ([]) [] (drivesOf f) f 0 0 refl (omega arith) (omega arith))
-  cons-end f v vs (suc zero) w h u ih =
-      ap (decides P c w) (mid-end (take 1 (high7 v)) [] (drivesOf f) f 0 0 refl (omega arith) (omega arith))
-  cons-end f v vs (suc (suc zero)) w h u ih =
-      ap (decides P c w) (mid-end (take 2 (high7 v)) [] (drivesOf f) f 0 0 refl (omega arith) (omega arith))
-  cons-end f v vs (suc (suc (suc zero))) w h u ih =
-      ap (decides P c w) (mid-end (take 3 (high7 v)) [] (drivesOf f) f 0 0 refl (omega arith) (omega arith))
-  cons-end f v vs (suc (suc (suc (suc zero)))) w h u ih =
-      ap (decides P c w) (mid-end (take 4 (high7 v)) [] (drivesOf f) f 0 0 refl (omega arith) (omega arith))
-  cons-end f v vs (suc (suc (suc (suc (suc zero))))) w h u ih =
-      ap (decides P c w) (mid-end (take 5 (high7 v)) [] (drivesOf f) f 0 0 refl (omega arith) (omega arith))
-  cons-end f v vs (suc (suc (suc (suc (suc (suc zero)))))) w h u ih =
-      ap (decides P c w) (mid-end (take 6 (high7 v)) [] (drivesOf f) f 0 0 refl (omega arith) (omega arith))
-  cons-end f v vs (suc (suc (suc (suc (suc (suc (suc zero))))))) w h u ih =
-      ap (decides P c w) (mid-end (high7 v) [] (drivesOf f) f 0 0 refl (omega arith) (omega arith))
-  cons-end f v vs (suc (suc (suc (suc (suc (suc (suc (suc n)))))))) w h u ih =
-      let b = drivesOf f in
+  cons-end i f v vs zero w h u ih =
+      ap (decides P c w) (mid-end ([]) [] (drivesNow f) f 0 0 refl (omega arith) (omega arith))
+  cons-end i f v vs (suc zero) w h u ih =
+      ap (decides P c w) (mid-end (take 1 (high7 v)) [] (drivesNow f) f 0 0 refl (omega arith) (omega arith))
+  cons-end i f v vs (suc (suc zero)) w h u ih =
+      ap (decides P c w) (mid-end (take 2 (high7 v)) [] (drivesNow f) f 0 0 refl (omega arith) (omega arith))
+  cons-end i f v vs (suc (suc (suc zero))) w h u ih =
+      ap (decides P c w) (mid-end (take 3 (high7 v)) [] (drivesNow f) f 0 0 refl (omega arith) (omega arith))
+  cons-end i f v vs (suc (suc (suc (suc zero)))) w h u ih =
+      ap (decides P c w) (mid-end (take 4 (high7 v)) [] (drivesNow f) f 0 0 refl (omega arith) (omega arith))
+  cons-end i f v vs (suc (suc (suc (suc (suc zero))))) w h u ih =
+      ap (decides P c w) (mid-end (take 5 (high7 v)) [] (drivesNow f) f 0 0 refl (omega arith) (omega arith))
+  cons-end i f v vs (suc (suc (suc (suc (suc (suc zero)))))) w h u ih =
+      ap (decides P c w) (mid-end (take 6 (high7 v)) [] (drivesNow f) f 0 0 refl (omega arith) (omega arith))
+  cons-end i f v vs (suc (suc (suc (suc (suc (suc (suc zero))))))) w h u ih =
+      ap (decides P c w) (mid-end (high7 v) [] (drivesNow f) f 0 0 refl (omega arith) (omega arith))
+  cons-end i f v vs (suc (suc (suc (suc (suc (suc (suc (suc n)))))))) w h u ih =
+      let b = drivesNow f in
       let a = joined 0 (high7 v) in
       let whole : suc (n / 8) ≡ (suc (suc (suc (suc (suc (suc (suc (suc n)))))))) / 8 = omega arith in
       let over : n % 8 ≡ (suc (suc (suc (suc (suc (suc (suc (suc n)))))))) % 8 = omega arith in
       ap (decides P c w) (mid-end (high7 v) (on (bitOf 0 v) ∷ take n (flat vs)) b f 0 0 refl (omega arith) (omega arith)
-      ∙ ap (λ g. endOf P m c g (take n (flat vs))) (last-tick b (on (bitOf 0 v)) f a v (joined-eight v h) h))
+      ∙ ap (λ g. endOf P m c g (take n (flat vs))) (last-tick i b (on (bitOf 0 v)) f a v (joined-eight v h) h))
       ∙ ih n (omega arith)
-      ∙ ap₂ (λ k j. decidesAt P c w k (bytesEnd f (take j (v ∷ vs)))) over whole
+      ∙ ap₂ (λ k j. decidesAt P c w k (bytesEnd P sound T i f (take j (v ∷ vs)))) over whole
 
-  as-whole : (f : Frame) → Reached f → (w : Bool) → decides P c w f ≡ decidesAt P c w 0 f
+  as-whole : (j : ℕ) (f : Frame) → Reached j f → (w : Bool) → decides P c w f ≡ decidesAt P c w 0 f
   unfolding decides
-  as-whole f r w = ap (λ (g : Frame). decidesAt P c w (g .bits) f) (as-mid f r)
+  as-whole j f r w = ap (λ (g : Frame). decidesAt P c w (g .bits) f) (as-mid j f r)
 
-  pub end-bytes : (s : List ℕ) (n : ℕ) (f : Frame) (w : Bool) → Reached f → ((i : ℕ) → getD s i 0 < 256) → n ≤ 8 * length s
-      → decides P c w (endOf P m c f (take n (flat s))) ≡ decidesAt P c w (n % 8) (bytesEnd f (take (n / 8) s))
+  pub end-bytes : (s : List ℕ) (n j : ℕ) (f : Frame) (w : Bool) → Reached j f → ((i : ℕ) → getD s i 0 < 256) → n ≤ 8 * length s
+      → decides P c w (endOf P m c f (take n (flat s))) ≡ decidesAt P c w (n % 8) (bytesEnd P sound T j f (take (n / 8) s))
   unfolding flat bytesEnd endOf
-  end-bytes [] zero f w r h u = as-whole f r w
-  end-bytes [] (suc n) f w r h u = absurd (omega arith)
-  end-bytes (v ∷ vs) n f w r h u =
-      ap (λ g. decides P c w (endOf P m c g (take n (flat (v ∷ vs))))) (as-mid f r)
-      ∙ cons-end f v vs n w (h 0) u (λ k u′. end-bytes vs k (step v f) w (reached-step v f r) (λ i. h (suc i)) u′)
+  end-bytes [] zero j f w r h u = as-whole j f r w
+  end-bytes [] (suc n) j f w r h u = absurd (omega arith)
+  end-bytes (v ∷ vs) n j f w r h u =
+      ap (λ g. decides P c w (endOf P m c g (take n (flat (v ∷ vs))))) (as-mid j f r)
+      ∙ cons-end j f v vs n w (h 0) u (λ k u′. end-bytes vs k (suc j) (step P sound T j v f) w (reached-step v j f r) (λ i. h (suc i)) u′)

@@ -35,9 +35,8 @@ use Rattle.agree.specs.Drawings.{flat, bitsOf}
 use Rattle.agree.specs.Reports.{report, seenAs, shared, asOne, isCounted, isEnd, watched, levelled}
 use Rattle.agree.proofs.Facts.{leb-min}
 use Rattle.agree.proofs.Ticks.{tick, shows, seenOf}
-use Rattle.agree.proofs.Steps.{midByte, afterBytes, drives}
-use Rattle.agree.proofs.Bytes.{all-ones, bytesSeen, step-first, step-more, none, seen-bytes}
-use Rattle.agree.proofs.Seen.{drives-bytes}
+use Rattle.agree.proofs.Steps.{midByte, Course, steady, afterBytes, drives, drives-bytes, bytesSeen, step-first, step-more}
+use Rattle.agree.proofs.Bytes.{all-ones, none, seen-bytes}
 
 -- ---- driven or not
 
@@ -174,47 +173,48 @@ unfolding flat
 flat-length [] = refl
 flat-length (v ∷ vs) = omega (arith, flat-length vs)
 
-module _ (P : Part) (sound : Sound P) (m : Lent) (c : Core) where
+module _ (P : Part) (sound : Sound P) (T : Course) where
   -- no test sees the count of whole bytes stay at its most
-  drives-count : (i : Instruction) (j : ℕ) → drives P sound m c i j ≡ outputs P i j (running c)
+  drives-count : (i : Instruction) (j : ℕ) → drives P sound T i j ≡ outputs P i j (T .runs 0)
   drives-count Wren j = refl
   drives-count Wrdi j = refl
   drives-count Rdsr j = leb-min (P .most) j 1 (omega (arith, sound .counted))
   drives-count Wrsr j = refl
-  drives-count Read j = ap (λ t. t && not (running c)) (leb-min (P .most) j (P .addressBytes + 1) (omega (arith, sound .counted)))
+  drives-count Read j = ap (λ t. t && not (T .runs 0)) (leb-min (P .most) j (P .addressBytes + 1) (omega (arith, sound .counted)))
   drives-count Write j = refl
-  drives-count Rdid j = ap (λ t. t && not (running c)) (leb-min (P .most) j (P .addressBytes + 1) (omega (arith, sound .counted)))
+  drives-count Rdid j = ap (λ t. t && not (T .runs 0)) (leb-min (P .most) j (P .addressBytes + 1) (omega (arith, sound .counted)))
   drives-count Wrid j = refl
   drives-count Silence j = refl
 
-  none-first : (i : Instruction) → false ≡ outputs P i 0 (running c)
+  none-first : (i : Instruction) → false ≡ outputs P i 0 (T .runs 0)
   none-first Wren = refl
   none-first Wrdi = refl
   none-first Rdsr = refl
   none-first Wrsr = refl
-  none-first Read = sym (and-no-left (leb (P .addressBytes + 1) 0) (not (running c)) (lt-leb (P .addressBytes + 1) 0 (omega arith)))
+  none-first Read = sym (and-no-left (leb (P .addressBytes + 1) 0) (not (T .runs 0)) (lt-leb (P .addressBytes + 1) 0 (omega arith)))
   none-first Write = refl
-  none-first Rdid = sym (and-no-left (leb (P .addressBytes + 1) 0) (not (running c)) (lt-leb (P .addressBytes + 1) 0 (omega arith)))
+  none-first Rdid = sym (and-no-left (leb (P .addressBytes + 1) 0) (not (T .runs 0)) (lt-leb (P .addressBytes + 1) 0 (omega arith)))
   none-first Wrid = refl
   none-first Silence = refl
 
   driven-more : (i : Instruction) (us : List ℕ) (v j a x o z : ℕ) (l : Latch) → decode P v ≡ i → 1 ≤ j
-      → bytesSeen P sound m c over (afterBytes P sound m c v j a x o z l) us ≡ from j (length us) (λ n. eight (outputs P i n (running c)))
+      → bytesSeen P sound T over j (afterBytes P sound T v j a x o z l) us ≡ from j (length us) (λ n. eight (outputs P i n (T .runs 0)))
   unfolding bytesSeen from
   driven-more i [] v j a x o z l e k = refl
   driven-more i (u ∷ us) v j a x o z l e k =
-      ap₂ (λ b r. b ∷ r) (ap eight (drives-bytes P sound m c i v j a x o z l e ∙ drives-count i j))
-      (ap (λ f. bytesSeen P sound m c over f us) (step-more P sound m c i u v j a x o z l e k)
+      ap₂ (λ b r. b ∷ r) (ap eight (drives-bytes P sound T i v j a x o z l e ∙ drives-count i j))
+      (ap (λ f. bytesSeen P sound T over (suc j) f us) (step-more P sound T i u v j a x o z l e k)
       ∙ driven-more i us v (suc j) _ _ _ _ _ e (omega arith))
 
-  driven-table : (s : List ℕ) → bytesSeen P sound m c over (noFrame P) s ≡ table (length s) (λ n. eight (outputs P (instruction P s) n (running c)))
+  driven-table : (s : List ℕ) → bytesSeen P sound T over 0 (noFrame P) s ≡ table (length s) (λ n. eight (outputs P (instruction P s) n (T .runs 0)))
   unfolding bytesSeen table from decode pick
   driven-table [] = refl
   driven-table (v ∷ vs) =
       ap₂ (λ b l. b ∷ l) (ap eight (none-first (decode P v)))
-      (ap (λ f. bytesSeen P sound m c over f vs) (step-first P sound m c (decode P v) v refl)
+      (ap (λ f. bytesSeen P sound T over 1 f vs) (step-first P sound T (decode P v) v refl)
       ∙ driven-more (decode P v) vs v 1 _ _ _ _ _ refl (omega arith))
 
+module _ (P : Part) (sound : Sound P) (m : Lent) (c : Core) where
   -- the marks of the ticks, and their bits, are their levels
   levels-are : (u : ℕ) (f : Frame) (bs : List Bool) → seenOf isDriven P m c f bs ≡ marks u (length bs)
       → seenOf (λ l. l) P m c f bs ≡ levelled u (seenOf asOne P m c f bs)
@@ -230,8 +230,8 @@ module _ (P : Part) (sound : Sound P) (m : Lent) (c : Core) where
   frame-levels s n small h =
       let all : n ≤ length (flat s) = omega (arith, flat-length s) in
       levels-are (undriven P (instruction P s) (running c) n) (noFrame P) (bitsOf s n)
-      (seen-bytes P sound m c isDriven over driven-bit s n (noFrame P) none small
-      ∙ ap (λ l. take n (flat l)) (driven-table s)
+      (seen-bytes P sound m c isDriven over driven-bit s n 0 (noFrame P) none small
+      ∙ ap (λ l. take n (flat l)) (driven-table P sound (steady m c) s)
       ∙ undriven-marks (length s) n h P (instruction P s) (running c)
       ∙ ap (marks (undriven P (instruction P s) (running c) n)) (sym (length-take-le n (flat s) all)))
 

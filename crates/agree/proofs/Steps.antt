@@ -1,8 +1,8 @@
--- What a byte of a frame leaves in each field of the frame part: by cases on the instruction.
-use Prim.Native.Nat.{ℕ, suc, _+_, _*_, _/_, _%_, _≤_, min, _-_, _^_}
+-- What a byte of a frame leaves in each field of the frame part: by cases on the instruction. What the frame meets meanwhile goes by the byte.
+use Prim.Native.Nat.{ℕ, suc, _+_, _*_, _%_, _≤_, min, _-_, _^_}
 use mathlib.Core.Bool.{Bool, true, false, not, true≢false}
-use mathlib.Core.List.{List}
-use mathlib.Core.Path.{_≡_, refl, sym, ap, _∙_}
+use mathlib.Core.List.{List, [], _∷_}
+use mathlib.Core.Path.{_≡_, refl, sym, ap, ap₂, _∙_}
 use lib.Dec.{eqb, leb}
 use lib.ListN.{getD}
 use borrow.Author.Tests.{ne-eqb, le-leb, leb-true}
@@ -96,10 +96,28 @@ pastOf P Rdid a = identificationNext P a
 pastOf P Wrid a = a
 pastOf P Silence a = a
 
-module _ (P : Part) (sound : Sound P) (m : Lent) (c : Core) where
-  -- the byte v, from a byte's start in data output (b) or outside it
-  unfoldable pub stepByte : Bool → ℕ → Frame → Frame
-  stepByte b v f = fallen P m c (wholeByte P (running c) v (midByte b 7 0 f))
+-- what a frame meets while it is clocked in: whether a cycle runs as byte j is whole; the record and the lent cells that byte j is loaded from
+pub record Course : Type 0 where
+  pub runs : ℕ → Bool
+  pub core : ℕ → Core
+  pub lent : ℕ → Lent
+
+-- one record and the same cells throughout
+abbrev pub steady : Lent → Core → Course
+steady m c = record { runs = λ j. running c; core = λ j. c; lent = λ j. m }
+
+-- where no cycle ran at the eighth edge, the cells and the lock are the same for every data byte: none can end
+pub record Still (T : Course) (m : Lent) (k : ℕ) : Type 0 where
+  pub cells : T .runs 0 ≡ false → (j : ℕ) → 1 ≤ j → T .lent j ≡ m
+  pub lock : T .runs 0 ≡ false → (j : ℕ) → 1 ≤ j → lockByte (T .core j) ≡ k
+
+pub steady-still : (m : Lent) (c : Core) → Still (steady m c) m (lockByte c)
+steady-still m c = record { cells = λ e j h. refl; lock = λ e j h. refl }
+
+module _ (P : Part) (sound : Sound P) (T : Course) where
+  -- the byte v, j whole bytes before it, from its start in data output (b) or outside it
+  unfoldable pub stepByte : ℕ → Bool → ℕ → Frame → Frame
+  stepByte j b v f = fallen P (T .lent (suc j)) (T .core (suc j)) (wholeByte P (T .runs j) v (midByte b 7 0 f))
 
   -- at a byte's start, with t whole bytes taken, the first of them v
   abbrev byteStart : ℕ → ℕ → ℕ → ℕ → ℕ → ℕ → Latch → Frame
@@ -109,7 +127,7 @@ module _ (P : Part) (sound : Sound P) (m : Lent) (c : Core) where
         bits = 0;
         partial = 0;
         code = v;
-        ran = bit (running c);
+        ran = bit (T .runs 0);
         value = x;
         out = o;
         shown = z;
@@ -123,21 +141,21 @@ module _ (P : Part) (sound : Sound P) (m : Lent) (c : Core) where
 
   -- in data output after j whole bytes
   abbrev pub drives : Instruction → ℕ → Bool
-  drives i j = outputs P i (min (P .most) j) (running c)
+  drives i j = outputs P i (min (P .most) j) (T .runs 0)
 
   -- .. and the falling edge after them, which loads what is put out
   abbrev pub afterFall : Instruction → ℕ → ℕ → ℕ → ℕ → ℕ → Latch → Frame
   afterFall i v j a x o l =
       let t = drives i j in
-      afterBytes v j (pick t (pastOf P i a) a) x (pick t (outOf P m c i a o) o) (shownAt t 0) l
+      afterBytes v j (pick t (pastOf P i a) a) x (pick t (outOf P (T .lent j) (T .core j) i a o) o) (shownAt t 0) l
 
   -- data output lasts
   read-on : (j : ℕ) → drives Read j ≡ true → drives Read (suc j) ≡ true
   read-on j e =
-      let h : P .addressBytes + 1 ≤ min (P .most) j = leb-true _ _ (and-left (leb (P .addressBytes + 1) (min (P .most) j)) (not (running c)) e) in
-      and-both (leb (P .addressBytes + 1) (min (P .most) (suc j))) (not (running c))
+      let h : P .addressBytes + 1 ≤ min (P .most) j = leb-true _ _ (and-left (leb (P .addressBytes + 1) (min (P .most) j)) (not (T .runs 0)) e) in
+      and-both (leb (P .addressBytes + 1) (min (P .most) (suc j))) (not (T .runs 0))
       (le-leb (P .addressBytes + 1) (min (P .most) (suc j)) (omega (arith, sound .counted)))
-      (and-right (leb (P .addressBytes + 1) (min (P .most) j)) (not (running c)) e)
+      (and-right (leb (P .addressBytes + 1) (min (P .most) j)) (not (T .runs 0)) e)
 
   pub drives-on : (i : Instruction) (j : ℕ) → drives i j ≡ true → drives i (suc j) ≡ true
   drives-on Wren j e = e
@@ -216,47 +234,81 @@ module _ (P : Part) (sound : Sound P) (m : Lent) (c : Core) where
   starts-load false b v j a d x y o l h = none-shown b v j a x o l h
 
   starts : (i : Instruction) (b : Bool) (v j a x o : ℕ) (l : Latch) → (b ≡ true → drives i j ≡ true)
-      → pick (drives i j) (loading P m c i (afterBytes v j a x o (shownAt b 7) l)) (afterBytes v j a x o (shownAt b 7) l) ≡ afterFall i v j a x o l
+      → let f = afterBytes v j a x o (shownAt b 7) l in
+      pick (drives i j) (loading P (T .lent j) (T .core j) i f) f ≡ afterFall i v j a x o l
   unfolding pick
   starts Wren b v j a x o l h = none-shown b v j a x o l h
   starts Wrdi b v j a x o l h = none-shown b v j a x o l h
-  starts Rdsr b v j a x o l h = starts-load (drives Rdsr j) b v j a a x (status c) o l h
+  starts Rdsr b v j a x o l h = starts-load (drives Rdsr j) b v j a a x (status (T .core j)) o l h
   starts Wrsr b v j a x o l h = none-shown b v j a x o l h
-  starts Read b v j a x o l h = starts-load (drives Read j) b v j a (pastOf P Read a) x (outOf P m c Read a o) o l h
+  starts Read b v j a x o l h = starts-load (drives Read j) b v j a (pastOf P Read a) x (outOf P (T .lent j) (T .core j) Read a o) o l h
   starts Write b v j a x o l h = none-shown b v j a x o l h
-  starts Rdid b v j a x o l h = starts-load (drives Rdid j) b v j a (pastOf P Rdid a) x (outOf P m c Rdid a o) o l h
+  starts Rdid b v j a x o l h = starts-load (drives Rdid j) b v j a (pastOf P Rdid a) x (outOf P (T .lent j) (T .core j) Rdid a o) o l h
   starts Wrid b v j a x o l h = none-shown b v j a x o l h
   starts Silence b v j a x o l h = none-shown b v j a x o l h
 
   -- the edge that follows a whole byte loads, or does nothing
   fall-as : (i : Instruction) (b : Bool) (v j a x o : ℕ) (l : Latch) → decode P v ≡ i
       → let f = afterBytes v j a x o (shownAt b 7) l in
-      pick (outputs P (decode P v) (min (P .most) j) (on (bit (running c)))) (loading P m c (decode P v) f) f ≡ pick (drives i j) (loading P m c i f) f
+      pick (outputs P (decode P v) (min (P .most) j) (on (bit (T .runs 0)))) (loading P (T .lent j) (T .core j) (decode P v) f) f
+      ≡ pick (drives i j) (loading P (T .lent j) (T .core j) i f) f
   fall-as i b v j a x o l e =
       let f = afterBytes v j a x o (shownAt b 7) l in
-      ap (λ k. pick (outputs P k (min (P .most) j) (on (bit (running c)))) (loading P m c k f) f) e
-      ∙ ap (λ r. pick (outputs P i (min (P .most) j) r) (loading P m c i f) f) (on-bit (running c))
+      ap (λ k. pick (outputs P k (min (P .most) j) (on (bit (T .runs 0)))) (loading P (T .lent j) (T .core j) k f) f) e
+      ∙ ap (λ r. pick (outputs P i (min (P .most) j) r) (loading P (T .lent j) (T .core j) i f) f) (on-bit (T .runs 0))
 
   fall-starts : (i : Instruction) (b : Bool) (v j a x o : ℕ) (l : Latch) → decode P v ≡ i → (b ≡ true → drives i j ≡ true)
-      → fallen P m c (afterBytes v j a x o (shownAt b 7) l) ≡ afterFall i v j a x o l
+      → fallen P (T .lent j) (T .core j) (afterBytes v j a x o (shownAt b 7) l) ≡ afterFall i v j a x o l
   unfolding fallen pick
   fall-starts i true v j a x o l e h = fall-as i true v j a x o l e ∙ starts i true v j a x o l h
   fall-starts i false v j a x o l e h = fall-as i false v j a x o l e ∙ starts i false v j a x o l h
 
-  pub first-is : (i : Instruction) (v : ℕ) → decode P v ≡ i → stepByte false v (noFrame P) ≡ afterFall i v 1 0 0 0 (noLatch P)
+  pub first-is : (i : Instruction) (v : ℕ) → decode P v ≡ i → stepByte 0 false v (noFrame P) ≡ afterFall i v 1 0 0 0 (noLatch P)
   unfolding stepByte wholeByte pick
   first-is i v e = fall-starts i false v 1 0 0 0 (noLatch P) e (λ q. absurd (true≢false (sym q)))
 
   pub step-is : (i : Instruction) (u v j a x o z : ℕ) (l : Latch) → decode P v ≡ i → 1 ≤ j
       → let n = min (P .most) j in
-      stepByte (drives i j) u (afterBytes v j a x o z l) ≡ afterFall i v (suc j) (addressOf P i n u a) (valueOf P i n u a x) o (latchOf P i n u a l)
+      stepByte j (drives i j) u (afterBytes v j a x o z l) ≡ afterFall i v (suc j) (addressOf P i n u a) (valueOf P i n u a x) o (latchOf P i n u a l)
   unfolding stepByte wholeByte
   step-is i u v j a x o z l e k =
       let n = min (P .most) j in
       let b = drives i j in
       let some : eqb n 0 ≡ false = min-eqb (P .most) j 0 (omega (arith, sound .counted)) ∙ ne-eqb j 0 (λ q. omega arith) in
-      ap (fallen P m c) (at-no _ _ some
+      ap (fallen P (T .lent (suc j)) (T .core (suc j))) (at-no _ _ some
       ∙ ap (λ t. taking P (decode P v) n u (byteStart t v a x o (shownAt b 7) l)) (min-next (P .most) j)
       ∙ ap (λ d. taking P d n u (afterBytes v (suc j) a x o (shownAt b 7) l)) e
       ∙ taking-is i n u v (suc j) a x o (shownAt b 7) l)
       ∙ fall-starts i b v (suc j) (addressOf P i n u a) (valueOf P i n u a x) o (latchOf P i n u a l) e (drives-on i j)
+
+  -- ---- a frame, byte by byte; j: how many whole bytes there were before
+
+  -- in data output
+  abbrev pub drivesOf : Frame → Bool
+  drivesOf f = outputs P (decode P (f .code)) (f .taken) (on (f .ran))
+
+  pub drives-bytes : (i : Instruction) (v j a x o z : ℕ) (l : Latch) → decode P v ≡ i → drivesOf (afterBytes v j a x o z l) ≡ drives i j
+  drives-bytes i v j a x o z l e = ap₂ (λ d r. outputs P d (min (P .most) j) r) e (on-bit (T .runs 0))
+
+  unfoldable pub step : ℕ → ℕ → Frame → Frame
+  step j v f = stepByte j (drivesOf f) v f
+
+  unfoldable pub bytesSeen : (Bool → Frame → ℕ) → ℕ → Frame → List ℕ → List ℕ
+  bytesSeen over j f [] = []
+  bytesSeen over j f (v ∷ vs) = over (drivesOf f) f ∷ bytesSeen over (suc j) (step j v f) vs
+
+  unfoldable pub bytesEnd : ℕ → Frame → List ℕ → Frame
+  bytesEnd j f [] = f
+  bytesEnd j f (v ∷ vs) = bytesEnd (suc j) (step j v f) vs
+
+  pub step-first : (i : Instruction) (v : ℕ) → decode P v ≡ i → step 0 v (noFrame P) ≡ afterFall i v 1 0 0 0 (noLatch P)
+  unfolding step decode pick
+  step-first i v e = first-is i v e
+
+  pub step-more : (i : Instruction) (u v j a x o z : ℕ) (l : Latch) → decode P v ≡ i → 1 ≤ j
+      → let n = min (P .most) j in
+      step j u (afterBytes v j a x o z l) ≡ afterFall i v (suc j) (addressOf P i n u a) (valueOf P i n u a x) o (latchOf P i n u a l)
+  unfolding step
+  step-more i u v j a x o z l e k =
+      ap (λ b. stepByte j b u (afterBytes v j a x o z l)) (drives-bytes i v j a x o z l e)
+      ∙ step-is i u v j a x o z l e k
