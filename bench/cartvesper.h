@@ -4,7 +4,8 @@
  *
  * The device is a record. Its cells are the caller's: the memory and, right after it in each call that may look at
  * them, the 128 bytes of the identification page. The M95512 has no such page, but its calls are lent one too, and
- * leave it as it was. The M95512-D reads its page and the page's lock with 83h, and writes and sets them with 82h.
+ * leave it as it was. The M95512-D reads its page and the page's lock with 83h. With 82h it writes the page or sets the
+ * lock.
  *
  * Every call answers every input. A caller must guarantee only that a pointer and the length beside it name bytes that
  * are there (a null pointer with length 0 is an empty slice), and that what is lent to be written overlaps nothing else
@@ -60,8 +61,8 @@ enum {
 };
 
 /* The version of the records. Each change of a record's fields, their places or their sizes raises it. Whoever keeps
- * records in a file, or builds them in another language, keeps this number beside them. 1 had a byte for each mark; 2
- * had a bit; 3 has the part and its lock too, and whole bytes taken to 5. */
+ * records in a file, or builds them in another language, keeps this number beside them. Version 1 stands for a byte for
+ * each mark, version 2 for a bit; version 3 also for the part and its lock, and for whole bytes taken to 5. */
 #define CARTVESPER_RECORDS 3
 
 /* Bytes of an exported HEX text. */
@@ -151,7 +152,7 @@ typedef struct {
     uint8_t partial; /* their values */
     uint8_t code;    /* the instruction byte */
     uint8_t ran;     /* a cycle ran at the eighth edge */
-    uint8_t value;   /* the data byte of WRSR, or of an 82h that sets the lock: its first */
+    uint8_t value;   /* the data byte of WRSR, or the first of an 82h for the lock */
     uint8_t out;     /* the output byte */
     uint8_t shown;   /* its bits shown, 0 to 8 */
     uint32_t address; /* as taken, then of the next data byte; 82h and 83h keep all but its low 7 bits */

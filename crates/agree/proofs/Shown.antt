@@ -98,15 +98,15 @@ deliveredD = idle 1 false false false false (m95512d .longest) 0
 
 -- WREN; 82h of 11h and 22h at cell 7Fh; the clock reads 5,000; 83h at 7Fh, two bytes; WREN; 82h for the lock; the clock reads 10,000; 83h for the lock;
 -- WREN; 82h of 33h at cell 7Fh; 83h at 7Fh
-abbrev pub pageActs : List Act
-pageActs =
+abbrev pub identificationActs : List Act
+identificationActs =
     frame true (0x06 ∷ []) 8 ∷ frame true (0x82 ∷ 0x00 ∷ 0x7f ∷ 0x11 ∷ 0x22 ∷ []) 40 ∷ reading 5000
     ∷ frame true (0x83 ∷ 0x00 ∷ 0x7f ∷ 0x00 ∷ 0x00 ∷ []) 40 ∷ frame true (0x06 ∷ []) 8 ∷ frame true (0x82 ∷ 0x04 ∷ 0x00 ∷ 0x02 ∷ []) 32 ∷ reading 10000
     ∷ frame true (0x83 ∷ 0x04 ∷ 0x00 ∷ 0x00 ∷ []) 32 ∷ frame true (0x06 ∷ []) 8 ∷ frame true (0x82 ∷ 0x00 ∷ 0x7f ∷ 0x33 ∷ []) 32
     ∷ frame true (0x83 ∷ 0x00 ∷ 0x7f ∷ 0x00 ∷ []) 32 ∷ []
 
-pub pageRun : List (Report Bool)
-pageRun = framesPlayed outputBits m95512d pageActs (frameBench deliveredD (deliveredMemory m95512d) (deliveredIdentification m95512d))
+pub identificationRun : List (Report Bool)
+identificationRun = framesPlayed outputBits m95512d identificationActs (frameBench deliveredD (deliveredMemory m95512d) (deliveredIdentification m95512d))
 
 abbrev pub pageCells : ℕ → List (Report Bool) → List ℕ
 pageCells i [] = []
@@ -137,8 +137,8 @@ pub record PageSeen (rs : List (Report Bool)) : Type 0 where
   pub first : pageCells 0x00 rs ≡ 0xff ∷ 0xff ∷ 0x22 ∷ 0x22 ∷ 0x22 ∷ 0x22 ∷ 0x22 ∷ 0x22 ∷ 0x22 ∷ []
   pub locked : lockBits rs ≡ 0 ∷ 0 ∷ 0 ∷ 0 ∷ 0 ∷ 1 ∷ 1 ∷ 1 ∷ 1 ∷ []
 
-pub page-frames-seen : PageSeen pageRun
-unfolding pageRun framesPlayed framedOutput inRanges each pick verdictBy decode latchedFrom zeros bitOn timed timedCells stored table from output flat
+pub page-frames-seen : PageSeen identificationRun
+unfolding identificationRun framesPlayed framedOutput inRanges each pick verdictBy decode latchedFrom zeros bitOn timed timedCells stored table from output flat
 page-frames-seen = record { bits = refl; registers = refl; last = refl; first = refl; locked = refl }
 
 -- and so the pin model, from the same device
@@ -157,6 +157,6 @@ unselectedD =
       identification = length-replicate {A = ℕ} (m95512d .page) 0xff;
     }
 
-pub page-pins-seen : (es : List Event) → Wave m95512d (between false) false true [] pageActs es → PageSeen (watched asOne m95512d es [] deliveredBenchD)
-unfolding SameSeen pageRun
-page-pins-seen es r = subst PageSeen (sym (agreement 1 deliveredBenchD pageActs es unselectedD r)) page-frames-seen
+pub page-pins-seen : (es : List Event) → Wave m95512d (between false) false true [] identificationActs es → PageSeen (watched asOne m95512d es [] deliveredBenchD)
+unfolding SameSeen identificationRun
+page-pins-seen es r = subst PageSeen (sym (agreement 1 deliveredBenchD identificationActs es unselectedD r)) page-frames-seen

@@ -3,6 +3,7 @@ pub mod Readings
 pub mod Within
 pub mod Passing
 pub mod Locking
+pub mod Plain
 pub mod Awaiting
 pub mod Cases
 pub mod Touching

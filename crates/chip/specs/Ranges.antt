@@ -1,4 +1,5 @@
--- The ranges and ties that document 01 lists for the core record, and no more. A record outside them gets refusal 2.
+-- The ranges and ties that documents 01 and 02 list for the core record, and no more. A record outside them gets
+-- refusal 2.
 use Prim.Native.Nat.{ℕ}
 use mathlib.Core.Bool.{Bool, _&&_, _||_}
 use lib.Dec.{leb, ltb, eqb}

@@ -32,9 +32,9 @@ ended P c =
     withoutCycle P
     (pick (waitsStatus (c .waits)) (withStatus (c .waits .status) c) (pick (waitsLock (c .waits)) (withLock c) c))
 
--- .. and latched bytes into the cells that they wait for: `theirs` says whether what waits is theirs
+-- .. and latched bytes into the cells that they wait for: `its` says whether what waits is for them
 abbrev pub endedCells : (Waiting → Bool) → Part → Core → List ℕ → List ℕ
-endedCells theirs P c m = pick (theirs (c .waits)) (stored P (c .waits .page) (c .waits .latch) m) m
+endedCells its P c m = pick (its (c .waits)) (stored P (c .waits .page) (c .waits .latch) m) m
 
 -- the record after the reading t
 unfoldable pub timed : Part → ℕ → Core → Core
@@ -42,7 +42,7 @@ timed P t c = pick (ends t c) (withTime t 0 (ended P c)) (withTime t (c .left - 
 
 -- lent cells after it: the memory, and the identification page, which is a memory of one page
 unfoldable pub timedCells : (Waiting → Bool) → Part → ℕ → Core → List ℕ → List ℕ
-timedCells theirs P t c m = pick (ends t c) (endedCells theirs P c m) m
+timedCells its P t c m = pick (ends t c) (endedCells its P c m) m
 
 abbrev pub timedMemory : Part → ℕ → Core → List ℕ → List ℕ
 timedMemory P t c m = timedCells waitsPage P t c m

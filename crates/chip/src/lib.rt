@@ -1,5 +1,5 @@
-// What both models of the M95512 share: the record that each holds, its ranges, passing time, power-up, and what waits
-// for the end of a cycle.
+// What both models of the M95512 and the M95512-D share: the record that each holds, its ranges, passing time,
+// power-up, and what waits for the end of a cycle.
 //
 // Public calls, each for every input: power_up, in_ranges, protected_from, protection, cells_touched, clock_reading.
 // Every other public function is an inner call of the models: total, and exactly its definition.

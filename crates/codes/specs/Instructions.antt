@@ -57,8 +57,9 @@ writeBits P = 8 * (P .addressBytes + 2)
 abbrev pub inHold : Row → Row
 inHold r = record { count = r .count; idle = r .idle; wel = r .wel; guard = r .guard; hold = true; known = r .known }
 
--- bits at deselect; "no cycle"; "WEL 1"; what else stops it; whether Hold does not; whether the table has it. At
--- address a and with data byte x: 82h writes the page with WRITE's counts, or sets the lock with exactly so many bits
+-- bits at deselect; "no cycle"; "WEL 1"; what else stops it; whether Hold does not; whether it is known: the table has
+-- it and, of an 82h for the lock, data bit 1 is 1. At address a and with data byte x: 82h writes the page with WRITE's
+-- counts, or sets the lock with exactly the bits of code, address and one data byte
 abbrev pub row : Part → Instruction → ℕ → ℕ → Row
 row P Wren a x = record { count = Exactly 8; idle = true; wel = false; guard = Nothing; hold = false; known = true }
 row P Wrdi a x = record { count = Exactly 8; idle = true; wel = false; guard = Nothing; hold = false; known = true }

@@ -12,7 +12,8 @@ use Rattle.codes.specs.declared.Verdict.{Verdict}
 use Rattle.codes.specs.declared.Verdict.the-variants.{Executed, CycleRan, WelOff, WrongCount, Guarded, OnHold}
 use Rattle.codes.specs.declared.Verdict.the-variants.{UnknownCode}
 
--- the last tests: hold, which does not stop a WRITE (004, 5.3), and a code that the table lacks
+-- the last tests: hold, which does not stop a WRITE (004, 5.3), and what is not known: a code that the table lacks, and
+-- an 82h for the lock with data bit 1 at 0
 abbrev pub letThrough : Row → Bool → Verdict
 letThrough r held = pick (held && not (r .hold)) OnHold (pick (r .known) Executed UnknownCode)
 

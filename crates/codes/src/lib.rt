@@ -1,5 +1,5 @@
-// What the M95512's data sheet says with no record in hand: the parts' sizes, the instruction codes, the verdict on a
-// frame, the status byte, where protection starts, and the numbers of the refusals.
+// What the data sheets of the M95512 and the M95512-D say with no record in hand: the parts' sizes, the instruction
+// codes, the verdict on a frame, the status byte, where protection starts, and the numbers of the refusals.
 //
 // Every public function is an inner call of the models: total, and exactly its definition.
 mod answers;

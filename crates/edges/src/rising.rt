@@ -84,7 +84,7 @@ impl Frame {
         self.latch_byte(byte)
     }
 
-    fn identification_byte(self, part: u8, before: u8, byte: u8) -> Frame
+    fn wrid_byte(self, part: u8, before: u8, byte: u8) -> Frame
         ensures { λ r. ⌜ r ≡ taking (partOf part) Wrid before byte self ⌝ }
     {
         if before <= ADDRESS_BYTES {
@@ -124,7 +124,7 @@ impl Frame {
             Instruction::Read => self.read_byte(part, before, byte),
             Instruction::Write => self.write_byte(part, before, byte),
             Instruction::Rdid => self.read_byte(part, before, byte),
-            Instruction::Wrid => self.identification_byte(part, before, byte),
+            Instruction::Wrid => self.wrid_byte(part, before, byte),
             Instruction::Silence => self,
         }
     }

@@ -73,7 +73,8 @@ fn latch_all(address: usize, values: &[u8]) -> Latch
     }
 }
 
-// The page write of a WRITE frame: each data byte into its cell, from the start address up and round within the page.
+// The page write of a WRITE or 82h frame: each data byte into its cell, from the start address up and round within the
+// page.
 pub fn latch_of(bytes: &[u8]) -> Latch
     ensures { λ r. ⌜ r ≡ written m95512 (now (bytes .entry)) ⌝ }
 {

@@ -1,4 +1,4 @@
-// The bytes of a frame: the code, the address, the data, and the page write that a WRITE's data is latched in.
+// The bytes of a frame: the code, the address, the data, and the page write that latches the data of a WRITE or an 82h.
 //
 // Every public function is an inner call of the models: total, and exactly its definition.
 mod counts;

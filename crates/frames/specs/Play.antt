@@ -56,11 +56,11 @@ addressed k P [] d i = false
 addressed k P (a ∷ acts) d i = addresses k P a (d .core) i || addressed k P acts (acted P a d) i
 
 -- an executed frame that sets the lock
-abbrev pub setsIt : Part → Act → Core → Bool
-setsIt P (frame w s n) c =
+abbrev pub locks : Part → Act → Core → Bool
+locks P (frame w s n) c =
     isExecuted (judged P (running c) w c s n) && (isWrid (instruction P s) && picksLock (address P s))
-setsIt P (reading t) c = false
+locks P (reading t) c = false
 
-abbrev pub setsAny : Part → List Act → FrameBench → Bool
-setsAny P [] d = false
-setsAny P (a ∷ acts) d = setsIt P a (d .core) || setsAny P acts (acted P a d)
+abbrev pub locksAny : Part → List Act → FrameBench → Bool
+locksAny P [] d = false
+locksAny P (a ∷ acts) d = locks P a (d .core) || locksAny P acts (acted P a d)

@@ -1,6 +1,5 @@
 // The front of a device: all of it but the bytes it latches and its core. A list of events holds the front apart, and
-// most events move a few numbers of it where they stand; the record of some 560 bytes is put together only for the
-// others.
+// most events move a few numbers of it where they stand; the record of 344 bytes is put together only for the others.
 ghost use mathlib.Core.Path.{_≡_};
 ghost use Rattle.codes.specs.Part.{m95512};
 ghost use Rattle.latch.specs.declared.Latch.{Latch};

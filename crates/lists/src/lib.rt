@@ -42,7 +42,8 @@ pub(crate) enum Way {
         bits: u8,
         partial: u8,
     },
-    // C rises: the code; an address byte or the WRSR's byte; a WRITE's data byte, with the address of the next
+    // C rises: the code; an address byte, the WRSR's byte or the lock's; a data byte of a WRITE or of an 82h for the
+    // page, with the address of the next
     Code {
         taken: u8,
         code: u8,

@@ -1,5 +1,5 @@
-// What an event moves of a device that a list holds in its parts. Most events move a few numbers; those that begin or
-// end a write cycle are left to the whole device.
+// What an event moves of a device that a list holds in its parts. Most events move a few numbers. Left to the whole
+// device are those that may begin a write cycle, those that end one, and those that load a byte of 83h.
 ghost use mathlib.Core.Path.{_≡_};
 ghost use mathlib.Core.List.{List};
 ghost use mathlib.Core.Bool.{Bool, true, false};
@@ -87,7 +87,7 @@ impl Front {
         }
     }
 
-    fn status_byte(self, part: u8, byte: u8) -> Way
+    fn value_byte(self, part: u8, byte: u8) -> Way
         ensures { λ r. ⌜ ((m : Lent) (l : Latch) (k : Core) → afterWay (partOf part) m (C true) r (whole self l k)
             ≡ risenTo (withValue byte (withByte (partOf part) (whole self l k .frame))) (whole self l k)) ⌝ }
     {
@@ -107,7 +107,7 @@ impl Front {
     {
         if picks_lock(self.address) {
             if self.taken == HEAD {
-                return self.status_byte(part, byte);
+                return self.value_byte(part, byte);
             }
             return self.unkept(part);
         }
@@ -124,7 +124,7 @@ impl Front {
         match i {
             Instruction::Wrsr => {
                 if before == 1 {
-                    return self.status_byte(part, byte);
+                    return self.value_byte(part, byte);
                 }
                 self.unkept(part)
             }

@@ -105,14 +105,14 @@ stepped P m (W level) x = onW level x
 stepped P m (Hold level) x = onHold level x
 stepped P m (Time t) x = onTime P t x
 
--- lent cells: `theirs` says whether what waits is theirs
+-- lent cells: `its` says whether what waits is for them
 abbrev pub steppedCells : (Waiting → Bool) → Part → Event → Device → List ℕ → List ℕ
-steppedCells theirs P (S level) x m = m
-steppedCells theirs P (C level) x m = m
-steppedCells theirs P (D level) x m = m
-steppedCells theirs P (W level) x m = m
-steppedCells theirs P (Hold level) x m = m
-steppedCells theirs P (Time t) x m = timedCells theirs P t (x .core) m
+steppedCells its P (S level) x m = m
+steppedCells its P (C level) x m = m
+steppedCells its P (D level) x m = m
+steppedCells its P (W level) x m = m
+steppedCells its P (Hold level) x m = m
+steppedCells its P (Time t) x m = timedCells its P t (x .core) m
 
 abbrev pub steppedMemory : Part → Event → Device → List ℕ → List ℕ
 steppedMemory P e x m = steppedCells waitsPage P e x m

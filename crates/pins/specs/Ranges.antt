@@ -1,4 +1,4 @@
--- The ranges and ties that document 01 lists for the device, and no more. A record outside them gets refusal 2.
+-- The ranges and ties that documents 01 and 02 list for the device, and no more. A record outside them gets refusal 2.
 use Prim.Native.Nat.{ℕ, _+_, _-_}
 use mathlib.Core.Bool.{Bool, not, _&&_, _||_}
 use lib.Dec.{eqb, leb}

@@ -108,7 +108,8 @@ impl Device {
         self.refused(Refusal::RecordRange)
     }
 
-    // C to a level, with the memory that a READ shows. 1 for a lent slice of another length, then 2.
+    // C to a level, with the memory that READ shows and the page that 83h shows. 1 for a lent slice of another length,
+    // then 2.
     pub fn set_c(self, level: bool, memory: &[u8], identification: &[u8]) -> Stepped
         ensures { λ r. ⌜ r
             ≡ answer (memoryOutcome (devicePart self) self (lent (now (memory .entry)) (now (identification .entry))))

@@ -1,15 +1,16 @@
 -- The cell rule by the accepted frame: the frame in hand is what is clocked in since its select, byte by byte (Clocked, kept by every event), so a
--- cell is marked in it only by its own data bytes. With the rule by marks, a cell changes only if an executed WRITE addressed it by those bytes.
-use mathlib.Core.Path.{_≡_, refl, ap, sym, subst, _∙_}
+-- cell is marked in it only by its own data bytes. With the rule by marks, a cell changes only if an executed frame addressed it by those bytes: a
+-- WRITE, or for the identification page an 82h.
+use mathlib.Core.Path.{_≡_, refl, ap, ap₂, sym, subst, _∙_}
 use mathlib.Core.List.{List, [], _∷_}
 use mathlib.Core.Bool.{Bool, true, false, not, _&&_, true≢false}
 use Prim.Native.Nat.{ℕ, suc, _+_, _-_, _*_, _/_, _%_, _^_, _<_, _≤_, min}
-use native.Mathlib.Nat.{add-zero, mod-lt, mod-eq-of-lt, mod-add-mod, mul-add-div-right, mul-add-mod-self-right, div-eq-of-lt, div-add-mod', add-assoc}
+use native.Mathlib.Nat.{add-zero, mod-lt, mod-eq-of-lt, mod-add-mod, div-add-mod', add-assoc}
 use native.Mathlib.Omega.{arith}
 use lib.ListN.{length, getD}
 use lib.Dec.{eqb, leb, ltb}
 use borrow.Author.Tests.{leb-true, leb-false, le-leb, lt-leb, eqb-true, eqb-false, eq-eqb, ne-eqb}
-use Rattle.laws.specs.Pick.{pick, pick-case, at-yes, at-no, yes-so, no-so, and-left, and-right, and-both, and-no-left, and-no-right}
+use Rattle.laws.specs.Pick.{pick, pick-case, pick-same, at-yes, at-no, yes-so, no-so, and-left, and-right, and-both, and-no-left, and-no-right}
 use Rattle.laws.specs.And.{or-none-in, or-none-out, never}
 use Rattle.codes.specs.Part.{Part}
 use Rattle.codes.specs.Status.{bit, on}
@@ -38,7 +39,7 @@ use Rattle.pins.specs.Ranges.{deviceFits}
 use Rattle.pins.specs.Events.{judgedNow, renewed, onS, onC, onD, onW, onHold, onTime, stepped, eventOf}
 use Rattle.pins.specs.Answers.{PinBench, lentTo, afterEvent, played}
 use Rattle.pins_theorems.specs.Cells.{cellsOf, dataCell, inFrameAs, inFrame, writes, writesAny, dataFor}
-use Rattle.pins_theorems.specs.Hands.{Hand, hand, noHand, bitTaken, handAfter, clockedIn, codeOf, startOf, addressedBy, accepts, acceptedCell}
+use Rattle.pins_theorems.specs.Hands.{Hand, hand, noHand, bitTaken, handAfter, clockedIn, codeOf, startOf, firstOf, addressedBy, accepts, acceptedCell}
 use Rattle.pins_theorems.proofs.Parts.{FrameFits, Fits, parts}
 use Rattle.pins_theorems.proofs.Untouched.{taking-same, loading-same}
 use Rattle.pins_theorems.proofs.Edges.{empty-frame, silent}
@@ -83,6 +84,11 @@ abbrev pub addressIn : Cells → Part → List ℕ → ℕ
 addressIn memoryCells P bs = nextOf P bs
 addressIn identificationCells P bs = pick (picksLock (startOf P bs)) (startOf P bs) (nextOf P bs)
 
+-- .. and its value: the first data byte of one that picks the lock, else 0
+abbrev pub valueIn : Cells → Part → List ℕ → ℕ
+valueIn memoryCells P bs = 0
+valueIn identificationCells P bs = pick (picksLock (startOf P bs)) (firstOf P bs) 0
+
 module _ (P : Part) (sound : Sound P) where
   data-cell-first : (s : ℕ) → dataCell memoryCells P s 0 ≡ s
   data-cell-first s =
@@ -126,6 +132,16 @@ module _ (P : Part) (sound : Sound P) where
   early-address identificationCells bs few =
       pick-case (λ (n : ℕ). n ≡ nextOf P bs) (picksLock (startOf P bs)) (λ p. sym (next-start bs few)) (λ p. refl)
 
+  -- .. and there is no value
+  no-first : (bs : List ℕ) → length bs ≤ P .addressBytes + 1 → firstOf P bs ≡ 0
+  no-first [] few = refl
+  no-first (v ∷ bs) few = at-no _ _ (ne-eqb (length bs) (P .addressBytes + 1) (λ e. omega (arith, e))) ∙ no-first bs (omega arith)
+
+  early-value : (k : Cells) (bs : List ℕ) → length bs ≤ P .addressBytes + 1 → valueIn k P bs ≡ 0
+  early-value memoryCells bs few = refl
+  early-value identificationCells bs few =
+      ap (λ (n : ℕ). pick (picksLock (startOf P bs)) n 0) (no-first bs few) ∙ pick-same (picksLock (startOf P bs)) 0
+
   -- the address picks as the start did
   pub picks-start : (bs : List ℕ) → picksLock (addressIn identificationCells P bs) ≡ picksLock (startOf P bs)
   picks-start bs =
@@ -164,6 +180,7 @@ pub record Clocked (k : Cells) (P : Part) (i : ℕ) (h : Hand) (f : Frame) : Typ
   pub taken : f .taken ≡ min (P .most) (length (h .bytes))
   pub code : f .code ≡ codeOf (h .bytes)
   pub address : writer k (decode P (f .code)) ≡ true → f .address ≡ addressIn k P (h .bytes)
+  pub value : writer k (decode P (f .code)) ≡ true → f .value ≡ valueIn k P (h .bytes)
   pub marks : addressedBy k P i (h .bytes) ≡ false → inFrame k P f i ≡ false
 
 module _ (k : Cells) (P : Part) (sound : Sound P) (i : ℕ) where
@@ -178,6 +195,7 @@ module _ (k : Cells) (P : Part) (sound : Sound P) (i : ℕ) where
         taken = n ∙ omega arith;
         code = eqb-true _ _ (and-left (eqb (f .code) 0) (eqb (f .ran) 0) (sym (at-yes _ _ (eq-eqb _ _ n)) ∙ t .code));
         address = λ w. none ∙ sym (early-address P sound k [] (omega arith) ∙ next-start P sound [] (omega arith));
+        value = λ w. eqb-true _ _ (s .value) ∙ sym (early-value P sound k [] (omega arith));
         marks = λ e. unmarked-as P i k (decode P (f .code)) f (s .latch);
       }
 
@@ -200,6 +218,7 @@ module _ (k : Cells) (P : Part) (sound : Sound P) (i : ℕ) where
               λ w. none
               ∙ sym (early-address P sound k (v ∷ h .bytes) (omega (arith, first)) ∙ next-start P sound (v ∷ h .bytes) (omega (arith, first))
               ∙ code-start P v (h .bytes) first);
+          value = λ w. eqb-true _ _ (silent P f z t .value) ∙ sym (early-value P sound k (v ∷ h .bytes) (omega (arith, first)));
           marks = λ e. unmarked-as P i k (decode P v) (withCode v run (withByte P f)) (silent P f z t .latch);
         }
 
@@ -238,9 +257,9 @@ module _ (k : Cells) (P : Part) (sound : Sound P) (i : ℕ) where
         write-address e (a ∙ early-address P sound k (h .bytes) (omega arith)) z ∙ sym (early-address P sound k (v ∷ h .bytes) (omega arith))
 
     -- a data byte of 82h
-    lock-stays : picksLock (startOf P (h .bytes)) ≡ true → leb (f .taken) (P .addressBytes) ≡ false
+    lock-address : picksLock (startOf P (h .bytes)) ≡ true → leb (f .taken) (P .addressBytes) ≡ false
         → f .address ≡ addressIn identificationCells P (h .bytes) → f .address ≡ addressIn identificationCells P (v ∷ h .bytes)
-    lock-stays p e a =
+    lock-address p e a =
         a ∙ at-yes _ _ p
         ∙ sym (at-yes _ _ (ap picksLock (start-stays e) ∙ p) ∙ start-stays e)
 
@@ -254,7 +273,7 @@ module _ (k : Cells) (P : Part) (sound : Sound P) (i : ℕ) where
         let as-start : picksLock (f .address) ≡ picksLock (startOf P (h .bytes)) = ap picksLock a ∙ picks-start P sound (h .bytes) in
         pick-case (λ (g : Frame). g .address ≡ addressIn identificationCells P (v ∷ h .bytes)) (picksLock (f .address))
         (λ p. pick-case (λ (g : Frame). g .address ≡ addressIn identificationCells P (v ∷ h .bytes)) (eqb (f .taken) (P .addressBytes + 1))
-        (λ o. lock-stays (sym as-start ∙ p) e a) (λ o. lock-stays (sym as-start ∙ p) e a))
+        (λ o. lock-address (sym as-start ∙ p) e a) (λ o. lock-address (sym as-start ∙ p) e a))
         (λ p. page-goes (sym as-start ∙ p) e a)
 
     taking-address : (j : Instruction) → writer k j ≡ true → f .address ≡ addressIn k P (h .bytes) → (f .taken ≡ 0 → ⊥)
@@ -280,6 +299,69 @@ module _ (k : Cells) (P : Part) (sound : Sound P) (i : ℕ) where
         data-of memoryCells w a e = absurd (true≢false (sym w))
         data-of identificationCells w a e = wrid-address a e
     taking-address Silence w a z = absurd (true≢false (sym w))
+
+    -- an address byte leaves no value
+    early-kept : leb (f .taken) (P .addressBytes) ≡ true → f .value ≡ valueIn k P (h .bytes) → f .value ≡ valueIn k P (v ∷ h .bytes)
+    early-kept e x =
+        let few : length (h .bytes) ≤ P .addressBytes = omega (arith, c .taken, leb-true (f .taken) (P .addressBytes) e, sound .counted) in
+        x ∙ early-value P sound k (h .bytes) (omega arith) ∙ sym (early-value P sound k (v ∷ h .bytes) (omega arith))
+
+    -- the first data byte of one that picks the lock is its value, and stays
+    counts-first : eqb (f .taken) (P .addressBytes + 1) ≡ eqb (length (h .bytes)) (P .addressBytes + 1)
+    counts-first = same (eqb (f .taken) (P .addressBytes + 1)) refl
+      where
+        same : (b : Bool) → eqb (f .taken) (P .addressBytes + 1) ≡ b → eqb (f .taken) (P .addressBytes + 1) ≡ eqb (length (h .bytes)) (P .addressBytes + 1)
+        same true q =
+            let first : f .taken ≡ P .addressBytes + 1 = eqb-true _ _ q in
+            q ∙ sym (eq-eqb (length (h .bytes)) (P .addressBytes + 1) (omega (arith, c .taken, first, sound .counted)))
+        same false q =
+            let other : (f .taken ≡ P .addressBytes + 1) → ⊥ = eqb-false _ _ q in
+            q ∙ sym (ne-eqb (length (h .bytes)) (P .addressBytes + 1) (λ e. other (omega (arith, c .taken, e, sound .counted))))
+
+    lock-value : picksLock (startOf P (h .bytes)) ≡ true → leb (f .taken) (P .addressBytes) ≡ false
+        → f .value ≡ valueIn identificationCells P (h .bytes)
+        → pick (eqb (f .taken) (P .addressBytes + 1)) v (f .value) ≡ valueIn identificationCells P (v ∷ h .bytes)
+    lock-value p e x =
+        ap₂ (λ (t : Bool) (n : ℕ). pick t v n) counts-first (x ∙ at-yes _ _ p) ∙ sym (at-yes _ _ (ap picksLock (start-stays e) ∙ p))
+
+    page-value : picksLock (startOf P (h .bytes)) ≡ false → leb (f .taken) (P .addressBytes) ≡ false
+        → f .value ≡ valueIn identificationCells P (h .bytes) → f .value ≡ valueIn identificationCells P (v ∷ h .bytes)
+    page-value p e x = x ∙ at-no _ _ p ∙ sym (at-no _ _ (ap picksLock (start-stays e) ∙ p))
+
+    wrid-value : f .address ≡ addressIn identificationCells P (h .bytes) → f .value ≡ valueIn identificationCells P (h .bytes)
+        → leb (f .taken) (P .addressBytes) ≡ false
+        → identificationData P (f .taken) v (withByte P f) .value ≡ valueIn identificationCells P (v ∷ h .bytes)
+    wrid-value a x e =
+        let as-start : picksLock (f .address) ≡ picksLock (startOf P (h .bytes)) = ap picksLock a ∙ picks-start P sound (h .bytes) in
+        let wanted = valueIn identificationCells P (v ∷ h .bytes) in
+        pick-case (λ (g : Frame). g .value ≡ wanted) (picksLock (f .address))
+        (λ p. pick-case (λ (g : Frame). g .value ≡ wanted) (eqb (f .taken) (P .addressBytes + 1))
+        (λ o. sym (at-yes _ _ o) ∙ lock-value (sym as-start ∙ p) e x) (λ o. sym (at-no _ _ o) ∙ lock-value (sym as-start ∙ p) e x))
+        (λ p. page-value (sym as-start ∙ p) e x)
+
+    taking-value : (j : Instruction) → writer k j ≡ true → f .address ≡ addressIn k P (h .bytes) → f .value ≡ valueIn k P (h .bytes)
+        → taking P j (f .taken) v (withByte P f) .value ≡ valueIn k P (v ∷ h .bytes)
+    taking-value Wren w a x = absurd (true≢false (sym w))
+    taking-value Wrdi w a x = absurd (true≢false (sym w))
+    taking-value Rdsr w a x = absurd (true≢false (sym w))
+    taking-value Wrsr w a x = absurd (true≢false (sym w))
+    taking-value Read w a x = absurd (true≢false (sym w))
+    taking-value Write w a x =
+        pick-case (λ (g : Frame). g .value ≡ valueIn k P (v ∷ h .bytes)) (leb (f .taken) (P .addressBytes)) (λ e. early-kept e x) (λ e. data-of k w x)
+      where
+        data-of : (k : Cells) → ofMemory k ≡ true → f .value ≡ valueIn k P (h .bytes) → f .value ≡ valueIn k P (v ∷ h .bytes)
+        data-of memoryCells w x = x
+        data-of identificationCells w x = absurd (true≢false (sym w))
+    taking-value Rdid w a x = absurd (true≢false (sym w))
+    taking-value Wrid w a x =
+        pick-case (λ (g : Frame). g .value ≡ valueIn k P (v ∷ h .bytes)) (leb (f .taken) (P .addressBytes)) (λ e. early-kept e x) (λ e. data-of k w a x e)
+      where
+        data-of : (k : Cells) → not (ofMemory k) ≡ true → f .address ≡ addressIn k P (h .bytes) → f .value ≡ valueIn k P (h .bytes)
+            → leb (f .taken) (P .addressBytes) ≡ false
+            → identificationData P (f .taken) v (withByte P f) .value ≡ valueIn k P (v ∷ h .bytes)
+        data-of memoryCells w a x e = absurd (true≢false (sym w))
+        data-of identificationCells w a x e = wrid-value a x e
+    taking-value Silence w a x = absurd (true≢false (sym w))
 
     -- the byte is for another cell
     other-cell : addressedBy k P i (v ∷ h .bytes) ≡ false → dataFor k P i f ≡ false
@@ -321,6 +403,10 @@ module _ (k : Cells) (P : Part) (sound : Sound P) (i : ℕ) where
               λ w.
               let write : writer k j ≡ true = ap (λ (n : ℕ). writer k (decode P n)) (sym kept) ∙ w in
               taking-address j write (c .address write) z;
+          value =
+              λ w.
+              let write : writer k j ≡ true = ap (λ (n : ℕ). writer k (decode P n)) (sym kept) ∙ w in
+              taking-value j write (c .address write) (c .value write);
           marks =
               λ e.
               subst (λ (n : ℕ). inFrameAs k P (decode P n) (taking P j (f .taken) v (withByte P f)) i ≡ false) (sym kept)
@@ -337,7 +423,7 @@ module _ (k : Cells) (P : Part) (sound : Sound P) (i : ℕ) where
       rw (c .bits, c .partial) refl in
       subst (λ (g : Hand). Clocked k P i g (risen P run d f)) same
       (pick-both (Clocked k P i) (ltb (f .bits) 7)
-      (λ e. record { bits = refl; partial = refl; taken = c .taken; code = c .code; address = c .address; marks = c .marks })
+      (λ e. record { bits = refl; partial = refl; taken = c .taken; code = c .code; address = c .address; value = c .value; marks = c .marks })
       (λ e. pick-case (Clocked k P i (hand (v ∷ h .bytes) 0 0)) (eqb (f .taken) 0) (λ z. code-clocked h f v t c run (eqb-true _ _ z))
       (λ z. later-clocked h f v t c (eqb-false _ _ z))))
 
@@ -366,6 +452,10 @@ module _ (k : Cells) (P : Part) (sound : Sound P) (i : ℕ) where
             λ w.
             let write : writer k j ≡ true = ap (λ (v : ℕ). writer k (decode P v)) (sym kept) ∙ w in
             loading-address m n f j write ∙ c .address write;
+        value =
+            λ w.
+            let write : writer k j ≡ true = ap (λ (v : ℕ). writer k (decode P v)) (sym kept) ∙ w in
+            ap (λ (g : Frame). g .value) same ∙ c .value write;
         marks =
             λ e. subst (λ (v : ℕ). inFrameAs k P (decode P v) (loading P m n j f) i ≡ false) (sym kept) (loading-frame P i k sound m n f j (c .marks e));
       }
@@ -375,7 +465,7 @@ module _ (k : Cells) (P : Part) (sound : Sound P) (i : ℕ) where
   fallen-clocked m n h f t c =
       pick-case (Clocked k P i h) (outputs P (decode P (f .code)) (f .taken) (on (f .ran)))
       (λ o. pick-case (Clocked k P i h) (leb 1 (f .shown) && ltb (f .shown) 8)
-      (λ e. record { bits = c .bits; partial = c .partial; taken = c .taken; code = c .code; address = c .address; marks = c .marks })
+      (λ e. record { bits = c .bits; partial = c .partial; taken = c .taken; code = c .code; address = c .address; value = c .value; marks = c .marks })
       (λ e. loading-clocked m n h f t c))
       (λ o. c)
 

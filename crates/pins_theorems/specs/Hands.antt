@@ -68,6 +68,11 @@ startOf P (v ∷ vs) =
     pick (leb 1 (length vs) && leb (length vs) (P .addressBytes))
     ((startOf P vs + v * 256 ^ (P .addressBytes - length vs)) % P .size) (startOf P vs)
 
+-- byte addressBytes + 1, the first data byte
+abbrev pub firstOf : Part → List ℕ → ℕ
+firstOf P [] = 0
+firstOf P (v ∷ vs) = pick (eqb (length vs) (P .addressBytes + 1)) v (firstOf P vs)
+
 -- cell i is that of some data byte: data byte j is byte addressBytes + 1 + j
 abbrev pub addressedBy : Cells → Part → ℕ → List ℕ → Bool
 addressedBy k P i [] = false
@@ -77,7 +82,7 @@ addressedBy k P i (v ∷ vs) =
 
 -- ---- the accepted frame
 
--- a deselect that is executed, of a frame that writes the cells k and addresses cell i by the bytes since its own select
+-- an executed deselect of a frame that writes the cells k and addresses cell i by the bytes since its own select
 abbrev pub accepts : Cells → Part → ℕ → Event → Device → Hand → Bool
 accepts k P i (S level) x h =
     level && not (on (x .pins .s)) && isExecuted (judgedNow P x)

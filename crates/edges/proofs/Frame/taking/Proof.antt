@@ -39,8 +39,8 @@ read-byte-requires-2 c κs = search needs
 enum-told-8 : tie.Need-enum-told-8
 enum-told-8 c = search needs
 
-identification-byte-requires : tie.Need-identification-byte-requires
-identification-byte-requires c κs = search needs
+wrid-byte-requires : tie.Need-wrid-byte-requires
+wrid-byte-requires c κs = search needs
 
 enum-told-9 : tie.Need-enum-told-9
 enum-told-9 c = search needs
@@ -67,7 +67,7 @@ returns-7 : tie.Need-returns-7
 returns-7 c = rw (c .before .enum-told7 .given .1) (c .read-byte2 .ensures)
 
 returns-8 : tie.Need-returns-8
-returns-8 c = rw (c .before .enum-told8 .given .1) (c .identification-byte .ensures)
+returns-8 c = rw (c .before .enum-told8 .given .1) (c .wrid-byte .ensures)
 
 returns-9 : tie.Need-returns-9
 returns-9 c = rw (c .enum-told9 .given .1)
@@ -88,7 +88,7 @@ taking-spec =
     enum-told-7
     read-byte-requires-2
     enum-told-8
-    identification-byte-requires
+    wrid-byte-requires
     enum-told-9
     returns
     returns-2

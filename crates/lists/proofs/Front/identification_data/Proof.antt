@@ -10,13 +10,13 @@ use Rattle.lists.proofs.Front.identification_data.Tie as tie
 picks-lock-requires : tie.Need-picks-lock-requires
 picks-lock-requires c κs = search needs
 
-status-byte-requires : tie.Need-status-byte-requires
-status-byte-requires c κs = search needs
+value-byte-requires : tie.Need-value-byte-requires
+value-byte-requires c κs = search needs
 
 returns : tie.Need-returns
 returns c =
     let b = c .before .before .before in
-    λ m l k. c .status-byte .ensures m l k ∙ ap (λ (f : Frame). risenTo f (whole (b .before .before .args .self) l k))
+    λ m l k. c .value-byte .ensures m l k ∙ ap (λ (f : Frame). risenTo f (whole (b .before .before .args .self) l k))
     (call-yes _ (b .before .picks-lock .ensures) (b .if1 .taken) (eq-so _ (c .before .if2 .taken) refl))
 
 unkept-requires : tie.Need-unkept-requires
@@ -41,7 +41,7 @@ identification-data-spec =
     tie.close
     (tie.spec
     picks-lock-requires
-    status-byte-requires
+    value-byte-requires
     returns
     unkept-requires
     returns-2

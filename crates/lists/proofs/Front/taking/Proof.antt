@@ -10,12 +10,12 @@ use Rattle.lists.proofs.Front.taking.Tie as tie
 enum-told : tie.Need-enum-told
 enum-told c = search needs
 
-status-byte-requires : tie.Need-status-byte-requires
-status-byte-requires c κs = search needs
+value-byte-requires : tie.Need-value-byte-requires
+value-byte-requires c κs = search needs
 
 returns : tie.Need-returns
 returns c =
-    λ m l k. rw (c .before .before .enum-told .given .1) (c .status-byte .ensures m l k ∙ ap
+    λ m l k. rw (c .before .before .enum-told .given .1) (c .value-byte .ensures m l k ∙ ap
     (λ (f : Frame). risenTo f (whole (c .before .before .before .before .args .self) l k)) (eq-so _ (c .before .if1 .taken) refl))
 
 unkept-requires : tie.Need-unkept-requires
@@ -143,7 +143,7 @@ taking-spec =
     tie.close
     (tie.spec
     enum-told
-    status-byte-requires
+    value-byte-requires
     returns
     unkept-requires
     enum-told-2
