@@ -21,8 +21,9 @@ x86_64)
 aarch64)
     kit=$(dirname "$(dirname "$(rt doc)")")/on/aarch64
     tools=$kit/toolchain
+    headers=$(cc -E -Wp,-v -xc /dev/null 2>&1 | sed -n 's/^ \(\/.*\)$/-isystem \1/p')
     for source in plainplay plain; do
-        "$tools/bin/clang" --target=x86_64-unknown-linux-gnu -fPIE -std=gnu11 -O2 -c "$source.c" -o "$out/$source.o"
+        "$tools/bin/clang" --target=x86_64-unknown-linux-gnu $headers -fPIE -std=gnu11 -O2 -c "$source.c" -o "$out/$source.o"
     done
     "$kit/bin/rattle-link" --target x86_64-unknown-linux-gnu --toolchain "$tools" -o "$out/plainplay" "$out/plainplay.o" "$out/plain.o"
     cc -std=gnu11 -O2 -o "$out/playspeed" playspeed.c
