@@ -1,21 +1,22 @@
-/* The bench library for C and C++: both models of the M95512 and the M95512-D, the driver, the split, one page write
- * laid over another and images as Intel HEX, proved. Build the archive with `rt staticlib bench` (x86-64).
+/* The bench library for C and C++: both models of the M95512, the M95512-D and the M95M01, the driver, the split, one
+ * page write laid over another and images as Intel HEX, proved. Build the archive with `rt staticlib bench` (x86-64).
  * docs/LINKING.md says how to link it, and bench/example.c shows each kind of call.
  *
- * The device is a record. Its cells are the caller's: the memory and, right after it in each call that may look at
- * them, the 128 bytes of the identification page. The M95512 has no such page, but its calls are lent one too, and
- * leave it as it was. The M95512-D reads its page and the page's lock with 83h. With 82h it writes the page or sets the
- * lock.
+ * The device is a record, whose `part` says which of the three it is. Its cells are the caller's: the memory and, right
+ * after it in each call that may look at them, the identification page, both of that part's length. The M95512 has no
+ * such page, but its calls are lent one too, of 128 bytes, and leave it as it was. The M95512-D and the M95M01 read
+ * their page and the page's lock with 83h. With 82h they write the page or set the lock.
  *
  * Every call answers every input. A caller must guarantee only that a pointer and the length beside it name bytes that
  * are there (a null pointer with length 0 is an empty slice), and that what is lent to be written overlaps nothing else
  * that the same call is lent. No call keeps state, so calls from several threads need no lock unless they share lent
  * bytes.
  *
- * Each answer's `number` is CARTVESPER_DONE or a refusal, 1 to 8 or 12. Where several apply the lowest is given.
- * Everything lent and every record then comes back byte for byte as it was, and every count and every `value` is 0.
- * (Power-up takes no record: where it refuses, with 2 or 6, it gives the delivered one.) 9 and 13 are of the driver
- * alone, and come after frames were sent: they say how a run ended before its last page.
+ * Each answer's `number` is CARTVESPER_DONE or a refusal, 1 to 8 or 12. Where several apply the lowest is given, but
+ * for the export of an M95M01, where 12 comes before 5. Everything lent and every record then comes back byte for byte
+ * as it was, and every count and every `value` is 0. (Power-up takes no record: where it refuses, with 2 or 6, it gives
+ * the delivered one.) 9 and 13 are of the driver alone, and come after frames were sent: they say how a run ended
+ * before its last page.
  */
 #ifndef CARTVESPER_H
 #define CARTVESPER_H
@@ -29,46 +30,70 @@ extern "C" {
 #define CARTVESPER_ASSERT(fact) _Static_assert(fact, #fact)
 #endif
 
-/* The numbers given back. */
+/* The numbers given back. Sizes are the part's: the record's, or the one named at power-up or to the split. A part that
+ * is none has the M95512's. */
 enum {
     CARTVESPER_DONE = 0,
-    CARTVESPER_MEMORY_LENGTH = 1, /* memory not 65,536 bytes, or identification page not 128 */
+    CARTVESPER_MEMORY_LENGTH = 1, /* memory or identification page not of the part's length */
     CARTVESPER_RECORD_RANGE = 2,  /* record, part, level or flag outside its range, or no event */
-    CARTVESPER_FRAME_LENGTH = 3,  /* slice above 65,540 bytes */
+    CARTVESPER_FRAME_LENGTH = 3,  /* slice above the memory's size plus 4 bytes */
     CARTVESPER_BIT_COUNT = 4,     /* bit count doesn't fit the slice */
     CARTVESPER_OUTPUT_LENGTH = 5, /* output length differs */
-    CARTVESPER_CYCLE_LENGTH = 6,  /* cycle length not 1 to 5,000 */
-    CARTVESPER_ADDRESS_RANGE = 7, /* address + length above 65,536, address above FFFFh, or no part k */
+    CARTVESPER_CYCLE_LENGTH = 6,  /* cycle length not 1 to the part's longest */
+    CARTVESPER_ADDRESS_RANGE = 7, /* address + length above the memory's size, no such address, or no part k */
     CARTVESPER_POLL_RANGE = 8,    /* poll interval or poll limit outside its range */
     CARTVESPER_TIMED_OUT = 9,     /* a wait used its limit and WIP is still 1 */
-    CARTVESPER_NOT_IMPORTED = 12, /* a HEX text is not good, or a cycle runs */
+    CARTVESPER_NOT_IMPORTED = 12, /* a HEX text is not good, or a cycle runs; also export and import of an M95M01 */
     CARTVESPER_PROTECTED = 13     /* the data touches the protected block */
 };
 
-/* The parts: the one without an identification page and its lock, and the one with them. */
-enum { CARTVESPER_M95512 = 0, CARTVESPER_M95512D = 1 };
+/* The parts: the one without an identification page and its lock, the one of its sizes with them, and the one of 1
+ * Mbit, which has them too. */
+enum { CARTVESPER_M95512 = 0, CARTVESPER_M95512D = 1, CARTVESPER_M95M01 = 2 };
 
-/* The sizes, the same for both parts: cells of the memory, of a page and of the identification page, bytes of the
- * longest frame, microseconds of the longest cycle, which is the longest poll interval too, and the highest poll
- * limit. */
+/* The sizes: cells of the memory, of a page and of the identification page, bytes of the longest frame, microseconds of
+ * the longest cycle, which is the longest poll interval too, and the highest poll limit. */
 enum {
+    /* the same for the M95512 and the M95512-D */
     CARTVESPER_MEMORY = 65536,
     CARTVESPER_PAGE = 128,
     CARTVESPER_IDENTIFICATION = 128,
     CARTVESPER_LONGEST_FRAME = 65540,
     CARTVESPER_LONGEST_CYCLE = 5000,
-    CARTVESPER_MOST_POLLS = 5001
+    CARTVESPER_MOST_POLLS = 5001,
+    /* of the M95M01 */
+    CARTVESPER_M95M01_MEMORY = 131072,
+    CARTVESPER_M95M01_PAGE = 256,
+    CARTVESPER_M95M01_IDENTIFICATION = 256,
+    CARTVESPER_M95M01_LONGEST_FRAME = 131076,
+    CARTVESPER_M95M01_LONGEST_CYCLE = 4000,
+    CARTVESPER_M95M01_MOST_POLLS = 4001,
+    /* room that serves every part */
+    CARTVESPER_LARGEST_MEMORY = CARTVESPER_M95M01_MEMORY,
+    CARTVESPER_LARGEST_PAGE = CARTVESPER_M95M01_PAGE,
+    CARTVESPER_LARGEST_IDENTIFICATION = CARTVESPER_M95M01_IDENTIFICATION
 };
+
+/* How many bytes the calls want lent for a part by its number: of the memory, and of the identification page. */
+static inline size_t cartvesper_memory_of(uint8_t part) {
+    return part == CARTVESPER_M95M01 ? CARTVESPER_M95M01_MEMORY : CARTVESPER_MEMORY;
+}
+
+static inline size_t cartvesper_identification_of(uint8_t part) {
+    return part == CARTVESPER_M95M01 ? CARTVESPER_M95M01_IDENTIFICATION : CARTVESPER_IDENTIFICATION;
+}
 
 /* The version of the records. Each change of a record's fields, their places or their sizes raises it. Whoever keeps
  * records in a file, or builds them in another language, keeps this number beside them. Version 1 stands for a byte for
- * each mark, version 2 for a bit; version 3 also for the part and its lock, and for whole bytes taken to 5. */
-#define CARTVESPER_RECORDS 3
+ * each mark, version 2 for a bit; version 3 also for the part and its lock, and for whole bytes taken to 5; version 4
+ * also for latches of 256 cells, and for whole bytes taken to 6 on the M95M01. */
+#define CARTVESPER_RECORDS 4
 
 /* Bytes of an exported HEX text. */
 enum { CARTVESPER_HEX_TEXT = 180236 };
 
-/* The instruction codes. Any other waits in silence for deselect; on the M95512 the last two are among those. */
+/* The instruction codes. Any other waits in silence for deselect; on the M95512 the last two are among those. On the
+ * M95M01 WRDI is executed in a cycle too: WEL becomes 0, and the cycle runs on. */
 enum {
     CARTVESPER_WREN = 0x06,
     CARTVESPER_WRDI = 0x04,
@@ -76,15 +101,18 @@ enum {
     CARTVESPER_WRSR = 0x01,
     CARTVESPER_READ = 0x03,
     CARTVESPER_WRITE = 0x02,
-    CARTVESPER_RDID = 0x83, /* of the M95512-D */
+    CARTVESPER_RDID = 0x83, /* of the M95512-D and the M95M01 */
     CARTVESPER_WRID = 0x82
 };
 
-/* RDID (83h) and WRID (82h) take two address bytes, as READ and WRITE do. Bit 10 of the address says what is meant:
- *   0 the identification page. The low 7 bits pick the cell, and both roll within the page. 83h shows the cells from
- *     there on. 82h writes them, with the bit counts of WRITE
+/* READ and WRITE take two address bytes, on the M95M01 three, of whose first only the lowest bit counts. A WRITE has 32
+ * bits or more, on the M95M01 40 or more, in whole bytes.
+ *
+ * RDID (83h) and WRID (82h) take as many address bytes. Bit 10 of the address says what is meant:
+ *   0 the identification page. The low 7 bits, on the M95M01 the low 8, pick the cell, and both roll within the page.
+ *     83h shows the cells from there on. 82h writes them, with the bit counts of WRITE
  *   1 the lock. 83h shows it again and again, as 00h or 01h (RDLS). 82h sets it for good (LID): with exactly 32 bits,
- *     and bit 1 of the data byte at 1
+ *     on the M95M01 40, and bit 1 of the data byte at 1
  * 83h is ignored in a cycle, as READ is. 82h needs WEL, no cycle, lock 0, and BP1 and BP0 not both 1; W and SRWD do not
  * matter to it. It runs a cycle, and the lock shows when that ends. */
 enum { CARTVESPER_LOCK_ADDRESS = 0x400, CARTVESPER_LOCK_DATA = 0x02 };
@@ -107,35 +135,37 @@ static inline uint64_t cartvesper_event(unsigned kind, uint32_t value) {
     return (uint64_t)kind << 32 | value;
 }
 
-/* A page write: 128 latched bytes, and a mark on each addressed one: cell i has bit i % 64 of word i / 64. Any word is
- * inside the ranges of a latch; a byte whose cell is not marked is 0. */
+/* A page write: latched bytes, and a mark on each addressed one: cell i has bit i % 64 of word i / 64. A byte whose
+ * cell is not marked is 0. There are as many cells as the largest page has. In a record of the M95512 or the M95512-D
+ * those from 128 on are not marked; in one of the M95M01, and where one latch is laid over another, any word is inside
+ * the ranges. */
 typedef struct {
-    uint8_t bytes[CARTVESPER_PAGE];
-    uint64_t marks[CARTVESPER_PAGE / 64];
+    uint8_t bytes[CARTVESPER_LARGEST_PAGE];
+    uint64_t marks[CARTVESPER_LARGEST_PAGE / 64];
 } cartvesper_latch;
 
-/* 1 where a cell is marked, 0 where it is not or the page has no such cell. */
+/* 1 where a cell is marked, 0 where it is not or a latch has no such cell. */
 static inline int cartvesper_marked(const cartvesper_latch *latch, size_t cell) {
-    return cell < CARTVESPER_PAGE && (latch->marks[cell / 64] >> cell % 64 & 1) != 0;
+    return cell < CARTVESPER_LARGEST_PAGE && (latch->marks[cell / 64] >> cell % 64 & 1) != 0;
 }
 
-/* What waits for the end of the write cycle: kind 0 nothing, 1 a status value, 2 a page; of the M95512-D also 3 the
- * identification page (page number 0, bytes and marks as a page's) and 4 the lock. What does not wait is 0, so no cell
- * is marked where neither page waits. */
+/* What waits for the end of the write cycle: kind 0 nothing, 1 a status value, 2 a page; of the M95512-D and the M95M01
+ * also 3 the identification page (page number 0, bytes and marks as a page's) and 4 the lock. What does not wait is 0,
+ * so no cell is marked where neither page waits. */
 typedef struct {
     uint8_t kind;
     uint8_t status;
-    uint32_t page;
+    uint32_t page; /* below 512 */
     cartvesper_latch latch;
 } cartvesper_waiting;
 
 /* The device of the frame model. Flags are 0 or 1; times are microseconds. */
 typedef struct {
-    uint8_t part; /* CARTVESPER_M95512 or CARTVESPER_M95512D */
+    uint8_t part; /* CARTVESPER_M95512, CARTVESPER_M95512D or CARTVESPER_M95M01 */
     uint8_t lock; /* 1: the identification page is locked for good. The M95512 keeps it and never looks at it */
     uint8_t srwd, bp1, bp0, wel;
-    uint32_t cycle; /* 1 to 5,000 */
-    uint32_t left;  /* 0 to cycle; above 0 while a cycle runs */
+    uint32_t cycle; /* 1 to 5,000, of the M95M01 1 to 4,000 */
+    uint32_t left;  /* 0 to cycle; above 0 while a cycle runs, with WEL 1, of the M95M01 0 or 1 */
     uint32_t last;  /* the last clock reading */
     cartvesper_waiting waits;
 } cartvesper_core;
@@ -147,7 +177,7 @@ typedef struct {
 
 /* The frame in hand; fields that it has not reached are 0, so no cell is marked where it has latched nothing. */
 typedef struct {
-    uint8_t taken;   /* whole bytes, 0 to 5, staying at 5 */
+    uint8_t taken;   /* whole bytes, 0 to 5, staying at 5, of the M95M01 0 to 6 */
     uint8_t bits;    /* of the current byte, 0 to 7 */
     uint8_t partial; /* their values */
     uint8_t code;    /* the instruction byte */
@@ -155,7 +185,7 @@ typedef struct {
     uint8_t value;   /* the data byte of WRSR, or the first of an 82h for the lock */
     uint8_t out;     /* the output byte */
     uint8_t shown;   /* its bits shown, 0 to 8 */
-    uint32_t address; /* as taken, then of the next data byte; 82h and 83h keep all but its low 7 bits */
+    uint32_t address; /* as taken, then of the next data byte; 82h and 83h keep all but the bits that pick the cell */
     cartvesper_latch latch;
 } cartvesper_frame_part;
 
@@ -168,17 +198,17 @@ typedef struct {
 } cartvesper_device;
 
 /* The layout that the archive goes by. */
-CARTVESPER_ASSERT(sizeof(cartvesper_latch) == 144 && offsetof(cartvesper_latch, marks) == 128);
-CARTVESPER_ASSERT(sizeof(cartvesper_waiting) == 152 && offsetof(cartvesper_waiting, latch) == 8);
+CARTVESPER_ASSERT(sizeof(cartvesper_latch) == 288 && offsetof(cartvesper_latch, marks) == 256);
+CARTVESPER_ASSERT(sizeof(cartvesper_waiting) == 296 && offsetof(cartvesper_waiting, latch) == 8);
 CARTVESPER_ASSERT(offsetof(cartvesper_waiting, page) == 4);
-CARTVESPER_ASSERT(sizeof(cartvesper_core) == 176 && offsetof(cartvesper_core, waits) == 24);
+CARTVESPER_ASSERT(sizeof(cartvesper_core) == 320 && offsetof(cartvesper_core, waits) == 24);
 CARTVESPER_ASSERT(offsetof(cartvesper_core, lock) == 1 && offsetof(cartvesper_core, srwd) == 2);
 CARTVESPER_ASSERT(offsetof(cartvesper_core, cycle) == 8 && offsetof(cartvesper_core, last) == 16);
 CARTVESPER_ASSERT(sizeof(cartvesper_pins) == 5);
-CARTVESPER_ASSERT(sizeof(cartvesper_frame_part) == 160 && offsetof(cartvesper_frame_part, latch) == 16);
+CARTVESPER_ASSERT(sizeof(cartvesper_frame_part) == 304 && offsetof(cartvesper_frame_part, latch) == 16);
 CARTVESPER_ASSERT(offsetof(cartvesper_frame_part, address) == 8);
-CARTVESPER_ASSERT(sizeof(cartvesper_device) == 344 && offsetof(cartvesper_device, frame) == 8);
-CARTVESPER_ASSERT(offsetof(cartvesper_device, core) == 168);
+CARTVESPER_ASSERT(sizeof(cartvesper_device) == 632 && offsetof(cartvesper_device, frame) == 8);
+CARTVESPER_ASSERT(offsetof(cartvesper_device, core) == 312);
 
 typedef struct {
     uint32_t number;
@@ -213,18 +243,18 @@ typedef struct {
     uint32_t value; /* 0 in a refusal */
 } cartvesper_value;
 
-CARTVESPER_ASSERT(sizeof(cartvesper_core_answer) == 184 && offsetof(cartvesper_core_answer, core) == 8);
-CARTVESPER_ASSERT(sizeof(cartvesper_frame_answer) == 192 && offsetof(cartvesper_frame_answer, core) == 16);
-CARTVESPER_ASSERT(sizeof(cartvesper_device_answer) == 352 && offsetof(cartvesper_device_answer, device) == 8);
-CARTVESPER_ASSERT(sizeof(cartvesper_latch_answer) == 152 && offsetof(cartvesper_latch_answer, latch) == 8);
-CARTVESPER_ASSERT(sizeof(cartvesper_driver_answer) == 192 && offsetof(cartvesper_driver_answer, core) == 16);
+CARTVESPER_ASSERT(sizeof(cartvesper_core_answer) == 328 && offsetof(cartvesper_core_answer, core) == 8);
+CARTVESPER_ASSERT(sizeof(cartvesper_frame_answer) == 336 && offsetof(cartvesper_frame_answer, core) == 16);
+CARTVESPER_ASSERT(sizeof(cartvesper_device_answer) == 640 && offsetof(cartvesper_device_answer, device) == 8);
+CARTVESPER_ASSERT(sizeof(cartvesper_latch_answer) == 296 && offsetof(cartvesper_latch_answer, latch) == 8);
+CARTVESPER_ASSERT(sizeof(cartvesper_driver_answer) == 336 && offsetof(cartvesper_driver_answer, core) == 16);
 CARTVESPER_ASSERT(sizeof(cartvesper_value) == 8);
 
 /* ---- the frame model */
 
 /* Power-up of a part with the given lock, status bits, cycle length and clock reading. 2 (a part that is none, a lock
- * or a flag that is not 0 or 1) and then 6 leave the delivered record: the M95512, lock and status bits 0, cycle 5,000,
- * reading 0. */
+ * or a flag that is not 0 or 1) and then 6 leave the delivered record, whatever part was asked for: the M95512, lock
+ * and status bits 0, cycle 5,000, reading 0. */
 cartvesper_core_answer cartvesper_power_up(uint8_t part, uint8_t lock, uint32_t cycle, uint8_t srwd, uint8_t bp1,
                                            uint8_t bp0, uint32_t reading);
 /* A clock reading of the free-running 32-bit microsecond counter; the end of a cycle stores what waits: the marked
@@ -241,9 +271,10 @@ cartvesper_frame_answer cartvesper_frame(cartvesper_core core, const uint8_t *me
 cartvesper_value cartvesper_core_in_ranges(cartvesper_core core);
 /* the status byte */
 cartvesper_value cartvesper_core_status(cartvesper_core core);
-/* the lowest protected address, 65,536 for none. For a device of the pin model, ask of its `core` */
+/* the lowest protected address, the memory's size for none: at three quarters of the memory, at half of it, or 0. For a
+ * device of the pin model, ask of its `core` */
 cartvesper_value cartvesper_core_lowest_protected(cartvesper_core core);
-/* value 1 where the address is protected, which it is from that one on; 7 for an address above FFFFh */
+/* value 1 where the address is protected, which it is from that one on; 7 for an address that the memory has not */
 cartvesper_value cartvesper_core_protected(cartvesper_core core, uint32_t address);
 /* how many cells the running cycle will touch: the marked cells of the page or the identification page that waits, 0
  * where neither waits */
@@ -288,8 +319,8 @@ cartvesper_device_answer cartvesper_device_play(cartvesper_device device, uint8_
  * one and then the later. So two retries in a row are one:
  *   grouping does not matter; an empty one (no mark, every byte 0) changes nothing, over another or under it; one laid
  *   twice is as once; order does not matter where no cell is marked in both.
- * 2 where either is outside its ranges, an unmarked byte that is not 0: the latch is then the earlier one as it was
- * given. */
+ * 2 where either is outside its ranges, an unmarked byte that is not 0 in any of the 256 cells: the latch is then the
+ * earlier one as it was given. No part is asked for: two that mark no cell from 128 on give one that does not. */
 cartvesper_latch_answer cartvesper_lay(cartvesper_latch earlier, cartvesper_latch later);
 
 /* ---- the driver, over the frame model */
@@ -297,8 +328,9 @@ cartvesper_latch_answer cartvesper_lay(cartvesper_latch earlier, cartvesper_latc
 /* Writes `length` bytes from an address on, as page writes: polls with RDSR until no cycle runs, reads BP1 and BP0 in
  * the status byte that ended this wait, then for each page part sends WREN and WRITE and polls until its cycle has
  * ended. A poll but the first moves the clock by `interval` microseconds, 1 to 5,000; each wait makes at most `limit`
- * polls, 1 to 5,001. Refusals 1, 2, 7, 8 in that order, also with no data; pages and frames are 0 there. The address is
- * any 64-bit number: no sum wraps, and 65,536 is taken with no data. Else the number is
+ * polls, 1 to 5,001. On the M95M01 these are 1 to 4,000 and 1 to 4,001. Refusals 1, 2, 7, 8 in that order, also with no
+ * data; pages and frames are 0 there. The address is any 64-bit number: no sum wraps, and the memory's size is taken
+ * with no data. Else the number is
  *   0 all pages done: the bytes are in the memory (no data: done at once, 0 frames, the clock not moved)
  *   9 a wait used its limit and WIP is still 1: the record and the memory are those after the last poll. The cycle goes
  *     on with the next clock reading; what it is to store (the page in hand, or, in the first wait, what waited before)
@@ -313,28 +345,29 @@ cartvesper_driver_answer cartvesper_write(cartvesper_core core, uint8_t *memory,
                                           size_t cells, uint64_t address, const uint8_t *bytes, size_t length,
                                           uint32_t interval, uint32_t limit);
 
-/* ---- the split of a run of bytes into page parts, the numbers that the driver goes by: address, length and part are
+/* ---- the split of a run of bytes into page parts, the numbers that the driver goes by: `chip` is CARTVESPER_M95512,
+ * CARTVESPER_M95512D or CARTVESPER_M95M01, and any other number reads the M95512's sizes; address, length and part are
  * any 64-bit numbers */
 
 /* 0 where the run lies in the memory and has the part, from 0; else 7, and the three others give 0. No data has no
  * part 0. */
-uint64_t cartvesper_part_refusal(uint64_t address, uint64_t length, uint64_t part);
+uint64_t cartvesper_part_refusal(uint8_t chip, uint64_t address, uint64_t length, uint64_t part);
 /* how many parts the run has */
-uint64_t cartvesper_part_count(uint64_t address, uint64_t length, uint64_t part);
+uint64_t cartvesper_part_count(uint8_t chip, uint64_t address, uint64_t length, uint64_t part);
 /* the part's first cell, and its length */
-uint64_t cartvesper_part_address(uint64_t address, uint64_t length, uint64_t part);
-uint64_t cartvesper_part_length(uint64_t address, uint64_t length, uint64_t part);
+uint64_t cartvesper_part_address(uint8_t chip, uint64_t address, uint64_t length, uint64_t part);
+uint64_t cartvesper_part_length(uint8_t chip, uint64_t address, uint64_t length, uint64_t part);
 
-/* ---- images as Intel HEX */
+/* ---- images as Intel HEX, of the M95512 and the M95512-D */
 
 /* All cells as a text into `out`, as stored, in a cycle too: 4,096 records of 16 bytes in rising order, upper case, LF
- * ends, then :00000001FF. Refusals 1, 2, and 5 for a room that is not CARTVESPER_HEX_TEXT, with `out` as it was. The
- * answer is the number alone. */
+ * ends, then :00000001FF. Refusals 1, 2, then 12 for an M95M01, then 5 for a room that is not CARTVESPER_HEX_TEXT, with
+ * `out` as it was. The answer is the number alone. */
 uint32_t cartvesper_hex_export(cartvesper_core core, const uint8_t *memory, size_t size, uint8_t *out, size_t room);
 /* The cells that a text names, a later record over an earlier one; cells that none names keep their bytes, whatever
  * protects them. A good text is records of type 00 with 0 to 255 bytes, upper case, LF ends, in any order, then exactly
- * :00000001FF and its LF, and nothing more. Refusals 1, 2, and 12 for any other text or while a cycle runs, with the
- * memory as it was. The record comes back as it was given. */
+ * :00000001FF and its LF, and nothing more. Refusals 1, 2, and 12 for any other text, while a cycle runs or for an
+ * M95M01, with the memory as it was. The record comes back as it was given. */
 cartvesper_core_answer cartvesper_hex_import(cartvesper_core core, uint8_t *memory, size_t size, const uint8_t *text,
                                              size_t length);
 

@@ -11,11 +11,12 @@
 #include <sys/mman.h>
 #include <unistd.h>
 
-enum { MEMORY = CARTVESPER_MEMORY, IDENTIFICATION = CARTVESPER_IDENTIFICATION, LONGEST = CARTVESPER_LONGEST_FRAME };
+enum { CELLS = CARTVESPER_LARGEST_PAGE, WORDS = CELLS / 64 }; /* of a latch */
 enum { ROLES = 4, ROOM = 1 << 18 }; /* memory, input, output, identification page; room for the longest slice */
-enum { MOST_DRAWN = 3 + IDENTIFICATION + 4 }; /* bytes of a frame at the pins: around the page's end */
+enum { MOST_DRAWN = 4 + CELLS + 4 }; /* bytes of a frame at the pins: around the end of the largest page */
 
 static int on_heap;
+static uint8_t part; /* of the devices at work */
 static uint8_t *areas[ROLES];
 static uint64_t state, seen, calls;
 
@@ -88,6 +89,22 @@ static size_t about(size_t n)
 static cartvesper_core core;
 static cartvesper_device device;
 
+/* the sizes of the part */
+static size_t memory_size(void)
+{
+    return cartvesper_memory_of(part);
+}
+
+static size_t page_size(void)
+{
+    return cartvesper_identification_of(part);
+}
+
+static uint32_t longest_cycle(void)
+{
+    return part == CARTVESPER_M95M01 ? CARTVESPER_M95M01_LONGEST_CYCLE : CARTVESPER_LONGEST_CYCLE;
+}
+
 /* the memory and the identification page, and the four arguments that they are */
 typedef struct {
     uint8_t *memory, *identification;
@@ -102,9 +119,9 @@ static size_t random_length(void)
     case 0:
         return 0;
     case 1:
-        return below(20) == 0 ? LONGEST - 1 + below(3) : 3;
+        return below(20) == 0 ? memory_size() + 3 + below(3) : 3; /* the longest is the memory's size plus 4 */
     case 2:
-        return 4; /* of a frame that sets the lock */
+        return 4 + (part == CARTVESPER_M95M01); /* of a frame that sets the lock */
     default:
         return 1 + below(300);
     }
@@ -118,7 +135,8 @@ static uint8_t random_code(void)
     return codes[below(sizeof codes)];
 }
 
-/* WEL and an open lock by hand, so that frames that need them are executed: inside the ranges at any time */
+/* WEL and an open lock by hand, so that frames that need them are executed: inside the ranges at any time. A WRDI then
+ * meets a cycle with WEL 1 */
 static void enable(cartvesper_core *one)
 {
     if (below(2)) {
@@ -199,7 +217,7 @@ static void check_play(slices lent)
 /* a branch on the answer: a checker sees a field of the record that was never written */
 static void check_cells(cartvesper_value touched)
 {
-    if (touched.number != 0 || touched.value > CARTVESPER_PAGE) {
+    if (touched.number != 0 || touched.value > page_size()) {
         fprintf(stderr, "check: a record that came back is refused, or its cycle touches more than a page\n");
         exit(1);
     }
@@ -214,9 +232,9 @@ static void fill_latch(cartvesper_latch *latch)
         return;
     }
     fill(latch->bytes, sizeof latch->bytes);
-    for (size_t k = 0; k < CARTVESPER_PAGE / 64; k++)
+    for (size_t k = 0; k < WORDS; k++)
         latch->marks[k] = (uint64_t)random32() << 32 | random32();
-    for (size_t i = 0; i < CARTVESPER_PAGE; i++)
+    for (size_t i = 0; i < CELLS; i++)
         if (!cartvesper_marked(latch, i) && below(1000))
             latch->bytes[i] = 0;
 }
@@ -239,33 +257,35 @@ static void check_lay(void)
     give_back(answer);
 }
 
-/* a cycle begun by hand: of the M95512-D its end stores the identification page, or the lock */
+/* a cycle begun by hand: its end stores the identification page, or the lock. The M95512 has neither; of the M95M01
+ * some with WEL 0, as WRDI leaves it */
 static void begin_cycle(cartvesper_core *idle)
 {
-    if (idle->part != CARTVESPER_M95512D || idle->left != 0)
+    if (idle->part == CARTVESPER_M95512 || idle->left != 0)
         return;
-    idle->wel = 1;
+    idle->wel = idle->part != CARTVESPER_M95M01 || below(2);
     idle->left = idle->cycle;
     idle->waits.kind = (uint8_t)(below(8) ? 3 : 4);
     if (idle->waits.kind == 4)
         return;
     fill(idle->waits.latch.bytes, sizeof idle->waits.latch.bytes);
-    for (size_t k = 0; k < CARTVESPER_PAGE / 64; k++)
+    for (size_t k = 0; k < page_size() / 64; k++)
         idle->waits.latch.marks[k] = below(2) ? UINT64_MAX : (uint64_t)random32() << 32 | random32();
-    for (size_t i = 0; i < CARTVESPER_PAGE; i++)
+    for (size_t i = 0; i < CELLS; i++)
         if (!cartvesper_marked(&idle->waits.latch, i))
             idle->waits.latch.bytes[i] = 0;
 }
 
 static void check_write(slices lent)
 {
-    size_t length = random_length();
-    uint64_t address = length <= MEMORY ? MEMORY - length + below(2) : 0 - (uint64_t)length;
+    size_t length = random_length(), size = memory_size();
+    uint64_t address = length <= size ? size - length + below(2) : 0 - (uint64_t)length;
     if (below(4))
-        address = below(MEMORY + 1);
+        address = below((uint32_t)size + 1);
     uint8_t *bytes = lend(1, length, 1);
     fill(bytes, length);
-    uint32_t interval = 500 + below(4600), limit = below(3) ? 5001 : below(12);
+    uint32_t longest = longest_cycle(), interval = 500 + below(longest - 400);
+    uint32_t limit = below(3) ? longest + 1 : below(12);
     core = cartvesper_write(core, LENT(lent), address, bytes, length, interval, limit).core;
     give_back(bytes);
 }
@@ -297,8 +317,9 @@ static void check_call(void)
         check_lay();
     calls += 8;
     slices lent;
-    lent.size = below(16) ? MEMORY : about(below(2) * MEMORY);
-    lent.cells = below(16) ? IDENTIFICATION : about(below(2) * IDENTIFICATION);
+    uint8_t other = (uint8_t)below(3); /* with its lengths, or beside them */
+    lent.size = below(16) ? memory_size() : about(below(2) * cartvesper_memory_of(other));
+    lent.cells = below(16) ? page_size() : about(below(2) * cartvesper_identification_of(other));
     lent.memory = lend(0, lent.size, 1);
     lent.identification = lend(3, lent.cells, 1);
     if (on_heap || below(64) == 0)
@@ -337,8 +358,9 @@ int main(int argc, char **argv)
     map_areas();
     for (uint64_t i = 0; i < rounds; i++) {
         if (i % 8 == 0) {
-            uint8_t part = (uint8_t)below(2), lock = (uint8_t)below(2), bp0 = (uint8_t)(below(4) == 0);
-            uint32_t cycle = 1 + below(CARTVESPER_LONGEST_CYCLE), reading = random32();
+            part = (uint8_t)below(3);
+            uint8_t lock = (uint8_t)below(2), bp0 = (uint8_t)(below(4) == 0);
+            uint32_t cycle = 1 + below(longest_cycle()), reading = random32();
             core = cartvesper_power_up(part, lock, cycle, 0, 0, bp0, reading).core;
             device = cartvesper_device_power_up(part, lock, cycle, 0, 0, 0, reading).device;
         }

@@ -10,10 +10,13 @@
 
 enum { WREN = CARTVESPER_WREN, WRDI = CARTVESPER_WRDI, RDSR = CARTVESPER_RDSR };
 enum { WRSR = CARTVESPER_WRSR, READ = CARTVESPER_READ, WRITE = CARTVESPER_WRITE };
-enum { RDID = CARTVESPER_RDID, WRID = CARTVESPER_WRID, M95512D = CARTVESPER_M95512D };
+enum { RDID = CARTVESPER_RDID, WRID = CARTVESPER_WRID };
 enum { LOCK_ADDRESS = CARTVESPER_LOCK_ADDRESS, LOCK_DATA = CARTVESPER_LOCK_DATA };
-enum { MEMORY = CARTVESPER_MEMORY, PAGE = CARTVESPER_PAGE, LONGEST = CARTVESPER_LONGEST_FRAME, GUARD = 64 };
-enum { WORD = 64, WORDS = PAGE / WORD }; /* of marks */
+enum { M95512 = CARTVESPER_M95512, M95512D = CARTVESPER_M95512D, M95M01 = CARTVESPER_M95M01 };
+/* room for every part: the largest memory, the longest frame, the cells of a latch */
+enum { LARGEST = CARTVESPER_LARGEST_MEMORY, LONGEST = CARTVESPER_M95M01_LONGEST_FRAME };
+enum { CELLS = CARTVESPER_LARGEST_PAGE, WORD = 64, WORDS = CELLS / WORD }; /* and its words of marks */
+enum { PAGES = 512, GUARD = 64 };                                          /* pages of every part */
 enum { SET_S, SET_C, SET_D, SET_W, SET_HOLD, CLOCK };
 enum { EVENTS = 16384 };
 
@@ -54,7 +57,7 @@ static void random_bytes(void *to, size_t length)
 /* ---- lent bytes, one set for each side, with guards around them: the memory and the identification page */
 
 typedef struct {
-    uint8_t before[GUARD], bytes[MEMORY + 1], between[GUARD], identification[PAGE + 1], after[GUARD];
+    uint8_t before[GUARD], bytes[LARGEST + 1], between[GUARD], identification[CELLS + 1], after[GUARD];
 } lent_memory;
 
 /* how long both slices are said to be */
@@ -62,7 +65,12 @@ typedef struct {
     size_t size, cells;
 } lengths;
 
-static const lengths whole = {MEMORY, PAGE};
+/* a part's own lengths */
+static lengths whole(uint8_t part)
+{
+    const plain_row *row = plain_row_of(part);
+    return (lengths){row->size, row->page};
+}
 
 typedef struct {
     uint8_t before[GUARD], bytes[LONGEST + 3], after[GUARD]; /* a list has at most 16,384 events */
@@ -74,7 +82,7 @@ static uint8_t frame_bytes[LONGEST + 3];
 
 /* ---- counts */
 
-/* an 82h of the M95512-D, executed or ignored: the first test that fails */
+/* an 82h of a part that knows it, executed or ignored: the first test that fails */
 enum { EXECUTED, IN_CYCLE, WITHOUT_WEL, BY_COUNT, LOCKED, BP_11, IN_HOLD, BY_DATA, CAUSES };
 
 static struct {
@@ -87,9 +95,11 @@ static struct {
     uint64_t twice, busy;                     /* runs sent twice, both done; a cycle ran at the first one's start */
     uint64_t identified, locked;              /* cycles that stored the identification page, the lock */
     uint64_t kept, parts_swept;               /* its cells changed; records made of each part, lock and kind */
-    uint64_t by_page[CAUSES], by_lock[CAUSES]; /* 82h of the M95512-D, for the page and for the lock */
-    uint64_t page_shown, lock_shown, unshown; /* its 83h past the address; those that drove nothing */
+    uint64_t by_page[CAUSES], by_lock[CAUSES]; /* 82h of the parts that know it, for the page and for the lock */
+    uint64_t page_shown, lock_shown, unshown; /* their 83h past the address; those that drove nothing */
     uint64_t unknown, fields_swept;           /* 82h and 83h of the M95512; frames in hand made field by field */
+    uint64_t disabled, stayed, unlatched;     /* WRDI in a cycle: WEL became 0, stayed; readings in a cycle at WEL 0 */
+    uint64_t of_part[PLAIN_PARTS];            /* frames ended, by the part: those of the frame model and at the pins */
     uint64_t numbers[14];                     /* answers by their number */
 } counts;
 
@@ -99,9 +109,9 @@ static uint64_t seed, current_round;
 
 static int frame_same(const cartvesper_frame_part *a, const cartvesper_frame_part *b)
 {
-    return a->taken == b->taken && a->bits == b->bits && a->partial == b->partial && a->code == b->code && a->ran == b->ran && a->value == b->value &&
-           a->out == b->out && a->shown == b->shown && a->address == b->address &&
-           plain_latch_same(&a->latch, &b->latch);
+    return a->taken == b->taken && a->bits == b->bits && a->partial == b->partial && a->code == b->code &&
+           a->ran == b->ran && a->value == b->value && a->out == b->out && a->shown == b->shown &&
+           a->address == b->address && plain_latch_same(&a->latch, &b->latch);
 }
 
 static int device_same(const cartvesper_device *a, const cartvesper_device *b)
@@ -121,7 +131,7 @@ static void print_bytes(const uint8_t *bytes, size_t length)
 static void print_latch(const cartvesper_latch *latch)
 {
     printf("    latch, byte/mark of each cell that is not 0/0:");
-    for (int i = 0; i < PAGE; i++)
+    for (int i = 0; i < CELLS; i++)
         if (latch->bytes[i] || cartvesper_marked(latch, (size_t)i))
             printf(" %d:%02X/%d", i, latch->bytes[i], cartvesper_marked(latch, (size_t)i));
     printf("\n    its words:");
@@ -142,8 +152,8 @@ static void print_core(const cartvesper_core *core)
 static void print_device(const cartvesper_device *device)
 {
     const cartvesper_frame_part *frame = &device->frame;
-    printf("    s %d c %d d %d w %d hold %d held %d\n", device->pins.s, device->pins.c, device->pins.d, device->pins.w, device->pins.hold,
-           device->held);
+    printf("    s %d c %d d %d w %d hold %d held %d\n", device->pins.s, device->pins.c, device->pins.d, device->pins.w,
+           device->pins.hold, device->held);
     printf("    frame: taken %d bits %d partial %02X code %02X ran %d value %02X", frame->taken, frame->bits,
            frame->partial, frame->code, frame->ran, frame->value);
     printf(" out %02X shown %d address %04" PRIX32 "\n", frame->out, frame->shown, frame->address);
@@ -188,8 +198,8 @@ static void begin_call(const cartvesper_core *core, const cartvesper_device *dev
 
 static void print_hand(const char *what)
 {
-    printf("DIFFERENCE: %s\n  seed %" PRIu64 ", round %" PRIu64 ", call %" PRIu64 "\n  call: %s\n", what, seed, current_round, counts.calls,
-           hand.call);
+    printf("DIFFERENCE: %s\n  seed %" PRIu64 ", round %" PRIu64 ", call %" PRIu64 "\n  call: %s\n", what, seed,
+           current_round, counts.calls, hand.call);
     if (hand.has_core)
         printf("  record given:\n"), print_core(&hand.core);
     if (hand.has_device)
@@ -372,7 +382,8 @@ static uint32_t try_device_power_up(cartvesper_device *device, which one, uint32
 /* the cells that what waits is to be stored in */
 static const uint8_t *waiting_cells(const cartvesper_core *core)
 {
-    return core->waits.kind == 3 ? lib_memory.identification : lib_memory.bytes + core->waits.page % 512 * PAGE;
+    size_t page = whole(core->part).cells;
+    return core->waits.kind == 3 ? lib_memory.identification : lib_memory.bytes + core->waits.page % PAGES * page;
 }
 
 /* the cycle's end: cells changed, counted from the page that waited */
@@ -382,7 +393,7 @@ static void count_cycle_end(const cartvesper_core *before, const cartvesper_core
     if (before->left == 0 || after->left != 0)
         return;
     counts.cycles++;
-    for (size_t i = 0; i < PAGE; i++)
+    for (size_t i = 0; i < whole(before->part).cells; i++)
         changed += old_page[i] != waiting_cells(before)[i];
     counts.cells += before->waits.kind == 2 ? changed : 0;
     counts.kept += before->waits.kind == 3 ? changed : 0;
@@ -390,7 +401,8 @@ static void count_cycle_end(const cartvesper_core *before, const cartvesper_core
     counts.locked += before->waits.kind == 4;
 }
 
-/* an 82h or an 83h at its deselect, of the frame model or of the pins: `taken` whole bytes, of more than five five */
+/* a WRDI, an 82h or an 83h at its deselect, of the frame model or of the pins: `taken` whole bytes, up to the part's
+ * most */
 typedef struct {
     uint8_t code, ran, taken, part_of_byte, data, held, shown;
     uint32_t address;
@@ -398,12 +410,13 @@ typedef struct {
 
 static int cause_of(const cartvesper_core *core, ended one)
 {
+    uint32_t data = plain_head(plain_row_of(core->part)) + 1; /* whole bytes with the first data byte */
     int lock = (one.address & LOCK_ADDRESS) != 0;
     if (one.ran)
         return IN_CYCLE;
     if (!core->wel)
         return WITHOUT_WEL;
-    if (one.part_of_byte || one.taken < 4 || (lock && one.taken > 4))
+    if (one.part_of_byte || one.taken < data || (lock && one.taken > data))
         return BY_COUNT;
     if (core->lock)
         return LOCKED;
@@ -424,11 +437,29 @@ static void count_wrid(const cartvesper_core *before, const cartvesper_core *aft
     (lock ? counts.by_lock : counts.by_page)[cause]++;
 }
 
+/* in a cycle: of the M95M01 with 8 bits WEL becomes 0 and nothing else moves; any other does nothing */
+static void count_wrdi(const cartvesper_core *before, const cartvesper_core *after, ended one)
+{
+    cartvesper_core wanted = *before;
+    int executed = before->part == M95M01 && one.taken == 1 && !one.part_of_byte && !one.held;
+    if (!one.ran)
+        return;
+    wanted.wel = executed ? 0 : before->wel;
+    if (!plain_core_same(&wanted, after))
+        fail("a WRDI in a cycle");
+    counts.disabled += executed && before->wel;
+    counts.stayed += !executed;
+}
+
 static void count_ended(const cartvesper_core *before, const cartvesper_core *after, ended one)
 {
+    int identified = before->part != M95512;
+    counts.of_part[before->part]++;
+    if (one.taken > 0 && one.code == WRDI)
+        count_wrdi(before, after, one);
     if (one.taken == 0 || (one.code != WRID && one.code != RDID))
         return;
-    if (before->part != M95512D)
+    if (!identified)
         counts.unknown++;
     else if (one.code == WRID)
         count_wrid(before, after, one);
@@ -438,34 +469,45 @@ static void count_ended(const cartvesper_core *before, const cartvesper_core *af
         counts.lock_shown++;
     else
         counts.page_shown++;
-    if ((before->part != M95512D || one.code == RDID) && !plain_core_same(before, after))
+    if ((!identified || one.code == RDID) && !plain_core_same(before, after))
         fail("an 83h, or an 82h of the M95512, moved the record");
+}
+
+/* the address that frame_bytes gives, as taken */
+static uint32_t sent_address(const plain_row *row)
+{
+    uint32_t address = 0;
+    for (uint32_t i = 1; i <= row->address_bytes; i++)
+        address = address << 8 | frame_bytes[i];
+    return address % row->size;
 }
 
 static void count_frame_end(const cartvesper_core *before, const cartvesper_core *after, size_t bits, int shown)
 {
-    size_t taken = bits / 8;
-    ended one = {taken ? frame_bytes[0] : 0, before->left > 0, (uint8_t)(taken > 5 ? 5 : taken), bits % 8 != 0, 0, 0,
-                 (uint8_t)shown, 0};
-    if (taken >= 3)
-        one.address = (uint32_t)frame_bytes[1] << 8 | frame_bytes[2];
-    if (taken >= 4)
-        one.data = frame_bytes[3];
+    const plain_row *row = plain_row_of(before->part);
+    size_t taken = bits / 8, head = plain_head(row);
+    ended one = {taken ? frame_bytes[0] : 0, before->left > 0, (uint8_t)(taken > row->most ? row->most : taken),
+                 bits % 8 != 0, 0, 0, (uint8_t)shown, 0};
+    if (taken >= head)
+        one.address = sent_address(row);
+    if (taken > head)
+        one.data = frame_bytes[head];
     count_ended(before, after, one);
 }
 
 static void count_deselect(const cartvesper_device *before, const cartvesper_device *after)
 {
     const cartvesper_frame_part *frame = &before->frame;
+    int addressed = frame->taken >= plain_head(plain_row_of(before->core.part));
     ended one = {frame->code,  frame->ran,   frame->taken, frame->bits != 0,
-                 frame->value, before->held, frame->shown, frame->taken < 3 ? 0 : frame->address};
+                 frame->value, before->held, frame->shown, addressed ? frame->address : 0};
     if (!before->pins.s && after->pins.s)
         count_ended(&before->core, &after->core, one);
 }
 
 static void keep_page(uint8_t *page, const cartvesper_core *core)
 {
-    memcpy(page, waiting_cells(core), PAGE);
+    memcpy(page, waiting_cells(core), whole(core->part).cells);
 }
 
 static void count_touched(cartvesper_value touched)
@@ -492,7 +534,7 @@ static void try_device_touched(const cartvesper_device *device)
 
 static uint32_t try_reading(cartvesper_core *core, uint32_t reading, lengths lent)
 {
-    uint8_t page[PAGE];
+    uint8_t page[CELLS];
     cartvesper_core given = *core;
     begin_call(&given, NULL, "clock_reading %" PRIu32 ", memory %zu, page %zu", reading, lent.size, lent.cells);
     keep_page(page, &given);
@@ -503,6 +545,7 @@ static uint32_t try_reading(cartvesper_core *core, uint32_t reading, lengths len
     compare_memory();
     check_core(lib.number, &given, &lib.core);
     counts.readings++;
+    counts.unlatched += lib.number == 0 && given.left > 0 && !given.wel;
     if (lib.number == 0)
         count_cycle_end(&given, &lib.core, page);
     *core = lib.core;
@@ -625,7 +668,7 @@ static cartvesper_device_answer plain_event_call(const cartvesper_device *device
 static uint32_t try_event(cartvesper_device *device, int kind, uint32_t value, lengths lent)
 {
     static const char *const names[] = {"set_s", "set_c", "set_d", "set_w", "set_hold", "read_clock"};
-    uint8_t page[PAGE];
+    uint8_t page[CELLS];
     cartvesper_device given = *device;
     begin_call(NULL, &given, "device_%s %" PRIu32 ", memory %zu, page %zu", names[kind], value, lent.size, lent.cells);
     if (kind == CLOCK)
@@ -648,6 +691,17 @@ static uint32_t try_event(cartvesper_device *device, int kind, uint32_t value, l
     if (kind == SET_S || kind == CLOCK) /* what begins or ends a cycle */
         try_device_touched(device);
     return lib.number;
+}
+
+/* an event with what the part is to be lent, and a reading */
+static void whole_event(cartvesper_device *device, int kind, uint32_t value)
+{
+    try_event(device, kind, value, whole(device->core.part));
+}
+
+static void whole_reading(cartvesper_core *core, uint32_t reading)
+{
+    try_reading(core, reading, whole(core->part));
 }
 
 static uint32_t try_play(cartvesper_device *device, const uint64_t *events, size_t count, size_t room, lengths lent)
@@ -677,12 +731,12 @@ static uint32_t try_play(cartvesper_device *device, const uint64_t *events, size
 }
 
 /* the driver: 9 and 13 leave the state that they ended in, a refusal the one given */
-static uint8_t run_bytes[MEMORY + 2], run_bytes_kept[MEMORY + 2];
+static uint8_t run_bytes[LARGEST + 2], run_bytes_kept[LARGEST + 2];
 
 static uint32_t try_write(cartvesper_core *core, lengths lent, uint64_t address, size_t length, uint32_t interval,
                           uint32_t limit)
 {
-    uint8_t page[PAGE];
+    uint8_t page[CELLS];
     cartvesper_core given = *core;
     begin_call(&given, NULL,
                "write of %zu bytes at %" PRIu64 ", interval %" PRIu32 ", limit %" PRIu32 ", memory %zu, page %zu",
@@ -715,13 +769,17 @@ static uint32_t try_write(cartvesper_core *core, lengths lent, uint64_t address,
     return lib.number;
 }
 
-static void try_part(uint64_t address, uint64_t length, uint64_t part)
+static void try_part(uint8_t chip, uint64_t address, uint64_t length, uint64_t part)
 {
-    begin_call(NULL, NULL, "part %" PRIu64 " of %" PRIu64 " bytes at %" PRIu64, part, length, address);
-    compare_numbers("the part's refusal", cartvesper_part_refusal(address, length, part), plain_part_refusal(address, length, part));
-    compare_numbers("the count of parts", cartvesper_part_count(address, length, part), plain_part_count(address, length, part));
-    compare_numbers("the part's address", cartvesper_part_address(address, length, part), plain_part_address(address, length, part));
-    compare_numbers("the part's length", cartvesper_part_length(address, length, part), plain_part_length(address, length, part));
+    begin_call(NULL, NULL, "chip %d, part %" PRIu64 " of %" PRIu64 " bytes at %" PRIu64, chip, part, length, address);
+    compare_numbers("the part's refusal", cartvesper_part_refusal(chip, address, length, part),
+                    plain_part_refusal(chip, address, length, part));
+    compare_numbers("the count of parts", cartvesper_part_count(chip, address, length, part),
+                    plain_part_count(chip, address, length, part));
+    compare_numbers("the part's address", cartvesper_part_address(chip, address, length, part),
+                    plain_part_address(chip, address, length, part));
+    compare_numbers("the part's length", cartvesper_part_length(chip, address, length, part),
+                    plain_part_length(chip, address, length, part));
     counts.calls += 3;
     counts.parts++;
 }
@@ -757,17 +815,18 @@ static void new_memory(void)
     plain_memory = lib_memory;
 }
 
-static uint32_t random_cycle(void)
+static uint32_t random_cycle(uint8_t part)
 {
+    uint32_t longest = plain_row_of(part)->longest_cycle;
     switch (below(5)) {
     case 0:
         return 1;
     case 1:
-        return 5000;
+        return longest;
     case 2:
         return 1 + below(4);
     default:
-        return 1 + below(5000);
+        return 1 + below(longest);
     }
 }
 
@@ -806,29 +865,39 @@ static uint32_t random_reading(const cartvesper_core *core)
     }
 }
 
-/* one of the two lengths, or both, are none that is taken */
-static lengths random_lengths(uint32_t damage)
+/* one of the two lengths, or both, are none that is taken: beside the part's own, or those of another part */
+static lengths random_lengths(uint8_t part, uint32_t damage)
 {
-    static const size_t sizes[] = {MEMORY - 1, MEMORY + 1, 0, 1}, cells[] = {PAGE - 1, PAGE + 1, 0, 1};
-    lengths lent = whole;
+    const lengths own = whole(part), other = whole(part == M95M01 ? M95512 : M95M01);
+    const size_t sizes[] = {own.size - 1, own.size + 1, 0, 1, other.size};
+    const size_t cells[] = {own.cells - 1, own.cells + 1, 0, 1, other.cells};
+    lengths lent = own;
     uint32_t bad = percent(damage) ? 1 + below(3) : 0;
+    if (bad == 3 && percent(30))
+        return other;
     if (bad & 1)
-        lent.size = sizes[below(4)];
+        lent.size = sizes[below(5)];
     if (bad & 2)
-        lent.cells = cells[below(4)];
+        lent.cells = cells[below(5)];
     return lent;
 }
 
 /* a part and a lock, now and then outside their ranges */
 static which random_which(uint32_t damage)
 {
-    static const uint8_t none[] = {2, 3, 255};
-    which one = {(uint8_t)below(2), (uint8_t)below(2)};
+    static const uint8_t none[] = {3, 4, 255};
+    which one = {(uint8_t)below(PLAIN_PARTS), (uint8_t)below(2)};
     if (percent(damage))
         one.part = percent(70) ? none[below(3)] : (uint8_t)random32();
     if (percent(damage))
         one.lock = percent(70) ? 2 : (uint8_t)random32();
     return one;
+}
+
+/* a part that has an identification page */
+static uint8_t identified_part(void)
+{
+    return percent(50) ? M95512D : M95M01;
 }
 
 static size_t off_by_one(size_t n, uint32_t damage)
@@ -841,15 +910,16 @@ static size_t off_by_one(size_t n, uint32_t damage)
 static uint8_t random_code(void)
 {
     static const uint8_t codes[] = {WREN, WREN, WREN, WREN, WREN, WREN, WRITE, WRITE, WRITE, WRITE, WRSR, WRSR,
-                                    WRDI, RDSR, RDSR, READ, READ, WRID, WRID, WRID,  WRID,  RDID,  RDID};
+                                    WRDI, WRDI, RDSR, RDSR, READ, READ, WRID, WRID,  WRID,  WRID,  RDID, RDID};
     static const uint8_t others[] = {0x80, 0x81, 0x84, 0x86, 0x92, 0xC2, 0xC3, 0x00, 0x07, 0xFF};
     if (percent(5))
         return percent(50) ? others[below(sizeof others)] : (uint8_t)random32();
     return codes[below(sizeof codes)];
 }
 
-static size_t random_length(uint8_t code)
+static size_t random_length(uint8_t code, const plain_row *row)
 {
+    size_t head = plain_head(row);
     if (percent(8))
         return below(300);
     switch (code) {
@@ -862,34 +932,35 @@ static size_t random_length(uint8_t code)
         return 1 + below(6);
     case READ:
     case RDID:
-        return percent(70) ? 3 + below(12) : 3 + below(280);
+        return percent(70) ? head + below(12) : head + below(2 * row->page + 24);
     case WRID:
         if (percent(40))
-            return 4;
+            return head + 1;
         /* fall through */
     case WRITE:
-        return percent(60) ? 3 + below(12) : 3 + PAGE - 8 + below(16) + (percent(10) ? PAGE : 0);
+        return percent(60) ? head + below(12) : head + row->page - 8 + below(16) + (percent(10) ? row->page : 0);
     default:
         return 1 + below(6);
     }
 }
 
 /* addresses near the edges of pages, of the protected areas, of the memory */
-static uint16_t random_address(void)
+static uint32_t random_address(const plain_row *row)
 {
-    static const uint16_t edges[] = {0x0000, 0xFFFF, 0x8000, 0xC000, 0x4000, 0x0080, 0x7FFF};
+    const uint32_t edges[] = {0,         row->size - 1, row->size / 2,     row->size / 4 * 3, row->size / 4,
+                              row->page, 0xFFFF,        row->size / 2 - 1, 0x10000};
     if (percent(50))
-        return (uint16_t)random32();
-    return (uint16_t)(edges[below(7)] + below(9) - 4);
+        return below(row->size);
+    return (edges[below(9)] + below(9) - 4) % row->size;
 }
 
 /* an address of 82h or 83h: bit 10 either way, cells near the ends of the page, upper bits that are not looked at */
-static uint16_t random_page_address(void)
+static uint32_t random_page_address(const plain_row *row)
 {
-    uint32_t ends[] = {below(4), PAGE - 1 - below(4)};
+    uint32_t ends[] = {below(4), row->page - 1 - below(4)};
     if (percent(30))
-        return random_address();
-    return (uint16_t)((random32() & 0xFF80) | (percent(50) ? below(PAGE) : ends[below(2)]));
+        return random_address(row);
+    return below(row->size / row->page) * row->page + (percent(50) ? below(row->page) : ends[below(2)]);
 }
 
 static int about_page(uint8_t code)
@@ -897,19 +968,31 @@ static int about_page(uint8_t code)
     return code == WRID || code == RDID;
 }
 
-/* frame_bytes, its length and bit count; a length above 65,540 is refused */
-static size_t random_frame(size_t *bits, int longest)
+static uint32_t address_for(uint8_t code, const plain_row *row)
 {
+    return about_page(code) ? random_page_address(row) : random_address(row);
+}
+
+/* the address bytes of frame_bytes; of the M95M01 the first one's upper seven bits are dropped when taken: any */
+static void put_address(const plain_row *row, uint32_t address)
+{
+    if (row->size == LARGEST && percent(30))
+        address |= below(128) << 17;
+    for (uint32_t i = row->address_bytes; i > 0; i--, address >>= 8)
+        frame_bytes[i] = (uint8_t)address;
+}
+
+/* frame_bytes, its length and bit count; of the longest some are one byte above the part's limit: refused */
+static size_t random_frame(uint8_t part, size_t *bits, int longest)
+{
+    const plain_row *row = plain_row_of(part);
     uint8_t code = random_code();
-    size_t length = random_length(code);
+    size_t length = random_length(code, row);
     if (longest)
-        length = LONGEST - 2 + below(4);
+        length = plain_longest_frame(row) - 2 + below(4);
     random_bytes(frame_bytes, length);
-    if (length >= 3) {
-        uint16_t address = about_page(code) ? random_page_address() : random_address();
-        frame_bytes[1] = (uint8_t)(address >> 8);
-        frame_bytes[2] = (uint8_t)address;
-    }
+    if (length >= plain_head(row))
+        put_address(row, address_for(code, row));
     frame_bytes[0] = code;
     if (code == WRSR && percent(60))
         frame_bytes[1] &= 0x73 | (percent(50) ? 0x08 : 0) | (percent(50) ? 0x04 : 0); /* keep the device usable */
@@ -921,61 +1004,78 @@ static size_t random_frame(size_t *bits, int longest)
 
 static void frame_step(cartvesper_core *core)
 {
-    size_t bits, length = random_frame(&bits, below(400) == 0);
+    size_t bits, length = random_frame(core->part, &bits, below(400) == 0);
     uint8_t w = percent(2) ? (uint8_t)random32() : percent(70);
     size_t count = percent(2) ? bits + 8 - below(17) : bits;
-    try_frame(core, random_lengths(2), w, length, percent(1) ? random32() : count, off_by_one(length, 2));
+    try_frame(core, random_lengths(core->part, 2), w, length, percent(1) ? random32() : count, off_by_one(length, 2));
 }
 
 /* frames at the limits of the slice, several refusals at once */
 static void try_limits(int count)
 {
-    static const size_t lengths[] = {0, 1, 2, 65539, 65540, 65541};
+    static const size_t lengths[] = {0, 1, 2, 65539, 65540, 65541, 131075, 131076, 131077};
     for (int i = 0; i < count; i++) {
         cartvesper_core core;
-        try_power_up(&core, random_which(0), random_cycle(), 0, 0, 0, random_clock());
+        which one = random_which(0);
+        try_power_up(&core, one, random_cycle(one.part), 0, 0, 0, random_clock());
         core.wel = percent(90) ? (uint8_t)below(2) : 2;
-        size_t length = lengths[below(6)];
+        size_t length = lengths[below(9)];
         size_t bits = percent(60) ? 8 * length - below(8) * (length > 0) : 8 * length + 2 - below(12);
         frame_bytes[0] = random_code();
-        try_frame(&core, random_lengths(10), (uint8_t)(percent(95) ? below(2) : 2), length, bits,
+        try_frame(&core, random_lengths(core.part, 10), (uint8_t)(percent(95) ? below(2) : 2), length, bits,
                   off_by_one(length, 30));
+    }
+}
+
+/* an address to ask about, now and then one that the memory has not */
+static uint32_t random_question(uint8_t part)
+{
+    const plain_row *row = plain_row_of(part);
+    switch (below(10)) {
+    case 0:
+        return row->size + below(3);
+    case 1:
+        return random32() >> below(32);
+    default:
+        return random_address(row);
     }
 }
 
 static void frame_session(int steps)
 {
     cartvesper_core core;
+    which one;
     new_memory();
-    while (try_power_up(&core, random_which(2), percent(90) ? random_cycle() : random32() >> below(32),
+    do
+        one = random_which(2);
+    while (try_power_up(&core, one, percent(90) ? random_cycle(one.part) : random32() >> below(32),
                         percent(2) ? 2 : percent(20), percent(2) ? 255 : percent(20), percent(2) ? 2 : percent(30),
-                        random_clock()) != 0) {
-    }
+                        random_clock()) != 0);
     for (int i = 0; i < steps; i++) {
         if (percent(3)) /* a frame never opens a lock; whoever has the record may */
             core.lock = (uint8_t)percent(30);
         if (percent(65))
             frame_step(&core);
         else
-            try_reading(&core, random_reading(&core), random_lengths(2));
+            try_reading(&core, random_reading(&core), random_lengths(core.part, 2));
         if (percent(10))
-            try_core_queries(&core, percent(80) ? random_address() : random32() >> below(32));
+            try_core_queries(&core, random_question(core.part));
     }
 }
 
 /* ---- runs of the driver, and parts */
 
-static size_t random_run(void)
+static size_t random_run(const plain_row *row)
 {
     if (below(400) == 0)
-        return MEMORY - 1 + below(3);
+        return row->size - 1 + below(3);
     switch (below(8)) {
     case 0:
         return 0;
     case 1:
         return 1;
     case 2:
-        return PAGE * (1 + below(4)) + 1 - below(3);
+        return row->page * (1 + below(4)) + 1 - below(3);
     default:
         return below(450);
     }
@@ -983,45 +1083,47 @@ static size_t random_run(void)
 
 /* just inside the memory, one past it; ends at an edge of the protected areas, one past it, across it; sums that 32
  * or 64 bits would lose */
-static uint64_t random_run_address(size_t length)
+static uint64_t random_run_address(const plain_row *row, size_t length)
 {
-    const uint64_t far[] = {MEMORY + 1, 0x100000000, 0xFFFFFFFF, 0x100000000 - length, 0 - (uint64_t)length, UINT64_MAX, 1ULL << 63, next64()};
+    const uint64_t size = row->size, block = size / 2 + size / 4 * below(2);
+    const uint64_t far[] = {size + 1,   0x100000000, 0xFFFFFFFF, 0x100000000 - length, 0 - (uint64_t)length,
+                            UINT64_MAX, 1ULL << 63,  next64()};
     switch (below(16)) {
     case 0:
         return percent(60) ? far[below(8)] : far[below(8)] + below(300);
     case 1:
-        return length <= MEMORY ? MEMORY + 1 - length : 0;
+        return length <= size ? size + 1 - length : 0;
     case 2:
-        return MEMORY;
+        return size;
     case 3:
     case 4:
-        return length <= MEMORY ? MEMORY - length : 0;
+        return length <= size ? size - length : 0;
     case 5:
         return 0;
     case 6:
     case 7:
-        return length < 0x8000 ? 0x8000 + 0x4000 * below(2) - length + below(2) : 0;
+        return length < size / 2 ? block - length + below(2) : 0;
     case 8:
     case 9:
-        return 0x8000 + 0x4000 * below(2) - below(450);
+        return block - below(450);
     default:
-        return length < MEMORY ? random_address() % (MEMORY - length) : 0;
+        return length < size ? random_address(row) % (size - length) : 0;
     }
 }
 
 static uint32_t random_interval(const cartvesper_core *core)
 {
-    static const uint32_t outside[] = {0, 5001, 0xFFFFFFFF, 0x80000000};
-    uint32_t cycle = core->cycle % 5001;
+    uint32_t longest = plain_row_of(core->part)->longest_cycle, cycle = core->cycle % (longest + 1);
+    const uint32_t outside[] = {0, longest + 1, 0xFFFFFFFF, 0x80000000};
     switch (below(20)) {
     case 0:
         return outside[below(4)];
     case 1:
         return 1;
     case 2:
-        return 5000;
+        return longest;
     case 3:
-        return 1000;
+        return percent(70) ? 1000 : 4000 + below(2);
     case 4:
     case 5:
         return cycle + 1 - below(3);
@@ -1036,8 +1138,10 @@ static uint32_t random_interval(const cartvesper_core *core)
 /* about as many polls as the cycle takes, so that a wait just ends or just doesn't */
 static uint32_t random_limit(const cartvesper_core *core, uint32_t interval)
 {
-    static const uint32_t outside[] = {0, 5002, 0xFFFFFFFF, 0x80000000};
-    uint32_t polls = interval ? (core->cycle % 5001 + interval - 1) / interval : 1;
+    const plain_row *row = plain_row_of(core->part);
+    uint32_t most = plain_most_polls(row), cycle = core->cycle % most;
+    uint32_t polls = interval ? (uint32_t)(((uint64_t)cycle + interval - 1) / interval) : 1;
+    const uint32_t outside[] = {0, most + 1, 0xFFFFFFFF, 0x80000000};
     switch (below(20)) {
     case 0:
         return outside[below(4)];
@@ -1046,7 +1150,7 @@ static uint32_t random_limit(const cartvesper_core *core, uint32_t interval)
     case 2:
         return 2;
     case 3:
-        return 1 + below(5001);
+        return percent(70) ? 1 + below(most) : 4001 + below(2);
     case 4:
     case 5:
         return polls;
@@ -1055,28 +1159,33 @@ static uint32_t random_limit(const cartvesper_core *core, uint32_t interval)
     case 7:
         return polls - 1;
     default:
-        return 5001;
+        return most;
     }
 }
 
 static void random_write(cartvesper_core *core, uint32_t damage)
 {
-    size_t length = random_run();
+    const plain_row *row = plain_row_of(core->part);
+    size_t length = random_run(row);
     uint32_t interval = random_interval(core), limit = random_limit(core, interval);
     if (length > 1000 && interval < core->cycle / 4) /* else some 2,000,000 polls */
         interval = 1000;
     random_bytes(run_bytes, length < 1000 ? length : 1000);
-    try_write(core, random_lengths(damage), random_run_address(length), length, interval, limit);
+    try_write(core, random_lengths(core->part, damage), random_run_address(row, length), length, interval, limit);
 }
 
 static uint64_t random_number(void)
 {
-    static const uint64_t at[] = {0, 1, 100, 127, 128, 129, 300, 65407, 65408, 65535, 65536, 65537, 0xFFFFFFFF, 0x100000000, 1ULL << 63, UINT64_MAX};
+    static const uint64_t at[] = {0,          1,           100,        127,    128,    129,    255,    256,
+                                  257,        300,         511,        512,    1023,   1024,   0x7FFF, 0x8000,
+                                  65407,      65408,       65535,      65536,  65537,  130815, 130816, 131071,
+                                  131072,     131073,      1u << 31,   0xFFFFFFFF,
+                                  0x100000000, 1ULL << 63, UINT64_MAX};
     switch (below(4)) {
     case 0:
-        return at[below(16)];
+        return at[below(sizeof at / sizeof *at)];
     case 1:
-        return below(MEMORY + 1);
+        return below(LARGEST + 1);
     case 2:
         return below(600);
     default:
@@ -1084,17 +1193,22 @@ static uint64_t random_number(void)
     }
 }
 
+/* of every chip, and of numbers that are none */
 static void try_parts(int count)
 {
+    static const uint8_t chips[] = {M95512, M95512D, M95M01, M95M01, 3, 255};
     for (int i = 0; i < count; i++) {
+        uint8_t chip = percent(95) ? chips[below(sizeof chips)] : (uint8_t)random32();
+        const plain_row *row = plain_row_of(chip);
         uint64_t address = random_number(), length = random_number();
         if (percent(60)) { /* a run that lies in the memory, or ends one past it */
-            address = below(MEMORY + 1);
-            length = below((uint32_t)(MEMORY - address) + 1) + percent(5);
+            address = below(row->size + 1);
+            length = below((uint32_t)(row->size - address) + 1) + percent(5);
         }
         if (percent(10))
             length = 0 - address + below(1000); /* the sum wraps */
-        try_part(address, length, percent(50) ? below((uint32_t)(length % 65536) / PAGE + 3) : random_number());
+        uint32_t parts = (uint32_t)(length % row->size) / row->page + 3;
+        try_part(chip, address, length, percent(50) ? below(parts) : random_number());
     }
 }
 
@@ -1107,11 +1221,11 @@ static uint8_t random_flag(void)
 
 static void try_power_ups(int count)
 {
-    static const uint32_t cycles[] = {0, 1, 2, 4999, 5000, 5001, 0xFFFFFFFF};
+    static const uint32_t cycles[] = {0, 1, 2, 3999, 4000, 4001, 4999, 5000, 5001, 0xFFFFFFFF};
     cartvesper_core core;
     cartvesper_device device;
     for (int i = 0; i < count; i++) {
-        uint32_t cycle = percent(70) ? cycles[below(7)] : random32() >> below(32);
+        uint32_t cycle = percent(70) ? cycles[below(10)] : random32() >> below(32);
         uint8_t srwd = random_flag(), bp1 = random_flag(), bp0 = random_flag();
         uint32_t reading = random_clock();
         which one = random_which(15);
@@ -1226,13 +1340,13 @@ static void draw_noise(int count)
 /* a frame's start drawn well, then noise: noise alone seldom makes an instruction */
 static void draw_start_then_noise(void)
 {
-    size_t bits, length = random_frame(&bits, 0);
+    size_t bits, length = random_frame(script_device.core.part, &bits, 0);
     int mode = percent(50);
     emit(SET_S, 1);
     emit(SET_HOLD, 1);
     emit(SET_C, (uint32_t)mode);
     emit(SET_S, 0);
-    for (size_t i = 0; i < bits && i < 8 * length && i < 40; i++)
+    for (size_t i = 0; i < bits && i < 8 * length && i < 48; i++)
         draw_bit(frame_bytes[i / 8] >> (7 - i % 8) & 1, mode, 0);
     draw_noise((int)below(200));
 }
@@ -1248,14 +1362,14 @@ static void draw_something(void)
         draw_start_then_noise();
         break;
     case 2:
-        random_frame(&bits, 0);
+        random_frame(script_device.core.part, &bits, 0);
         draw_frame(bits, percent(50), 1 + below(60));
         break;
     case 3:
         emit(CLOCK, random_reading(&script_device.core));
         break;
     default:
-        random_frame(&bits, 0);
+        random_frame(script_device.core.part, &bits, 0);
         draw_frame(bits, percent(50), 0);
         break;
     }
@@ -1292,7 +1406,7 @@ static void spoil_script(const cartvesper_device *device)
     size_t i = percent(20) ? script_count - 1 : below((uint32_t)script_count);
     uint64_t event = script[i];
     script[i] = no_event(event);
-    if (try_play(&copy, script, script_count, off_by_one(script_count, 20), whole) != 2)
+    if (try_play(&copy, script, script_count, off_by_one(script_count, 20), whole(copy.core.part)) != 2)
         fail("a number that is no event, played");
     if (memcmp(&lib_memory, &start_memory, sizeof lib_memory) != 0)
         fail("a list that was refused moved the memory");
@@ -1305,22 +1419,23 @@ static void run_script(cartvesper_device *device)
 {
     static uint8_t q[EVENTS];
     cartvesper_device start = *device, refused = *device;
+    const uint8_t part = device->core.part;
     start_memory = lib_memory;
     for (size_t i = 0; i < script_count; i++) {
-        try_event(device, (int)(script[i] >> 32), (uint32_t)script[i], whole);
+        whole_event(device, (int)(script[i] >> 32), (uint32_t)script[i]);
         q[i] = (uint8_t)try_device_queries(device).value;
         if (percent(1))
             /* refused, or S, D, W, HOLD at a level above 1 */
-            try_event(device, (int)below(6), percent(50) ? 2 : random32() | 2, random_lengths(100));
+            try_event(device, (int)below(6), percent(50) ? 2 : random32() | 2, random_lengths(part, 100));
     }
     singles_memory = lib_memory;
     lib_memory = plain_memory = start_memory;
     for (int i = 0; i < 5; i++)
         spoil_script(&start);
     if (percent(10))
-        try_play(&refused, script, script_count, off_by_one(script_count, 70), random_lengths(50));
+        try_play(&refused, script, script_count, off_by_one(script_count, 70), random_lengths(part, 50));
     lib_memory = plain_memory = start_memory;
-    if (try_play(&start, script, script_count, script_count, whole) != 0)
+    if (try_play(&start, script, script_count, script_count, whole(part)) != 0)
         fail("the list refused");
     compare_devices("the list (library) and the single events (plain)", &start, device);
     compare_bytes("Q of the list (library) and of the single events (plain)", lib_out.bytes, q, script_count, 0);
@@ -1351,58 +1466,71 @@ static uint64_t random_word(void)
 /* bytes for the cells that are marked, 0 for the others */
 static void fill_marked(cartvesper_latch *latch)
 {
-    for (size_t i = 0; i < PAGE; i++)
+    for (size_t i = 0; i < CELLS; i++)
         latch->bytes[i] = cartvesper_marked(latch, i) ? (uint8_t)random32() : 0;
 }
 
-static void random_latch(cartvesper_latch *latch)
+/* marks in the first cells alone, those of a part's page */
+static void random_latch(cartvesper_latch *latch, size_t cells)
 {
-    for (int k = 0; k < WORDS; k++)
-        latch->marks[k] = random_word();
+    for (size_t k = 0; k < WORDS; k++)
+        latch->marks[k] = k < cells / WORD ? random_word() : 0;
     fill_marked(latch);
 }
 
-/* the last two only of the part that has them */
-static void random_waiting(cartvesper_waiting *waits, int part)
+/* the last two only of a part that has them */
+static void random_waiting(cartvesper_waiting *waits, uint8_t part)
 {
-    waits->kind = (uint8_t)(1 + below(part ? 4 : 2));
+    waits->kind = (uint8_t)(1 + below(part == M95512 ? 2 : 4));
     if (waits->kind == 1)
         waits->status = random32() & 0x8C;
     if (waits->kind == 2)
-        waits->page = percent(30) ? below(2) * 511 : below(512);
+        waits->page = percent(30) ? below(2) * (PAGES - 1) : below(PAGES);
     if (waits->kind == 2 || waits->kind == 3)
-        random_latch(&waits->latch);
+        random_latch(&waits->latch, whole(part).cells);
 }
 
-/* a cycle that no frame began: of the M95512-D also one that stores the identification page or the lock */
+/* a cycle that no frame began: of a part that has them also one that stores the identification page or the lock; of
+ * the M95M01 half of them with WEL 0, as WRDI leaves it */
 static void begin_cycle(cartvesper_core *core)
 {
-    core->wel = 1;
+    core->wel = core->part != M95M01 || percent(50);
     core->left = percent(30) ? core->cycle : 1 + below(core->cycle);
     random_waiting(&core->waits, core->part);
 }
 
-static cartvesper_core random_core(void)
+static cartvesper_core random_core_of(uint8_t part)
 {
     cartvesper_core core;
     memset(&core, 0, sizeof core);
-    core.part = (uint8_t)percent(60);
+    core.part = part;
     core.lock = (uint8_t)percent(40);
     core.srwd = (uint8_t)percent(50);
     core.bp1 = (uint8_t)percent(30);
     core.bp0 = (uint8_t)percent(30);
     core.wel = (uint8_t)percent(60);
-    core.cycle = random_cycle();
+    core.cycle = random_cycle(part);
     core.last = random_clock();
     if (percent(40))
         begin_cycle(&core);
     return core;
 }
 
-/* 82h and 83h are known to the M95512-D alone */
+static cartvesper_core random_core(void)
+{
+    return random_core_of((uint8_t)below(PLAIN_PARTS));
+}
+
+/* 82h and 83h are known to the parts that have the page */
 static int known_about_page(const cartvesper_frame_part *frame, int part)
 {
-    return about_page(frame->code) && part == M95512D;
+    return about_page(frame->code) && part != M95512;
+}
+
+/* whole bytes of the code and the address */
+static uint32_t head_of(int part)
+{
+    return plain_head(plain_row_of((uint8_t)part));
 }
 
 static int is_output(const cartvesper_frame_part *frame, int part)
@@ -1411,7 +1539,7 @@ static int is_output(const cartvesper_frame_part *frame, int part)
         return frame->taken >= 1;
     if (frame->code != READ && !(frame->code == RDID && known_about_page(frame, part)))
         return 0;
-    return frame->taken >= 3 && !frame->ran;
+    return frame->taken >= head_of(part) && !frame->ran;
 }
 
 static int has_address(const cartvesper_frame_part *frame, int part)
@@ -1422,7 +1550,7 @@ static int has_address(const cartvesper_frame_part *frame, int part)
 /* an 82h past its first data byte: for the lock it keeps that byte, for the page it latches */
 static int is_wrid(const cartvesper_frame_part *frame, int part)
 {
-    return frame->code == WRID && known_about_page(frame, part) && frame->taken >= 4;
+    return frame->code == WRID && known_about_page(frame, part) && frame->taken > head_of(part);
 }
 
 static int has_value(const cartvesper_frame_part *frame, int part)
@@ -1435,27 +1563,35 @@ static int has_value(const cartvesper_frame_part *frame, int part)
 static int has_latch(const cartvesper_frame_part *frame, int part)
 {
     if (frame->code == WRITE)
-        return frame->taken >= 4;
+        return frame->taken > head_of(part);
     return is_wrid(frame, part) && (frame->address & LOCK_ADDRESS) == 0;
 }
 
-static void random_frame_fields(cartvesper_frame_part *frame, int part, int cycle_runs)
+/* an address as far as it is taken: of the bytes still to come every bit is 0 */
+static uint32_t taken_address(const cartvesper_frame_part *frame, const plain_row *row)
 {
-    frame->taken = (uint8_t)below(6);
+    uint32_t address = address_for(frame->code, row), head = plain_head(row);
+    for (uint32_t k = frame->taken; k < head; k++)
+        address &= ~(0xFFu << 8 * (head - 1 - k));
+    return address;
+}
+
+static void random_frame_fields(cartvesper_frame_part *frame, uint8_t part, int cycle_runs)
+{
+    const plain_row *row = plain_row_of(part);
+    frame->taken = (uint8_t)below(row->most + 1);
     frame->bits = (uint8_t)(percent(60) ? 7 * below(2) : below(8));
     frame->partial = (uint8_t)below(1u << frame->bits);
     if (frame->taken == 0)
         return;
     frame->code = random_code();
     frame->ran = cycle_runs || percent(30);
-    if (has_address(frame, part)) {
-        frame->address = about_page(frame->code) ? random_page_address() : random_address();
-        frame->address &= frame->taken == 2 ? 0xFF00 : 0xFFFF;
-    }
+    if (has_address(frame, part))
+        frame->address = taken_address(frame, row);
     if (has_value(frame, part))
         frame->value = (uint8_t)random32();
     if (has_latch(frame, part))
-        random_latch(&frame->latch);
+        random_latch(&frame->latch, row->page);
     if (is_output(frame, part)) {
         frame->shown = (uint8_t)below(9);
         frame->out = frame->shown ? (uint8_t)random32() : 0;
@@ -1489,11 +1625,13 @@ static void begin_idle_cycle(cartvesper_device *device)
 static void pin_session(int scripts)
 {
     cartvesper_device device;
+    which one;
     new_memory();
-    while (try_device_power_up(&device, random_which(2), percent(90) ? random_cycle() : random32() >> below(32),
+    do
+        one = random_which(2);
+    while (try_device_power_up(&device, one, percent(90) ? random_cycle(one.part) : random32() >> below(32),
                                percent(2) ? 2 : percent(20), percent(2) ? 255 : percent(20),
-                               percent(2) ? 2 : percent(30), random_clock()) != 0) {
-    }
+                               percent(2) ? 2 : percent(30), random_clock()) != 0);
     for (int i = 0; i < scripts; i++) {
         if (percent(30))
             begin_idle_cycle(&device);
@@ -1517,9 +1655,9 @@ static void step_unreached(void)
         const cartvesper_pins *pins = &device.pins;
         const uint8_t levels[] = {pins->s, pins->c, pins->d, pins->w, pins->hold};
         if (kind == CLOCK)
-            try_event(&device, kind, random_reading(&device.core), whole);
+            whole_event(&device, kind, random_reading(&device.core));
         else
-            try_event(&device, kind, percent(90) ? !levels[kind] : levels[kind], whole);
+            whole_event(&device, kind, percent(90) ? !levels[kind] : levels[kind]);
         try_device_queries(&device);
     } while (percent(60));
 }
@@ -1528,39 +1666,44 @@ static void step_unreached(void)
 static void step_unreached_core(void)
 {
     cartvesper_core core = random_core();
-    size_t bits, length = random_frame(&bits, 0);
+    size_t bits, length = random_frame(core.part, &bits, 0);
     begin_call(&core, NULL, "a record built inside the ranges");
     if (!plain_core_ok(&core) || cartvesper_core_in_ranges(core).number != 0)
         fail("a record built inside the ranges is refused");
     counts.unreached++;
-    try_frame(&core, whole, percent(50), length, bits, length);
-    try_reading(&core, random_reading(&core), whole);
-    try_core_queries(&core, random_address());
+    try_frame(&core, whole(core.part), percent(50), length, bits, length);
+    whole_reading(&core, random_reading(&core));
+    try_core_queries(&core, random_question(core.part));
+}
+
+/* a status cycle that gives BP1 and BP0 a value runs when the driver comes; of the M95M01 at times with WEL 0 */
+static void begin_status_cycle(cartvesper_core *core)
+{
+    const lengths lent = whole(core->part);
+    frame_bytes[0] = WREN;
+    try_frame(core, lent, 1, 1, 8, 1);
+    frame_bytes[0] = WRSR;
+    frame_bytes[1] = (uint8_t)(below(4) << 2);
+    try_frame(core, lent, 1, 2, 16, 2);
+    frame_bytes[0] = WRDI;
+    if (percent(30))
+        try_frame(core, lent, 1, 1, 8, 1);
 }
 
 /* from a device as the last run left it, in a cycle too, or from a record that no calls reach */
-/* a status cycle that gives BP1 and BP0 a value runs when the driver comes */
-static void begin_status_cycle(cartvesper_core *core)
-{
-    frame_bytes[0] = WREN;
-    try_frame(core, whole, 1, 1, 8, 1);
-    frame_bytes[0] = WRSR;
-    frame_bytes[1] = (uint8_t)(below(4) << 2);
-    try_frame(core, whole, 1, 2, 16, 2);
-}
-
 static void driver_session(int runs)
 {
     cartvesper_core core;
+    which one = random_which(0);
     new_memory();
-    try_power_up(&core, random_which(0), random_cycle(), percent(20), percent(20), percent(30), random_clock());
+    try_power_up(&core, one, random_cycle(one.part), percent(20), percent(20), percent(30), random_clock());
     for (int i = 0; i < runs; i++) {
         if (percent(20))
             core = random_core();
         if (percent(10))
             frame_step(&core);
         if (percent(10))
-            try_reading(&core, random_reading(&core), whole);
+            whole_reading(&core, random_reading(&core));
         if (percent(15))
             begin_status_cycle(&core);
         random_write(&core, 2);
@@ -1577,25 +1720,31 @@ typedef struct {
 #define FIELDS(fields) (sizeof(fields) / sizeof *(fields))
 #define DEVICE_FIELD(name) {offsetof(cartvesper_device, name), sizeof(((cartvesper_device *)0)->name)}
 
-static const field core_fields[] = {CORE_FIELD(part),         CORE_FIELD(lock),       CORE_FIELD(srwd),
-                                    CORE_FIELD(bp1),          CORE_FIELD(bp0),        CORE_FIELD(wel),
-                                    CORE_FIELD(cycle),        CORE_FIELD(left),       CORE_FIELD(last),
-                                    CORE_FIELD(waits.kind),   CORE_FIELD(waits.status), CORE_FIELD(waits.page),
-                                    CORE_FIELD(waits.latch.bytes[0]), CORE_FIELD(waits.latch.bytes[127]),
-                                    CORE_FIELD(waits.latch.marks[0]), CORE_FIELD(waits.latch.marks[1])};
-static const field device_fields[] = {DEVICE_FIELD(pins.s),      DEVICE_FIELD(pins.c),     DEVICE_FIELD(pins.d),      DEVICE_FIELD(pins.w),
-                                      DEVICE_FIELD(pins.hold),   DEVICE_FIELD(held),       DEVICE_FIELD(frame.taken), DEVICE_FIELD(frame.bits),
-                                      DEVICE_FIELD(frame.partial),  DEVICE_FIELD(frame.code), DEVICE_FIELD(frame.ran),   DEVICE_FIELD(frame.value),
-                                      DEVICE_FIELD(frame.out),   DEVICE_FIELD(frame.shown), DEVICE_FIELD(frame.address),
-                                      DEVICE_FIELD(frame.latch.bytes[0]), DEVICE_FIELD(frame.latch.bytes[127]),
-                                      DEVICE_FIELD(frame.latch.marks[0]), DEVICE_FIELD(frame.latch.marks[1])};
+/* of a latch: the ends of both pages, and each word */
+#define LATCH_FIELDS(FIELD, latch)                                                                                     \
+    FIELD(latch.bytes[0]), FIELD(latch.bytes[127]), FIELD(latch.bytes[128]), FIELD(latch.bytes[255]),                  \
+        FIELD(latch.marks[0]), FIELD(latch.marks[1]), FIELD(latch.marks[2]), FIELD(latch.marks[3])
+
+static const field core_fields[] = {CORE_FIELD(part),       CORE_FIELD(lock),         CORE_FIELD(srwd),
+                                    CORE_FIELD(bp1),        CORE_FIELD(bp0),          CORE_FIELD(wel),
+                                    CORE_FIELD(cycle),      CORE_FIELD(left),         CORE_FIELD(last),
+                                    CORE_FIELD(waits.kind), CORE_FIELD(waits.status), CORE_FIELD(waits.page),
+                                    LATCH_FIELDS(CORE_FIELD, waits.latch)};
+static const field device_fields[] = {DEVICE_FIELD(pins.s),      DEVICE_FIELD(pins.c),     DEVICE_FIELD(pins.d),
+                                      DEVICE_FIELD(pins.w),      DEVICE_FIELD(pins.hold),  DEVICE_FIELD(held),
+                                      DEVICE_FIELD(frame.taken), DEVICE_FIELD(frame.bits), DEVICE_FIELD(frame.partial),
+                                      DEVICE_FIELD(frame.code),  DEVICE_FIELD(frame.ran),  DEVICE_FIELD(frame.value),
+                                      DEVICE_FIELD(frame.out),   DEVICE_FIELD(frame.shown),
+                                      DEVICE_FIELD(frame.address), LATCH_FIELDS(DEVICE_FIELD, frame.latch)};
 
 /* those above 32 bits are for the words of marks; a smaller field takes their low bits */
-enum { EDGES = 30 };
-static const uint64_t edges[EDGES] = {0,   1,   2,   3,   4,    5,    6,    7,     8,     9,          16,  127,
-                                      128, 255, 256, 511, 512, 4999, 5000, 5001, 65535, 65536, 0x7FFFFFFF, 0xFFFFFFFF,
-                                      1ULL << 32, 1ULL << 62, 1ULL << 63, 0xFFFFFFFF00000000, UINT64_MAX >> 1,
-                                      UINT64_MAX};
+static const uint64_t edges[] = {0,          1,          2,          3,                  4,               5,
+                                 6,          7,          8,          9,                  16,              127,
+                                 128,        255,        256,        511,                512,             3999,
+                                 4000,       4001,       4999,       5000,               5001,            65535,
+                                 65536,      131071,     131072,     0x7FFFFFFF,         0xFFFFFFFF,      1ULL << 32,
+                                 1ULL << 62, 1ULL << 63, 0xFFFFFFFF00000000, UINT64_MAX >> 1, UINT64_MAX};
+enum { EDGES = sizeof edges / sizeof *edges };
 
 static uint64_t damaged_value(uint64_t old)
 {
@@ -1647,7 +1796,8 @@ static void damage_field(void *record, field chosen)
 
 static void damage_latch(cartvesper_latch *latch)
 {
-    uint32_t cell = percent(40) ? 127 * below(2) : below(PAGE);
+    static const uint32_t ends[] = {0, 127, 128, 255};
+    uint32_t cell = percent(40) ? ends[below(4)] : below(CELLS);
     if (percent(50))
         latch->bytes[cell] = (uint8_t)damaged_value(latch->bytes[cell]);
     else if (percent(50))
@@ -1691,13 +1841,13 @@ static void try_core_calls(const cartvesper_core *core)
 {
     cartvesper_core copy;
     size_t bits, length;
-    try_core_queries(core, percent(50) ? random_address() : random32() >> below(32));
-    length = random_frame(&bits, below(500) == 0);
+    try_core_queries(core, random_question(core->part));
+    length = random_frame(core->part, &bits, below(500) == 0);
     copy = *core;
-    try_frame(&copy, random_lengths(20), (uint8_t)(percent(10) ? random32() : below(2)), length, off_by_one(bits, 20),
-              off_by_one(length, 20));
+    try_frame(&copy, random_lengths(core->part, 20), (uint8_t)(percent(10) ? random32() : below(2)), length,
+              off_by_one(bits, 20), off_by_one(length, 20));
     copy = *core;
-    try_reading(&copy, random_reading(core), random_lengths(20));
+    try_reading(&copy, random_reading(core), random_lengths(core->part, 20));
     copy = *core;
     random_write(&copy, 20);
 }
@@ -1706,18 +1856,19 @@ static void try_core_calls(const cartvesper_core *core)
 static void try_device_calls(const cartvesper_device *device)
 {
     cartvesper_device copy;
+    const uint8_t part = device->core.part;
     try_device_queries(device);
     for (int kind = SET_S; kind <= CLOCK; kind++) {
         copy = *device;
         uint32_t level = percent(15) ? random32() : (uint32_t)percent(50);
-        try_event(&copy, kind, kind == CLOCK ? random_reading(&device->core) : level, random_lengths(15));
+        try_event(&copy, kind, kind == CLOCK ? random_reading(&device->core) : level, random_lengths(part, 15));
     }
     uint64_t events[4];
     for (int i = 0; i < 4; i++)
         events[i] = percent(10) ? next64() : cartvesper_event(below(CLOCK + 1), below(2));
     size_t count = below(4);
     copy = *device;
-    try_play(&copy, events, count, off_by_one(count, 20), random_lengths(20));
+    try_play(&copy, events, count, off_by_one(count, 20), random_lengths(part, 20));
 }
 
 static void try_damaged_core(void)
@@ -1792,17 +1943,17 @@ static void sweep_device(void)
 static cartvesper_core core_of(uint8_t part, uint8_t kind, uint32_t beside)
 {
     cartvesper_core core;
-    uint32_t cell = below(PAGE);
+    uint32_t cell = below(CELLS); /* of the M95512 every other one is past the page */
     memset(&core, 0, sizeof core);
     core.part = part;
     core.lock = (uint8_t)(percent(70) ? below(2) : percent(70) ? 2 : 255);
-    core.cycle = random_cycle();
+    core.cycle = random_cycle(part);
     core.last = random_clock();
     core.left = beside & 1 ? 1 + below(core.cycle) : 0;
     core.wel = beside >> 1 & 1;
     core.waits.kind = kind;
     core.waits.status = beside & 4 ? 0x80 : 0;
-    core.waits.page = beside & 8 ? 1 + below(511) : 0;
+    core.waits.page = beside & 8 ? 1 + below(PAGES - 1) : 0;
     if (beside & 16)
         core.waits.latch.marks[cell / WORD] = 1ULL << cell % WORD;
     if (beside & 32)
@@ -1819,24 +1970,24 @@ static void sweep_parts(void)
             cartvesper_device device;
             plain_device_power_up(&device, 0, 0, 1, 0, 0, 0, 0);
             device.core = core;
-            try_core_queries(&core, random_address());
-            try_reading(&core, core.last + core.left, random_lengths(5));
+            try_core_queries(&core, random_question(core.part));
+            try_reading(&core, core.last + core.left, random_lengths(core.part, 5));
             try_device_queries(&device);
-            try_event(&device, CLOCK, device.core.last + device.core.left, random_lengths(5));
+            try_event(&device, CLOCK, device.core.last + device.core.left, random_lengths(core.part, 5));
             counts.parts_swept++;
         }
 }
 
 /* a frame in hand of each part and code with each number of whole bytes, and what may stand beside them: a running
- * cycle, one at the eighth edge, address bit 10, a low and a high address bit, an address above FFFFh, a data byte, a
- * mark, a byte without one, bits shown, an output byte */
-enum { BESIDE = 1 << 11 };
+ * cycle, one at the eighth edge, address bit 10, a low and a high address bit, one of those above 16 bits, a data byte,
+ * a mark, a byte without one, bits shown, an output byte */
+enum { TAKEN = 8, BESIDE = 1 << 11 };
 
 static cartvesper_device device_of(uint8_t part, uint8_t code, uint8_t taken, uint32_t beside)
 {
     cartvesper_device device;
-    uint32_t cell = below(PAGE);
-    plain_device_power_up(&device, part, percent(30), random_cycle(), 0, percent(30), percent(30), random_clock());
+    uint32_t cell = percent(70) ? below(CELLS / 2) : below(CELLS);
+    plain_device_power_up(&device, part, percent(30), random_cycle(part), 0, percent(30), percent(30), random_clock());
     device.pins.s = 0;
     device.pins.c = (uint8_t)below(2);
     device.core.wel = (uint8_t)percent(70);
@@ -1846,7 +1997,8 @@ static cartvesper_device device_of(uint8_t part, uint8_t code, uint8_t taken, ui
     device.frame.code = code;
     device.frame.ran = beside >> 1 & 1;
     device.frame.address = (beside & 4 ? LOCK_ADDRESS : 0) | (beside & 8 ? 1u << below(8) : 0);
-    device.frame.address |= (beside & 16 ? 1u << (11 + below(5)) : 0) | (beside & 32 ? 1u << (16 + below(16)) : 0);
+    device.frame.address |= beside & 16 ? 1u << (11 + below(5)) : 0;
+    device.frame.address |= beside & 32 ? 1u << (percent(50) ? 16 : 16 + below(16)) : 0;
     device.frame.value = (uint8_t)(beside & 64 ? 1u << below(8) : 0);
     if (beside & 128)
         device.frame.latch.marks[cell / WORD] = 1ULL << cell % WORD;
@@ -1859,14 +2011,15 @@ static cartvesper_device device_of(uint8_t part, uint8_t code, uint8_t taken, ui
 static void sweep_fields(int some)
 {
     static const uint8_t codes[] = {WRID, RDID, WRITE, READ, WRSR, RDSR, 0x81};
-    for (uint32_t one = 0; one < 2 * sizeof codes * 6 * BESIDE; one++) {
+    for (uint32_t one = 0; one < PLAIN_PARTS * sizeof codes * TAKEN * BESIDE; one++) {
         if (some && below(100) != 0)
             continue;
         uint32_t place = one / BESIDE;
-        cartvesper_device device = device_of(place & 1, codes[place / 12], (uint8_t)(place / 2 % 6), one % BESIDE);
+        uint8_t part = place % PLAIN_PARTS, taken = place / PLAIN_PARTS % TAKEN;
+        cartvesper_device device = device_of(part, codes[place / PLAIN_PARTS / TAKEN], taken, one % BESIDE);
         begin_call(NULL, &device, "device_in_ranges");
         compare_values(cartvesper_device_in_ranges(device), plain_device_in_ranges_call(device));
-        try_event(&device, percent(50) ? SET_S : SET_C, percent(50) ? 1 : !device.pins.c, whole);
+        whole_event(&device, percent(50) ? SET_S : SET_C, percent(50) ? 1 : !device.pins.c);
         counts.fields_swept++;
     }
 }
@@ -1884,7 +2037,7 @@ static void expect_touched(const cartvesper_device *device, uint32_t number, uin
 static void expect_core_touched(const cartvesper_core *core, uint32_t number, uint32_t cells)
 {
     cartvesper_value touched = cartvesper_core_touched(*core);
-    try_core_queries(core, random_address());
+    try_core_queries(core, random_question(core->part));
     compare_numbers("the number (second: wanted)", touched.number, number);
     compare_numbers("cells touched (second: wanted)", touched.value, cells);
 }
@@ -1895,12 +2048,13 @@ static int bytes_wait(const cartvesper_core *core)
     return core->waits.kind == 2 || core->waits.kind == 3;
 }
 
-static cartvesper_core core_with(uint8_t kind)
+static cartvesper_core core_with(uint8_t part, uint8_t kind)
 {
-    cartvesper_core core;
-    do
-        core = random_core();
-    while (core.waits.kind != kind);
+    cartvesper_core core = random_core_of(part);
+    while (core.waits.kind != kind) {
+        memset(&core.waits, 0, sizeof core.waits);
+        begin_cycle(&core);
+    }
     return core;
 }
 
@@ -1914,55 +2068,58 @@ static cartvesper_core core_without_bytes(void)
 }
 
 /* selected, with a WRITE or an 82h in hand that its deselect executes */
-static cartvesper_device device_in_write(uint8_t code)
+static cartvesper_device device_in_write(uint8_t part, uint8_t code)
 {
     cartvesper_device device;
-    int part = code == WRID || percent(50), lock = code == WRITE && percent(50);
-    plain_device_power_up(&device, part, lock, random_cycle(), 0, 0, 0, random_clock());
+    const plain_row *row = plain_row_of(part);
+    int lock = code == WRITE && percent(50);
+    plain_device_power_up(&device, part, lock, random_cycle(part), 0, 0, 0, random_clock());
     device.core.wel = 1;
     device.pins.s = 0;
-    device.frame.taken = (uint8_t)(4 + below(2));
+    device.frame.taken = (uint8_t)(plain_head(row) + 1 + below(2));
     device.frame.code = code;
-    device.frame.address = code == WRITE ? random_address() : random_page_address() & ~LOCK_ADDRESS;
+    device.frame.address = code == WRITE ? random_address(row) : random_page_address(row) & ~LOCK_ADDRESS;
     return device;
 }
 
 /* the latch in a page or an identification page that waits: asked, then its cycle ended */
-static void try_waiting(const cartvesper_latch *latch, uint8_t kind, uint32_t number, uint32_t cells)
+static void try_waiting(const cartvesper_latch *latch, uint8_t part, uint8_t kind, uint32_t number, uint32_t cells)
 {
-    cartvesper_core core = core_with(kind);
+    cartvesper_core core = core_with(part, kind);
     cartvesper_device device;
     plain_device_power_up(&device, 0, 0, 1, 0, 0, 0, 0);
     core.waits.latch = *latch;
     device.core = core;
     expect_core_touched(&core, number, cells);
-    try_reading(&core, core.last + core.left, whole);
+    whole_reading(&core, core.last + core.left);
     expect_core_touched(&core, number, 0);
     expect_touched(&device, number, cells);
-    try_event(&device, CLOCK, device.core.last + device.core.left, whole);
+    whole_event(&device, CLOCK, device.core.last + device.core.left);
     expect_touched(&device, number, 0);
 }
 
 /* the latch in the frame in hand: it waits from the deselect on */
-static void try_latching(const cartvesper_latch *latch, uint8_t code, uint32_t number, uint32_t cells)
+static void try_latching(const cartvesper_latch *latch, uint8_t part, uint8_t code, uint32_t number, uint32_t cells)
 {
-    cartvesper_device device = device_in_write(code);
+    cartvesper_device device = device_in_write(part, code);
     device.frame.latch = *latch;
     expect_touched(&device, number, 0);
-    try_event(&device, SET_S, 1, whole);
+    whole_event(&device, SET_S, 1);
     expect_touched(&device, number, cells);
-    try_event(&device, CLOCK, device.core.last + device.core.left, whole);
+    whole_event(&device, CLOCK, device.core.last + device.core.left);
     expect_touched(&device, number, 0);
 }
 
 /* inside the ranges: so many cells; outside them: 2 */
-static void try_latch(const cartvesper_latch *latch, uint32_t number, uint32_t cells)
+static void try_latch(const cartvesper_latch *latch, uint8_t part, uint32_t number, uint32_t cells)
 {
-    try_waiting(latch, 2, number, cells);
-    try_waiting(latch, 3, number, cells);
-    try_latching(latch, WRITE, number, cells);
-    try_latching(latch, WRID, number, cells);
+    try_waiting(latch, part, 2, number, cells);
+    try_latching(latch, part, WRITE, number, cells);
     counts.marked++;
+    if (part == M95512)
+        return;
+    try_waiting(latch, part, 3, number, cells);
+    try_latching(latch, part, WRID, number, cells);
 }
 
 /* a latch that is not empty where neither page waits, and where the frame has latched nothing: 2 */
@@ -1985,59 +2142,72 @@ static void try_stray(const cartvesper_latch *latch)
     counts.marked++;
 }
 
-/* a cell alone, and every cell but it; its byte not 0 where it is not marked */
-static void sweep_cell(size_t cell)
+/* so many cells from cell 0 on */
+static void mark_first(cartvesper_latch *latch, size_t cells)
 {
+    for (size_t k = 0; k < WORDS; k++)
+        latch->marks[k] = k < cells / WORD ? UINT64_MAX : 0;
+}
+
+/* a cell alone, and every cell of the page but it; its byte not 0 where it is not marked. A mark past the page is
+ * outside the ranges */
+static void sweep_cell(uint8_t part, size_t cell)
+{
+    const size_t page = whole(part).cells;
+    const uint32_t past = cell < page ? 0 : 2;
     cartvesper_latch latch;
     memset(&latch, 0, sizeof latch);
     latch.bytes[cell] = (uint8_t)(1u << below(8));
-    try_latch(&latch, 2, 0);
+    try_latch(&latch, part, 2, 0);
     try_stray(&latch);
     latch.marks[cell / WORD] = 1ULL << cell % WORD;
-    try_latch(&latch, 0, 1);
+    try_latch(&latch, part, past, past ? 0 : 1);
     try_stray(&latch);
     latch.bytes[cell] = 0;
+    try_latch(&latch, part, past, past ? 0 : 1);
     try_stray(&latch);
-    for (int k = 0; k < WORDS; k++)
-        latch.marks[k] = ~latch.marks[k];
+    mark_first(&latch, page);
+    latch.marks[cell / WORD] ^= 1ULL << cell % WORD; /* past the page: every cell of it, and this one */
     fill_marked(&latch);
-    try_latch(&latch, 0, PAGE - 1);
+    try_latch(&latch, part, past, past ? 0 : (uint32_t)page - 1);
+    latch.marks[cell / WORD] &= ~(1ULL << cell % WORD);
     latch.bytes[cell] = (uint8_t)(1u << below(8));
-    try_latch(&latch, 2, 0);
+    try_latch(&latch, part, 2, 0);
 }
 
-static void sweep_marks(void)
+static void sweep_marks(uint8_t part)
 {
+    const size_t page = whole(part).cells;
     cartvesper_latch latch;
-    for (size_t cell = 0; cell < PAGE; cell++)
-        sweep_cell(cell);
+    for (size_t cell = 0; cell < CELLS; cell++)
+        sweep_cell(part, cell);
     for (unsigned full = 0; full < 1u << WORDS; full++) { /* each word empty or full */
-        uint32_t cells = 0;
+        uint32_t cells = 0, past = full >> page / WORD ? 2 : 0;
         for (int k = 0; k < WORDS; k++) {
             latch.marks[k] = full >> k & 1 ? UINT64_MAX : 0;
             cells += full >> k & 1 ? WORD : 0;
         }
         fill_marked(&latch);
-        try_latch(&latch, 0, cells);
+        try_latch(&latch, part, past, past ? 0 : cells);
     }
     for (int i = 0; i < 32; i++) {
         uint32_t cells = 0;
-        random_latch(&latch);
-        for (size_t cell = 0; cell < PAGE; cell++)
+        random_latch(&latch, page);
+        for (size_t cell = 0; cell < CELLS; cell++)
             cells += (uint32_t)cartvesper_marked(&latch, cell);
-        try_latch(&latch, 0, cells);
+        try_latch(&latch, part, 0, cells);
     }
 }
 
 /* ---- one page write laid over another: 02, Item 10 */
 
-/* none, every cell, one cell, a few, most, each word by itself */
-static cartvesper_latch random_page_write(void)
+/* of a page of so many cells: none, every cell, one cell, a few, most, each word by itself */
+static cartvesper_latch random_page_write(uint32_t page)
 {
     cartvesper_latch latch;
-    uint32_t kind = below(6), cell = percent(40) ? 127 * below(2) : below(PAGE);
+    uint32_t kind = below(6), cell = percent(40) ? (page - 1) * below(2) : below(page);
     memset(&latch, 0, sizeof latch);
-    for (int k = 0; k < WORDS; k++)
+    for (uint32_t k = 0; k < page / WORD; k++)
         latch.marks[k] = kind == 1   ? UINT64_MAX
                          : kind == 3 ? next64() & next64() & next64()
                          : kind == 4 ? next64() | next64() | next64()
@@ -2063,7 +2233,7 @@ static cartvesper_latch apart_from(cartvesper_latch latch, const cartvesper_latc
 {
     for (int k = 0; k < WORDS; k++)
         latch.marks[k] &= ~other->marks[k];
-    for (size_t i = 0; i < PAGE; i++)
+    for (size_t i = 0; i < CELLS; i++)
         latch.bytes[i] = cartvesper_marked(&latch, i) ? latch.bytes[i] : 0;
     return latch;
 }
@@ -2093,7 +2263,7 @@ static void sweep_laid_cell(size_t cell)
     for (int marks = 0; marks < 4; marks++) {
         const cartvesper_latch alone = one_cell(cell, (uint8_t)random32());
         const cartvesper_latch over = one_cell(cell, (uint8_t)random32());
-        cartvesper_latch earlier = random_page_write(), later = random_page_write();
+        cartvesper_latch earlier = random_page_write(CELLS), later = random_page_write(CELLS);
         earlier = apart_from(earlier, &alone);
         later = apart_from(later, &over);
         if (marks & 1)
@@ -2121,7 +2291,7 @@ static void maybe_damage(cartvesper_latch *latch)
     if (percent(10))
         damage_latch(latch);
     else if (percent(10))
-        spoil_latch(latch, below(PAGE));
+        spoil_latch(latch, below(CELLS));
     else if (percent(2))
         random_bytes(latch, sizeof *latch);
 }
@@ -2129,7 +2299,8 @@ static void maybe_damage(cartvesper_latch *latch)
 static void try_lays(int count)
 {
     for (int i = 0; i < count; i++) {
-        cartvesper_latch earlier = random_page_write(), later = random_page_write();
+        uint32_t page = percent(70) ? CELLS : CELLS / 2;
+        cartvesper_latch earlier = random_page_write(page), later = random_page_write(page);
         if (percent(20))
             later = apart_from(later, &earlier);
         maybe_damage(&earlier);
@@ -2148,7 +2319,7 @@ static void law(const char *what, cartvesper_latch first, cartvesper_latch secon
 static void try_order(cartvesper_latch one, cartvesper_latch other)
 {
     int matters = 0;
-    for (size_t i = 0; i < PAGE; i++)
+    for (size_t i = 0; i < CELLS; i++)
         matters |= cartvesper_marked(&one, i) && cartvesper_marked(&other, i) && one.bytes[i] != other.bytes[i];
     cartvesper_latch first = laid(one, other), second = laid(other, one);
     compare_numbers("that order matters (second: wanted)", !plain_latch_same(&first, &second), (uint64_t)matters);
@@ -2159,7 +2330,8 @@ static void try_laws(int count)
 {
     const cartvesper_latch none = {{0}, {0}};
     for (int i = 0; i < count; i++) {
-        cartvesper_latch l = random_page_write(), k = random_page_write(), m = random_page_write();
+        uint32_t page = percent(70) ? CELLS : CELLS / 2;
+        cartvesper_latch l = random_page_write(page), k = random_page_write(page), m = random_page_write(page);
         law("grouping: from the left (first), from the right (second)", laid(laid(l, k), m), laid(l, laid(k, m)));
         law("an empty one laid over another (first), the other (second)", laid(l, none), l);
         law("one laid over an empty one (first), the one (second)", laid(none, l), l);
@@ -2175,30 +2347,32 @@ static void try_laws(int count)
  * page write of one cell for each; then its cycle ends */
 static cartvesper_latch send_write(cartvesper_core *core, uint8_t code, uint32_t page)
 {
+    const plain_row *row = plain_row_of(core->part);
+    const lengths lent = whole(core->part);
     cartvesper_latch bytewise = {{0}, {0}};
-    size_t start = below(PAGE), length = 1 + (percent(70) ? below(12) : below(2 * PAGE));
+    size_t head = plain_head(row), start = below(row->page);
+    size_t length = 1 + (percent(70) ? below(12) : below(2 * row->page));
     frame_bytes[0] = WREN;
-    try_frame(core, whole, 1, 1, 8, 1);
+    try_frame(core, lent, 1, 1, 8, 1);
     frame_bytes[0] = code;
-    frame_bytes[1] = (uint8_t)(page * PAGE >> 8);
-    frame_bytes[2] = (uint8_t)(page * PAGE + start);
-    random_bytes(frame_bytes + 3, length);
-    try_frame(core, whole, 1, 3 + length, 8 * (3 + length), 3 + length);
+    put_address(row, page * row->page + (uint32_t)start);
+    random_bytes(frame_bytes + head, length);
+    try_frame(core, lent, 1, head + length, 8 * (head + length), head + length);
     for (size_t i = 0; i < length; i++)
-        bytewise = laid(bytewise, one_cell((start + i) % PAGE, frame_bytes[3 + i]));
+        bytewise = laid(bytewise, one_cell((start + i) % row->page, frame_bytes[head + i]));
     compare_latches("what waits (first), its bytes laid one by one (second)", &core->waits.latch, &bytewise);
     counts.bytewise++;
-    try_reading(core, core->last + core->left, whole);
+    try_reading(core, core->last + core->left, lent);
     return bytewise;
 }
 
 /* any page write, by the end of a cycle that it waits for: into a page, or into the identification page, which is 0 */
-static void store_latch(const cartvesper_latch *latch, uint8_t kind, uint32_t page)
+static void store_latch(const cartvesper_latch *latch, uint8_t part, uint8_t kind, uint32_t page)
 {
-    cartvesper_core core = core_with(kind);
+    cartvesper_core core = core_with(part, kind);
     core.waits.page = page;
     core.waits.latch = *latch;
-    if (try_reading(&core, core.last + core.left, whole) != 0)
+    if (try_reading(&core, core.last + core.left, whole(part)) != 0)
         fail("a page write inside its ranges, refused where it waits");
 }
 
@@ -2211,24 +2385,24 @@ static void compare_kept(const char *what)
 static void try_stored(int count)
 {
     for (int i = 0; i < count; i++) {
-        uint8_t kind = percent(30) ? 3 : 2;
-        uint32_t page = kind == 3 ? 0 : percent(30) ? below(2) * 511 : below(512);
-        cartvesper_latch earlier = random_page_write(), later = random_page_write();
+        uint8_t kind = percent(30) ? 3 : 2, part = kind == 3 ? identified_part() : (uint8_t)below(PLAIN_PARTS);
+        uint32_t cells = plain_row_of(part)->page;
+        uint32_t page = kind == 3 ? 0 : percent(30) ? below(2) * (PAGES - 1) : below(PAGES);
+        cartvesper_latch earlier = random_page_write(cells), later = random_page_write(cells);
         start_memory = lib_memory;
         if (percent(50)) {
             cartvesper_core core;
-            which one = kind == 3 ? (which){M95512D, 0} : random_which(0);
-            try_power_up(&core, one, random_cycle(), 0, 0, 0, random_clock());
+            try_power_up(&core, (which){part, 0}, random_cycle(part), 0, 0, 0, random_clock());
             earlier = send_write(&core, kind == 3 ? WRID : WRITE, page);
             later = send_write(&core, kind == 3 ? WRID : WRITE, page);
         } else {
-            store_latch(&earlier, kind, page);
-            store_latch(&later, kind, page);
+            store_latch(&earlier, part, kind, page);
+            store_latch(&later, part, kind, page);
         }
         singles_memory = lib_memory;
         lib_memory = plain_memory = start_memory;
         cartvesper_latch both = laid(earlier, later);
-        store_latch(&both, kind, page);
+        store_latch(&both, part, kind, page);
         compare_kept("what the one laid over left (first), what the two left (second)");
         counts.stored++;
     }
@@ -2238,20 +2412,22 @@ static void try_stored(int count)
 static void try_same_laying(int count)
 {
     for (int i = 0; i < count; i++) {
-        cartvesper_latch latch = random_page_write();
-        memcpy(lib_memory.bytes, lib_memory.identification, PAGE);
+        uint8_t part = identified_part();
+        size_t page = whole(part).cells;
+        cartvesper_latch latch = random_page_write((uint32_t)page);
+        memcpy(lib_memory.bytes, lib_memory.identification, page);
         plain_memory = lib_memory;
-        store_latch(&latch, 2, 0);
-        store_latch(&latch, 3, 0);
+        store_latch(&latch, part, 2, 0);
+        store_latch(&latch, part, 3, 0);
         compare_bytes("the identification page (first), page 0 (second)", lib_memory.identification, lib_memory.bytes,
-                      PAGE, 0);
+                      page, 0);
     }
 }
 
 static void lay_session(void)
 {
     new_memory();
-    for (size_t cell = 0; cell < PAGE; cell++)
+    for (size_t cell = 0; cell < CELLS; cell++)
         sweep_laid_cell(cell);
     try_lays(500);
     try_laws(150);
@@ -2264,21 +2440,23 @@ static void lay_session(void)
 static void try_twice(void)
 {
     cartvesper_core core = random_core();
-    size_t length = random_run();
-    uint64_t address = random_run_address(length);
-    uint32_t interval = length > 1000 ? 1000 + below(4001) : 1 + below(5000);
+    const plain_row *row = plain_row_of(core.part);
+    const lengths lent = whole(core.part);
+    size_t length = random_run(row);
+    uint64_t address = random_run_address(row, length);
+    uint32_t least = length > 1000 ? 1000 : 1, interval = least + below(row->longest_cycle + 1 - least);
     int running = core.left > 0;
     if (percent(70)) /* else half of the runs touch the block */
         core.bp1 = core.bp0 = core.waits.status = 0;
     random_bytes(run_bytes, length < 1000 ? length : 1000);
-    if (try_write(&core, whole, address, length, interval, 5001) != 0)
+    if (try_write(&core, lent, address, length, interval, plain_most_polls(row)) != 0)
         return;
     compare_bytes("the run's cells (first), its bytes (second)", lib_memory.bytes + address, run_bytes, length, 0);
     singles_memory = lib_memory;
     if (length > 0 && percent(30)) /* no cycle runs now; with no data one may */
-        try_reading(&core, random_reading(&core), whole);
+        try_reading(&core, random_reading(&core), lent);
     interval = length > 1000 ? interval : random_interval(&core);
-    if (try_write(&core, whole, address, length, interval, random_limit(&core, interval)) != 0)
+    if (try_write(&core, lent, address, length, interval, random_limit(&core, interval)) != 0)
         return;
     compare_kept("memory of a write sent twice (first), once (second)");
     counts.twice++;
@@ -2311,13 +2489,13 @@ static void cross_bit(const cartvesper_device *device, const uint8_t *expected, 
 /* a pause begins and ends while C is low; C and D move inside, S does not, W is set to the level it has */
 static void cross_pause(cartvesper_device *device)
 {
-    try_event(device, SET_HOLD, 0, whole);
+    whole_event(device, SET_HOLD, 0);
     for (uint32_t moves = below(12); moves > 0; moves--) {
         int kind = (int)(SET_C + below(3));
-        try_event(device, kind, kind == SET_W ? device->pins.w : below(2), whole);
+        whole_event(device, kind, kind == SET_W ? device->pins.w : below(2));
     }
-    try_event(device, SET_C, 0, whole);
-    try_event(device, SET_HOLD, 1, whole);
+    whole_event(device, SET_C, 0);
+    whole_event(device, SET_HOLD, 1);
 }
 
 static void maybe_pause(cartvesper_device *device, uint32_t pauses)
@@ -2333,22 +2511,22 @@ static void idle_moves(cartvesper_device *device, uint32_t pauses)
     const uint8_t levels[] = {pins->s, pins->c, pins->d, pins->w, pins->hold};
     while (percent(pauses)) {
         int kind = (int)below(5);
-        try_event(device, kind, kind == SET_D ? below(2) : levels[kind], whole);
+        whole_event(device, kind, kind == SET_D ? below(2) : levels[kind]);
     }
 }
 
 static void cross_edge(cartvesper_device *device, size_t bit, int mode, uint32_t pauses, const uint8_t *expected)
 {
     if (mode)
-        try_event(device, SET_C, 0, whole);
+        whole_event(device, SET_C, 0);
     idle_moves(device, pauses);
     maybe_pause(device, pauses);
-    try_event(device, SET_D, frame_bytes[bit / 8] >> (7 - bit % 8) & 1, whole);
+    whole_event(device, SET_D, frame_bytes[bit / 8] >> (7 - bit % 8) & 1);
     cross_bit(device, expected, bit);
-    try_event(device, SET_C, 1, whole);
+    whole_event(device, SET_C, 1);
     idle_moves(device, pauses);
     if (!mode)
-        try_event(device, SET_C, 0, whole);
+        whole_event(device, SET_C, 0);
 }
 
 /* the whole drawing of a frame, from an unselected device */
@@ -2356,13 +2534,13 @@ static void cross_draw(cartvesper_device *device, size_t bits, int mode, uint32_
 {
     leading_z = 0;
     driven_yet = 0;
-    try_event(device, SET_C, (uint32_t)mode, whole);
-    try_event(device, SET_S, 0, whole);
+    whole_event(device, SET_C, (uint32_t)mode);
+    whole_event(device, SET_S, 0);
     for (size_t bit = 0; bit < bits; bit++)
         cross_edge(device, bit, mode, pauses, expected);
     if (!mode)
         maybe_pause(device, pauses);
-    try_event(device, SET_S, 1, whole);
+    whole_event(device, SET_S, 1);
     counts.drawn++;
 }
 
@@ -2371,10 +2549,10 @@ static void cross_memory(cartvesper_device *device, cartvesper_core *core)
 {
     uint32_t reading = random_reading(core);
     start_memory = lib_memory;
-    try_event(device, CLOCK, reading, whole);
+    whole_event(device, CLOCK, reading);
     singles_memory = lib_memory;
     lib_memory = plain_memory = start_memory;
-    try_reading(core, reading, whole);
+    whole_reading(core, reading);
     compare_lent("what is lent after frame (first) and pins (second)", &lib_memory, &singles_memory);
     compare_cores("core after the reading: pins (first), frame (second)", &device->core, core);
 }
@@ -2392,13 +2570,14 @@ static void cross_given(cartvesper_device *device, size_t length, size_t bits, u
 {
     static uint8_t expected[LONGEST + 1];
     cartvesper_core core = device->core;
+    const lengths lent = whole(core.part);
     uint8_t w = (uint8_t)percent(70);
     cartvesper_frame_answer answer =
-        cartvesper_frame(core, LENT(lib_memory, whole), w, frame_bytes, length, bits, expected, length);
-    try_frame(&core, whole, w, length, bits, length);
+        cartvesper_frame(core, LENT(lib_memory, lent), w, frame_bytes, length, bits, expected, length);
+    try_frame(&core, lent, w, length, bits, length);
     compare_numbers("frame number", answer.number, 0);
     cross_tail(expected, length, bits);
-    try_event(device, SET_W, w, whole);
+    whole_event(device, SET_W, w);
     cross_draw(device, bits, percent(50), pauses, expected);
     begin_call(&core, NULL, "frame %02X of %zu bits drawn (record: after the frame)", length ? frame_bytes[0] : 0,
                bits);
@@ -2415,10 +2594,11 @@ static void cross_given(cartvesper_device *device, size_t length, size_t bits, u
 static void cross_frame(cartvesper_device *device, int longest)
 {
     static const uint8_t long_codes[] = {READ, READ, WRITE, RDID, WRID};
+    const uint8_t part = device->core.part;
     size_t bits, length;
-    do {
-        length = random_frame(&bits, longest);
-    } while (length > LONGEST);
+    do
+        length = random_frame(part, &bits, longest);
+    while (length > plain_longest_frame(plain_row_of(part)));
     if (longest && percent(70))
         frame_bytes[0] = long_codes[below(sizeof long_codes)];
     cross_given(device, length, bits, longest ? 0 : percent(50) ? below(30) : 0);
@@ -2429,58 +2609,99 @@ static cartvesper_device device_about_page(uint8_t part)
 {
     cartvesper_device device;
     plain_device_power_up(&device, part, 0, 1, 0, 0, 0, 0);
-    do
-        device.core = random_core();
-    while (device.core.part != part);
+    device.core = random_core_of(part);
     if (percent(50)) {
-        plain_core_power_up(&device.core, part, 0, random_cycle(), percent(50), percent(30), 0, random_clock());
+        plain_core_power_up(&device.core, part, 0, random_cycle(part), percent(50), percent(30), 0, random_clock());
         device.core.wel = 1;
     }
     return device;
 }
 
 /* frame_bytes: an instruction with an address whose bit 10 is given, and data */
-static void page_frame(uint8_t code, int lock, size_t length)
+static void page_frame(uint8_t part, uint8_t code, int lock, size_t length)
 {
-    uint16_t address = random_page_address();
-    address = lock ? address | LOCK_ADDRESS : address & ~LOCK_ADDRESS;
-    random_bytes(frame_bytes, length < 4 ? 4 : length);
+    const plain_row *row = plain_row_of(part);
+    uint32_t address = random_page_address(row), head = plain_head(row);
+    random_bytes(frame_bytes, length <= head ? head + 1 : length);
     frame_bytes[0] = code;
-    frame_bytes[1] = (uint8_t)(address >> 8);
-    frame_bytes[2] = (uint8_t)address;
+    put_address(row, lock ? address | LOCK_ADDRESS : address & ~LOCK_ADDRESS);
 }
 
-/* 82h and 83h, of each part, with address bit 10 either way and each count from 0 to 48 bits */
+/* 82h and 83h, of each part, with address bit 10 either way and each count from 0 to 56 bits */
 static void sweep_counts(void)
 {
-    for (size_t bits = 0; bits <= 48; bits++)
-        for (unsigned kind = 0; kind < 8; kind++) {
-            cartvesper_device device = device_about_page(kind & 1);
-            page_frame(kind & 4 ? RDID : WRID, kind & 2, 6);
+    for (size_t bits = 0; bits <= 56; bits++)
+        for (unsigned kind = 0; kind < 4 * PLAIN_PARTS; kind++) {
+            uint8_t part = (uint8_t)(kind / 4);
+            cartvesper_device device = device_about_page(part);
+            page_frame(part, kind & 2 ? RDID : WRID, kind & 1, 7);
             cross_given(&device, (bits + 7) / 8, bits, percent(30) ? 10 : 0);
         }
 }
 
-/* an 82h of the M95512-D that meets every test, or fails one or two: a cycle, WEL, the count, the lock, BP 11, data
- * bit 1 */
+/* an 82h of a part that knows it, which meets every test, or fails one or two: a cycle, WEL, the count, the lock,
+ * BP 11, data bit 1 */
 static void try_conditions(int count)
 {
     for (int i = 0; i < count; i++) {
         uint32_t faults = percent(25) ? 0 : 1u << below(6) | (percent(25) ? 1u << below(6) : 0);
+        uint8_t part = identified_part();
+        const plain_row *row = plain_row_of(part);
         int lock = percent(50);
-        size_t length = 4 + (lock ? 0 : percent(80) ? below(4) : below(PAGE + 8)), bits = 8 * length;
+        size_t head = plain_head(row), more = lock ? 0 : percent(80) ? below(4) : below(row->page + 8);
+        size_t length = head + 1 + more, bits = 8 * length;
         cartvesper_device device;
-        plain_device_power_up(&device, M95512D, faults >> 3 & 1, random_cycle(), percent(50), 0, 0, random_clock());
+        plain_device_power_up(&device, part, faults >> 3 & 1, random_cycle(part), percent(50), 0, 0, random_clock());
         device.core.bp1 = faults & 16 || percent(30);
         device.core.bp0 = faults & 16 || (!device.core.bp1 && percent(30));
-        device.core.wel = !(faults & 2);
         if (faults & 1)
             begin_cycle(&device.core);
-        page_frame(WRID, lock, length + 1);
-        frame_bytes[3] = (uint8_t)(faults & 32 ? frame_bytes[3] & ~LOCK_DATA : frame_bytes[3] | LOCK_DATA);
+        if (!(faults & 1) || part == M95M01) /* a cycle of the M95512-D has WEL 1 */
+            device.core.wel = !(faults & 2);
+        page_frame(part, WRID, lock, length + 1);
+        frame_bytes[head] = (uint8_t)(faults & 32 ? frame_bytes[head] & ~LOCK_DATA : frame_bytes[head] | LOCK_DATA);
         if (faults & 4)
             bits = bits + (lock && percent(30) ? 8 : percent(50) ? 1 + below(7) : 0 - 1 - (size_t)below(7));
         cross_given(&device, (bits + 7) / 8, bits, percent(30) ? 10 : 0);
+    }
+}
+
+/* READ and WRITE of a few bytes at the edges of the memory, of its halves and of its pages, of each part */
+static void try_addressed(int count)
+{
+    for (int i = 0; i < count; i++) {
+        uint8_t part = (uint8_t)below(PLAIN_PARTS);
+        const plain_row *row = plain_row_of(part);
+        const uint32_t ends[] = {row->size, row->size / 2, row->page * (1 + below(PAGES))};
+        size_t length = plain_head(row) + below(8);
+        cartvesper_device device;
+        plain_device_power_up(&device, part, 0, random_cycle(part), 0, percent(30), percent(30), random_clock());
+        device.core.wel = (uint8_t)percent(80);
+        random_bytes(frame_bytes, length);
+        frame_bytes[0] = percent(50) ? READ : WRITE;
+        put_address(row, percent(30) ? random_address(row) : ends[below(3)] - 1 - below(4));
+        cross_given(&device, length, 8 * length, percent(30) ? 10 : 0);
+    }
+}
+
+/* WRDI, WREN and RDSR in a cycle, of each part, with WEL 1 and of the M95M01 with WEL 0 too: with 8 bits, with 16, and
+ * with a part of a byte */
+static void try_in_cycle(int count)
+{
+    static const uint8_t codes[] = {WRDI, WRDI, WREN, RDSR};
+    static const uint8_t bit_counts[] = {8, 8, 8, 16, 16, 7, 9};
+    for (int i = 0; i < count; i++) {
+        uint8_t part = (uint8_t)below(PLAIN_PARTS);
+        cartvesper_device device;
+        plain_device_power_up(&device, part, percent(50), random_cycle(part), percent(30), percent(30), percent(30),
+                              random_clock());
+        begin_cycle(&device.core);
+        for (uint32_t frames = 1 + below(3); frames > 0; frames--) {
+            size_t bits = bit_counts[below(sizeof bit_counts)];
+            random_bytes(frame_bytes, 2);
+            frame_bytes[0] = codes[below(sizeof codes)];
+            cross_given(&device, (bits + 7) / 8, bits, percent(30) ? 10 : 0);
+        }
     }
 }
 
@@ -2488,16 +2709,16 @@ static void try_conditions(int count)
  * executed only a WRITE is */
 static void drop_in_hold(cartvesper_device *device, size_t bits)
 {
-    static const uint8_t undriven[6] = {0xFF, 0xFF, 0xFF, 0xFF, 0xFF, 0xFF};
+    static const uint8_t undriven[7] = {0xFF, 0xFF, 0xFF, 0xFF, 0xFF, 0xFF, 0xFF};
     const cartvesper_core before = device->core;
-    try_event(device, SET_C, 0, whole);
-    try_event(device, SET_S, 0, whole);
+    whole_event(device, SET_C, 0);
+    whole_event(device, SET_S, 0);
     for (size_t bit = 0; bit < bits; bit++)
         cross_edge(device, bit, 0, 0, undriven);
-    try_event(device, SET_HOLD, 0, whole);
+    whole_event(device, SET_HOLD, 0);
     if (percent(50))
-        try_event(device, SET_C, 1, whole);
-    try_event(device, SET_S, 1, whole);
+        whole_event(device, SET_C, 1);
+    whole_event(device, SET_S, 1);
     begin_call(&before, NULL, "frame %02X of %zu bits dropped in Hold (record: before it)", frame_bytes[0], bits);
     if (frame_bytes[0] == WRITE)
         compare_numbers("a WRITE dropped in Hold: time left (second: wanted)", device->core.left, before.cycle);
@@ -2510,21 +2731,37 @@ static void try_in_hold(int count)
 {
     for (int i = 0; i < count; i++) {
         cartvesper_device device;
+        uint8_t part = identified_part();
+        uint32_t head = plain_head(plain_row_of(part));
         int lock = percent(40), write = percent(20);
-        plain_device_power_up(&device, M95512D, 0, random_cycle(), 0, 0, 0, random_clock());
+        plain_device_power_up(&device, part, 0, random_cycle(part), 0, 0, 0, random_clock());
         device.core.wel = 1;
-        page_frame(write ? WRITE : WRID, lock, 6);
-        frame_bytes[3] |= LOCK_DATA;
-        drop_in_hold(&device, lock ? 32 : 8 * (4 + below(3)));
+        page_frame(part, write ? WRITE : WRID, lock, head + 3);
+        frame_bytes[head] |= LOCK_DATA;
+        drop_in_hold(&device, 8 * (head + 1 + (lock ? 0 : below(3))));
+    }
+}
+
+/* a WRDI in a cycle, dropped in a pause: WEL stays, on the M95M01 too */
+static void try_wrdi_in_hold(int count)
+{
+    for (int i = 0; i < count; i++) {
+        cartvesper_device device;
+        uint8_t part = (uint8_t)below(PLAIN_PARTS);
+        plain_device_power_up(&device, part, 0, random_cycle(part), 0, 0, 0, random_clock());
+        begin_cycle(&device.core);
+        device.core.wel = 1;
+        frame_bytes[0] = WRDI;
+        drop_in_hold(&device, 8);
     }
 }
 
 static void cross_session(int frames)
 {
     cartvesper_device device;
+    which one = random_which(0);
     new_memory();
-    try_device_power_up(&device, random_which(0), random_cycle(), percent(20), percent(20), percent(30),
-                        random_clock());
+    try_device_power_up(&device, one, random_cycle(one.part), percent(20), percent(20), percent(30), random_clock());
     if (percent(30))
         device.core = random_core();
     for (int i = 0; i < frames; i++)
@@ -2538,21 +2775,21 @@ static void case_frame(cartvesper_core *core, const char *hex, size_t bits)
     size_t length = 0;
     for (char *end = (char *)hex; *end != 0; length++)
         frame_bytes[length] = (uint8_t)strtoul(end, &end, 16);
-    try_frame(core, whole, 1, length, bits ? bits : 8 * length, length);
+    try_frame(core, whole(core->part), 1, length, bits ? bits : 8 * length, length);
 }
 
 static void case_start_of(cartvesper_core *core, uint8_t part, int bits)
 {
     memset(&lib_memory, 0xFF, sizeof lib_memory);
     plain_memory = lib_memory;
-    try_power_up(core, (which){part, 0}, 5000, (uint8_t)bits >> 2 & 1, (uint8_t)bits >> 1 & 1, (uint8_t)bits & 1,
-                 4294967290);
+    try_power_up(core, (which){part, 0}, plain_row_of(part)->longest_cycle, (uint8_t)bits >> 2 & 1,
+                 (uint8_t)bits >> 1 & 1, (uint8_t)bits & 1, 4294967290);
     case_frame(core, "06", 0);
 }
 
 static void case_start(cartvesper_core *core, int bits)
 {
-    case_start_of(core, CARTVESPER_M95512, bits);
+    case_start_of(core, M95512, bits);
 }
 
 static void case_expect(const char *what, uint32_t got, uint32_t wanted)
@@ -2571,11 +2808,11 @@ static void cases_a_b(void)
     case_expect("case b: time left (second: wanted)", core.left, 0);
     case_frame(&core, "02 00 7E 11 22 33 44", 0);
     case_expect("case a: cells touched (second: wanted)", cartvesper_core_touched(core).value, 4);
-    try_reading(&core, 10, whole); /* case i: 16 elapsed */
+    whole_reading(&core, 10); /* case i: 16 elapsed */
     case_expect("case i: time left (second: wanted)", core.left, 4984);
     case_frame(&core, "03 00 7E 00 00", 0);
     case_expect("case k: Q in a cycle (second: wanted)", lib_out.bytes[3], 0xFF);
-    try_reading(&core, 10 + 4984, whole);
+    whole_reading(&core, 10 + 4984);
     case_expect("case a: cells touched after it (second: wanted)", cartvesper_core_touched(core).value, 0);
     case_expect("case a: 007Eh (second: wanted)", lib_memory.bytes[0x7E], 0x11);
     case_expect("case a: 007Fh (second: wanted)", lib_memory.bytes[0x7F], 0x22);
@@ -2598,9 +2835,9 @@ static void case_c(void)
     frame_bytes[0] = WRITE;
     for (int i = 0; i < 130; i++)
         frame_bytes[3 + i] = (uint8_t)i;
-    try_frame(&core, whole, 1, 133, 8 * 133, 133);
+    try_frame(&core, whole(M95512), 1, 133, 8 * 133, 133);
     case_expect("case c: cells touched (second: wanted)", cartvesper_core_touched(core).value, 128);
-    try_reading(&core, core.last + 5000, whole);
+    whole_reading(&core, core.last + 5000);
     case_expect("case c: cell 0 (second: wanted)", lib_memory.bytes[0], 0x80);
     case_expect("case c: cell 1 (second: wanted)", lib_memory.bytes[1], 0x81);
     case_expect("case c: cell 2 (second: wanted)", lib_memory.bytes[2], 0x02);
@@ -2619,32 +2856,39 @@ static void cases_d_e(void)
     case_frame(&core, "01 8C", 0);
     case_expect("case e: in a cycle (second: wanted)", cartvesper_core_status(core).value, 0x8F);
     case_expect("case e: cells touched by a status (second: wanted)", cartvesper_core_touched(core).value, 0);
-    try_reading(&core, core.last + 5000, whole);
+    whole_reading(&core, core.last + 5000);
     case_expect("case e: idle (second: wanted)", cartvesper_core_status(core).value, 0x8C);
 }
 
 /* case h, case l, what the ends of the ranges do, and the protected block */
-static void case_run(cartvesper_core *core, const char *what, uint64_t address, size_t length, uint32_t interval, uint32_t limit, uint32_t number,
-                     uint32_t pages, uint32_t frames)
+static void case_run(cartvesper_core *core, const char *what, uint64_t address, size_t length, uint32_t interval,
+                     uint32_t limit, uint32_t number, uint32_t pages, uint32_t frames)
 {
     memset(run_bytes, 0x5A, length);
     uint64_t pages_before = counts.pages, frames_before = counts.sent;
-    case_expect(what, try_write(core, whole, address, length, interval, limit), number);
+    case_expect(what, try_write(core, whole(core->part), address, length, interval, limit), number);
     case_expect(what, (uint32_t)(counts.pages - pages_before), pages);
     case_expect(what, (uint32_t)(counts.sent - frames_before), frames);
 }
 
-static void case_write(const char *what, uint64_t address, size_t length, uint32_t interval, uint32_t limit, uint32_t number, uint32_t pages,
-                       uint32_t frames)
+static void case_write_of(uint8_t part, const char *what, uint64_t address, size_t length, uint32_t interval,
+                          uint32_t limit, uint32_t number, uint32_t pages, uint32_t frames)
 {
     cartvesper_core core;
-    case_start(&core, 1);
+    case_start_of(&core, part, 1);
     case_run(&core, what, address, length, interval, limit, number, pages, frames);
+}
+
+static void case_write(const char *what, uint64_t address, size_t length, uint32_t interval, uint32_t limit,
+                       uint32_t number, uint32_t pages, uint32_t frames)
+{
+    case_write_of(M95512, what, address, length, interval, limit, number, pages, frames);
 }
 
 /* one byte at C000h after a WRSR, whose cycle of 5,000 the first wait meets; gives the status byte that the run
  * leaves */
-static void case_moved(const char *what, int bits, const char *wrsr, uint32_t limit, uint32_t number, uint32_t pages, uint32_t frames, uint32_t status)
+static void case_moved(const char *what, int bits, const char *wrsr, uint32_t limit, uint32_t number, uint32_t pages,
+                       uint32_t frames, uint32_t status)
 {
     cartvesper_core core;
     case_start(&core, bits);
@@ -2660,7 +2904,7 @@ static void cases_protected(void)
     case_write("ends in its first cell (second: wanted)", 0xBFFE, 3, 5000, 1, 13, 0, 1);
     case_write("crosses into it (second: wanted)", 0xBF00, 400, 5000, 1, 13, 0, 1);
     case_write("lies in it (second: wanted)", 0xFFFF, 1, 5000, 1, 13, 0, 1);
-    case_write("the whole memory (second: wanted)", 0, MEMORY, 1000, 5, 13, 0, 1);
+    case_write("the whole memory (second: wanted)", 0, 65536, 1000, 5, 13, 0, 1);
     case_write("no data at a protected address (second: wanted)", 0xC000, 0, 5000, 1, 0, 0, 0);
     case_start(&core, 3);
     case_run(&core, "BP 11 (second: wanted)", 0, 1, 5000, 1, 13, 0, 1);
@@ -2682,9 +2926,9 @@ static void cases_h_l(void)
     case_write("interval 5,001 (second: wanted)", 0, 1, 5001, 1, 8, 0, 0);
     case_write("limit 0 (second: wanted)", 0, 1, 1, 0, 8, 0, 0);
     case_write("limit 5,002 (second: wanted)", 0, 1, 1, 5002, 8, 0, 0);
-    case_write("no data at 65,536 (second: wanted)", MEMORY, 0, 1, 1, 0, 0, 0);
-    case_write("no data at 65,537 (second: wanted)", MEMORY + 1, 0, 1, 1, 7, 0, 0);
-    case_write("one byte at 65,536 (second: wanted)", MEMORY, 1, 1, 1, 7, 0, 0);
+    case_write("no data at 65,536 (second: wanted)", 65536, 0, 1, 1, 0, 0, 0);
+    case_write("no data at 65,537 (second: wanted)", 65537, 0, 1, 1, 7, 0, 0);
+    case_write("one byte at 65,536 (second: wanted)", 65536, 1, 1, 1, 7, 0, 0);
     case_write("a sum of 0 in 64 bits (second: wanted)", UINT64_MAX, 1, 1, 1, 7, 0, 0);
     case_write("a sum of 0 in 32 bits (second: wanted)", 0xFFFFFFFF, 1, 1, 1, 7, 0, 0);
 }
@@ -2706,12 +2950,12 @@ static void cases_identification(void)
     memset(&lib_memory, 0xFF, sizeof lib_memory);
     plain_memory = lib_memory;
     try_power_up(&core, (which){1, 0}, 5000, 0, 0, 0, 4294967290);
-    case_expect("the part (second: wanted)", core.part, CARTVESPER_M95512D);
+    case_expect("the part (second: wanted)", core.part, M95512D);
     case_wait(&core, 3, &three);
     case_expect("cells touched of the identification page (second: wanted)", cartvesper_core_touched(core).value, 3);
-    try_reading(&core, core.last + 4999, whole);
+    whole_reading(&core, core.last + 4999);
     case_expect("its first cell before the end (second: wanted)", lib_memory.identification[0], 0xFF);
-    try_reading(&core, core.last + 1, whole);
+    whole_reading(&core, core.last + 1);
     case_expect("its cell 0 (second: wanted)", lib_memory.identification[0], 0x20);
     case_expect("its cell 1 (second: wanted)", lib_memory.identification[1], 0xFF);
     case_expect("its cell 64 (second: wanted)", lib_memory.identification[64], 0x21);
@@ -2721,9 +2965,9 @@ static void cases_identification(void)
     case_expect("the status after it (second: wanted)", cartvesper_core_status(core).value, 0x00);
     case_wait(&core, 4, &none);
     case_expect("cells touched by the lock (second: wanted)", cartvesper_core_touched(core).value, 0);
-    try_reading(&core, core.last + 4999, whole);
+    whole_reading(&core, core.last + 4999);
     case_expect("the lock before the end (second: wanted)", core.lock, 0);
-    try_reading(&core, core.last + 1, whole);
+    whole_reading(&core, core.last + 1);
     case_expect("the lock (second: wanted)", core.lock, 1);
     case_expect("the status after it (second: wanted)", cartvesper_core_status(core).value, 0x00);
 }
@@ -2743,7 +2987,7 @@ static void cases_page(void)
     case_expect("82h: cells touched (second: wanted)", cartvesper_core_touched(core).value, 4);
     case_frame(&core, "83 00 7E 00", 0);
     case_expect("83h in a cycle (second: wanted)", lib_out.bytes[3], 0xFF);
-    try_reading(&core, core.last + 5000, whole);
+    whole_reading(&core, core.last + 5000);
     case_expect("82h: cell 126 (second: wanted)", lib_memory.identification[126], 0x11);
     case_expect("82h: cell 1 (second: wanted)", lib_memory.identification[1], 0x44);
     case_expect("82h: the memory's cell 007Eh (second: wanted)", lib_memory.bytes[0x7E], 0xFF);
@@ -2757,7 +3001,7 @@ static void cases_page(void)
     case_expect("BP 11: the status (second: wanted)", cartvesper_core_status(core).value, 0x0E);
     case_start_of(&core, M95512D, 6);
     memcpy(frame_bytes, "\x82\xFB\xFF\x55", 4);
-    try_frame(&core, whole, 0, 4, 32, 4);
+    try_frame(&core, whole(M95512D), 0, 4, 32, 4);
     case_expect("SRWD and W low, BP 10: time left (second: wanted)", core.left, 5000);
 }
 
@@ -2776,7 +3020,7 @@ static void cases_lock(void)
     case_frame(&core, "82 FF FF 02", 0);
     case_expect("the lock: what waits (second: wanted)", core.waits.kind, 4);
     case_expect("the lock in its cycle (second: wanted)", core.lock, 0);
-    try_reading(&core, core.last + 5000, whole);
+    whole_reading(&core, core.last + 5000);
     case_expect("the lock after it (second: wanted)", core.lock, 1);
     case_frame(&core, "83 04 00 00 00", 0);
     case_expect("83h: the lock (second: wanted)", lib_out.bytes[3], 0x01);
@@ -2785,7 +3029,7 @@ static void cases_lock(void)
     case_frame(&core, "82 00 00 55", 0);
     case_frame(&core, "82 04 00 02", 0);
     case_expect("82h when locked: the status (second: wanted)", cartvesper_core_status(core).value, 0x02);
-    case_start_of(&core, CARTVESPER_M95512, 0);
+    case_start_of(&core, M95512, 0);
     case_frame(&core, "82 00 00 55", 0);
     case_frame(&core, "82 04 00 02", 0);
     case_expect("82h on the M95512: the status (second: wanted)", cartvesper_core_status(core).value, 0x02);
@@ -2800,48 +3044,251 @@ static void case_refused(const char *what, cartvesper_core core, lengths lent, u
     cartvesper_device device;
     plain_device_power_up(&device, 0, 0, 1, 0, 0, 0, 0);
     device.core = core;
-    memset(frame_bytes, 0, 4);
+    memset(frame_bytes, 0, 5);
     for (frame_bytes[0] = WRID; frame_bytes[0] <= RDID; frame_bytes[0]++)
-        case_expect(what, try_frame(&sent, lent, 1, 4, 32, 4), number);
+        case_expect(what, try_frame(&sent, lent, 1, 5, 40, 5), number);
     case_expect(what, try_event(&device, SET_C, 1, lent), number);
     case_expect(what, try_reading(&core, core.last + core.left, lent), number);
+}
+
+static void case_own(const char *what, cartvesper_core core, uint32_t number)
+{
+    case_refused(what, core, whole(core.part), number);
 }
 
 static void cases_parts(void)
 {
     const cartvesper_latch none = {{0}, {0}}, one = one_cell(5, 0x33);
     cartvesper_core plain_part, other, core;
-    try_power_up(&plain_part, (which){0, 1}, 5000, 0, 0, 0, 0);
+    try_power_up(&plain_part, (which){M95512, 1}, 5000, 0, 0, 0, 0);
     case_expect("the lock of the M95512 is kept (second: wanted)", plain_part.lock, 1);
-    try_power_up(&other, (which){1, 1}, 5000, 0, 0, 0, 0);
-    case_refused("a page of 127 (second: wanted)", other, (lengths){MEMORY, PAGE - 1}, 1);
-    case_refused("a page of 129 (second: wanted)", other, (lengths){MEMORY, PAGE + 1}, 1);
-    case_refused("no page, on the M95512 too (second: wanted)", plain_part, (lengths){MEMORY, 0}, 1);
+    try_power_up(&other, (which){M95512D, 1}, 5000, 0, 0, 0, 0);
+    case_refused("a page of 127 (second: wanted)", other, (lengths){65536, 127}, 1);
+    case_refused("a page of 129 (second: wanted)", other, (lengths){65536, 129}, 1);
+    case_refused("no page, on the M95512 too (second: wanted)", plain_part, (lengths){65536, 0}, 1);
     core = other;
-    core.part = 2;
-    case_refused("part 2 (second: wanted)", core, whole, 2);
-    case_refused("part 2, a page of 127 (second: wanted)", core, (lengths){MEMORY, PAGE - 1}, 1);
+    core.part = 3;
+    case_own("part 3 (second: wanted)", core, 2);
+    case_refused("part 3, a page of 127 (second: wanted)", core, (lengths){65536, 127}, 1);
+    case_refused("part 3, the sizes of the M95M01 (second: wanted)", core, whole(M95M01), 1);
     core = plain_part;
     core.lock = 2;
-    case_refused("lock 2, on the M95512 too (second: wanted)", core, whole, 2);
+    case_own("lock 2, on the M95512 too (second: wanted)", core, 2);
     for (uint8_t kind = 3; kind <= 4; kind++) {
         core = plain_part;
         case_wait(&core, kind, &none);
-        case_refused("kinds 3 and 4 of the M95512 (second: wanted)", core, whole, 2);
+        case_own("kinds 3 and 4 of the M95512 (second: wanted)", core, 2);
         core = other;
         case_wait(&core, kind, &none);
-        case_refused("kinds 3 and 4 of the M95512-D (second: wanted)", core, whole, 0);
+        case_own("kinds 3 and 4 of the M95512-D (second: wanted)", core, 0);
         core.waits.page = 1;
-        case_refused("their page number (second: wanted)", core, whole, 2);
+        case_own("their page number (second: wanted)", core, 2);
         core.waits.page = 0;
         core.waits.latch = one;
-        case_refused("a mark where they wait (second: wanted)", core, whole, kind == 3 ? 0 : 2);
+        case_own("a mark where they wait (second: wanted)", core, kind == 3 ? 0 : 2);
     }
-    case_expect("part 2 at power-up (second: wanted)", try_power_up(&core, (which){2, 0}, 0, 0, 0, 0, 9), 2);
+    case_expect("part 3 at power-up (second: wanted)", try_power_up(&core, (which){3, 0}, 0, 0, 0, 0, 9), 2);
     case_expect("lock 2 at power-up (second: wanted)", try_power_up(&core, (which){1, 2}, 5000, 0, 0, 0, 9), 2);
     case_expect("cycle 0 at power-up (second: wanted)", try_power_up(&core, (which){1, 1}, 0, 0, 0, 0, 9), 6);
     case_expect("the part it leaves (second: wanted)", core.part, 0);
     case_expect("the lock it leaves (second: wanted)", core.lock, 0);
+}
+
+/* ---- the M95M01: 02, Item 11, with values made by hand */
+
+/* cases a and b, with one address byte more; cells above FFFFh; the upper bits of the first address byte */
+static void cases_large_page(void)
+{
+    cartvesper_core core;
+    case_start_of(&core, M95M01, 0);
+    case_frame(&core, "02 00 00 FE", 0);
+    case_frame(&core, "02 00 00 FE 11 22 33 44", 63);
+    case_frame(&core, "02 00 00 FE 11 22 33 44 55", 65);
+    case_expect("M95M01: 32, 63 and 65 bits: time left (second: wanted)", core.left, 0);
+    case_frame(&core, "02 00 00 FE 11 22 33 44", 0);
+    case_expect("M95M01: time left (second: wanted)", core.left, 4000);
+    case_expect("M95M01: cells touched (second: wanted)", cartvesper_core_touched(core).value, 4);
+    whole_reading(&core, core.last + 4000);
+    case_expect("M95M01: cell 000FEh (second: wanted)", lib_memory.bytes[0xFE], 0x11);
+    case_expect("M95M01: cell 000FFh (second: wanted)", lib_memory.bytes[0xFF], 0x22);
+    case_expect("M95M01: cell 00000h (second: wanted)", lib_memory.bytes[0], 0x33);
+    case_expect("M95M01: cell 00001h (second: wanted)", lib_memory.bytes[1], 0x44);
+    case_expect("M95M01: cell 0007Eh (second: wanted)", lib_memory.bytes[0x7E], 0xFF);
+    case_frame(&core, "06", 0);
+    case_frame(&core, "02 FF FF FF 5A", 0);
+    case_expect("M95M01: the page that waits (second: wanted)", core.waits.page, 511);
+    whole_reading(&core, core.last + 4000);
+    case_expect("M95M01: cell 1FFFFh (second: wanted)", lib_memory.bytes[0x1FFFF], 0x5A);
+    case_expect("M95M01: cell 0FFFFh (second: wanted)", lib_memory.bytes[0xFFFF], 0xFF);
+    case_frame(&core, "03 03 FF FF 00 00", 0);
+    case_expect("M95M01: READ at 1FFFFh (second: wanted)", lib_out.bytes[4], 0x5A);
+    case_expect("M95M01: rolled to 00000h (second: wanted)", lib_out.bytes[5], 0x33);
+    memset(frame_bytes, 0, 4);
+    frame_bytes[0] = WREN;
+    try_frame(&core, whole(M95M01), 1, 1, 8, 1);
+    frame_bytes[0] = WRITE;
+    for (int i = 0; i < 258; i++)
+        frame_bytes[4 + i] = (uint8_t)(i + i / 256);
+    try_frame(&core, whole(M95M01), 1, 262, 8 * 262, 262);
+    case_expect("M95M01, case c: cells touched (second: wanted)", cartvesper_core_touched(core).value, 256);
+    whole_reading(&core, core.last + 4000);
+    case_expect("M95M01, case c: cell 0 (second: wanted)", lib_memory.bytes[0], 0x01);
+    case_expect("M95M01, case c: cell 1 (second: wanted)", lib_memory.bytes[1], 0x02);
+    case_expect("M95M01, case c: cell 2 (second: wanted)", lib_memory.bytes[2], 0x02);
+    case_expect("M95M01, case c: cell 255 (second: wanted)", lib_memory.bytes[255], 0xFF);
+}
+
+static void case_block(const char *what, int bits, const char *below_it, const char *in_it, uint32_t lowest)
+{
+    cartvesper_core core;
+    case_start_of(&core, M95M01, bits);
+    case_expect(what, cartvesper_core_lowest_protected(core).value, lowest);
+    if (in_it)
+        case_frame(&core, in_it, 0);
+    case_expect(what, core.left, 0);
+    if (below_it)
+        case_frame(&core, below_it, 0);
+    case_expect(what, core.left, below_it ? 4000 : 0);
+}
+
+static void cases_large_block(void)
+{
+    cartvesper_core core;
+    case_block("M95M01: BP 00 (second: wanted)", 0, "02 01 FF FF 11", NULL, 0x20000);
+    case_block("M95M01: BP 01 (second: wanted)", 1, "02 01 7F FF 11", "02 01 80 00 11", 0x18000);
+    case_block("M95M01: BP 10 (second: wanted)", 2, "02 00 FF FF 11", "02 01 00 00 11", 0x10000);
+    case_block("M95M01: BP 11 (second: wanted)", 3, NULL, "02 00 00 00 11", 0);
+    case_start_of(&core, M95M01, 1);
+    case_expect("M95M01: 1FFFFh (second: wanted)", cartvesper_core_protected(core, 0x1FFFF).value, 1);
+    case_expect("M95M01: 20000h (second: wanted)", cartvesper_core_protected(core, 0x20000).number, 7);
+}
+
+/* a cycle runs, and a frame comes; then a WREN, and the cycle ends */
+static void case_in_cycle(const char *what, uint8_t part, const char *frame, uint32_t status)
+{
+    cartvesper_core core;
+    const char *write = part == M95M01 ? "02 00 00 00 11" : "02 00 00 11";
+    case_start_of(&core, part, 0);
+    case_frame(&core, write, 0);
+    whole_reading(&core, core.last + 1000);
+    uint32_t left = core.left;
+    case_frame(&core, frame, 0);
+    case_expect(what, cartvesper_core_status(core).value, status);
+    case_expect(what, core.left, left);
+    case_expect(what, cartvesper_core_touched(core).value, 1);
+    case_frame(&core, "06", 0);
+    case_expect(what, cartvesper_core_status(core).value, status);
+    whole_reading(&core, core.last + left);
+    case_expect(what, cartvesper_core_status(core).value, 0x00);
+    case_expect(what, lib_memory.bytes[0], 0x11);
+}
+
+static void cases_disabled(void)
+{
+    const cartvesper_latch one = one_cell(5, 0x33);
+    cartvesper_core core;
+    case_in_cycle("M95M01: WRDI in a cycle (second: wanted)", M95M01, "04", 0x01);
+    case_in_cycle("M95M01: WRDI of 16 bits in a cycle (second: wanted)", M95M01, "04 00", 0x03);
+    case_in_cycle("M95512: WRDI in a cycle (second: wanted)", M95512, "04", 0x03);
+    case_in_cycle("M95512-D: WRDI in a cycle (second: wanted)", M95512D, "04", 0x03);
+    for (uint8_t part = 0; part < PLAIN_PARTS; part++) {
+        try_power_up(&core, (which){part, 0}, 4000, 0, 0, 0, 0);
+        case_wait(&core, 2, &one);
+        case_own("a cycle with WEL 1 (second: wanted)", core, 0);
+        core.waits.page = 511;
+        case_own("page 511 waits (second: wanted)", core, 0);
+        core.waits.page = 512;
+        case_own("page 512 waits (second: wanted)", core, 2);
+        core.waits.page = 0;
+        core.wel = 0;
+        case_own("a cycle with WEL 0 (second: wanted)", core, part == M95M01 ? 0 : 2);
+        core.waits.kind = 0;
+        memset(&core.waits.latch, 0, sizeof core.waits.latch);
+        case_own("a cycle with nothing waiting (second: wanted)", core, 2);
+    }
+}
+
+/* the identification page and the lock */
+static void cases_large_identification(void)
+{
+    cartvesper_core core;
+    case_start_of(&core, M95M01, 0);
+    case_frame(&core, "82 00 00 FF 11 22", 0);
+    case_expect("M95M01, 82h: what waits (second: wanted)", core.waits.kind, 3);
+    whole_reading(&core, core.last + 4000);
+    case_expect("M95M01, 82h: cell 255 (second: wanted)", lib_memory.identification[255], 0x11);
+    case_expect("M95M01, 82h: cell 0 (second: wanted)", lib_memory.identification[0], 0x22);
+    case_expect("M95M01, 82h: cell 127 (second: wanted)", lib_memory.identification[127], 0xFF);
+    case_frame(&core, "83 FF FB FF 00 00", 0); /* the upper bits do not matter */
+    case_expect("M95M01, 83h: cell 255 (second: wanted)", lib_out.bytes[4], 0x11);
+    case_expect("M95M01, 83h: cell 0 (second: wanted)", lib_out.bytes[5], 0x22);
+    case_frame(&core, "06", 0);
+    case_frame(&core, "82 00 04 02", 0);
+    case_frame(&core, "82 00 04 00 02 02", 0);
+    case_frame(&core, "82 00 04 00 FD", 0);
+    case_frame(&core, "82 00 04 00 02", 39);
+    case_expect("M95M01, the lock: 32, 48, 39 bits, bit 1 at 0: time left (second: wanted)", core.left, 0);
+    case_frame(&core, "82 00 04 00 02", 0);
+    case_expect("M95M01, the lock: what waits (second: wanted)", core.waits.kind, 4);
+    whole_reading(&core, core.last + 4000);
+    case_frame(&core, "83 00 04 00 00 00", 0);
+    case_expect("M95M01, 83h: the lock (second: wanted)", lib_out.bytes[4], 0x01);
+    case_expect("M95M01, 83h: again (second: wanted)", lib_out.bytes[5], 0x01);
+}
+
+static void cases_large_driver(void)
+{
+    case_write_of(M95M01, "M95M01: two pages (second: wanted)", 100, 300, 1000, 4001, 0, 2, 1 + 2 * (2 + 4));
+    case_write_of(M95M01, "M95M01: across FFFFh (second: wanted)", 0xFFFE, 4, 700, 4001, 0, 2, 1 + 2 * (2 + 6));
+    case_write_of(M95M01, "M95M01: up to the block (second: wanted)", 0x17FFE, 2, 4000, 1, 0, 1, 1 + 3);
+    case_write_of(M95M01, "M95M01: into the block (second: wanted)", 0x17FFE, 3, 4000, 1, 13, 0, 1);
+    case_write_of(M95M01, "M95M01: limit 3 (second: wanted)", 0, 1, 1000, 3, 9, 0, 1 + 2 + 3);
+    case_write_of(M95M01, "M95M01: interval 4,001 (second: wanted)", 0, 1, 4001, 1, 8, 0, 0);
+    case_write_of(M95M01, "M95M01: limit 4,002 (second: wanted)", 0, 1, 1, 4002, 8, 0, 0);
+    case_write_of(M95M01, "M95M01: no data at 131,072 (second: wanted)", 131072, 0, 1, 1, 0, 0, 0);
+    case_write_of(M95M01, "M95M01: one byte at 131,072 (second: wanted)", 131072, 1, 1, 1, 7, 0, 0);
+    case_write_of(M95512D, "M95512-D: one byte at 65,536 (second: wanted)", 65536, 1, 1, 1, 7, 0, 0);
+    case_write_of(M95512D, "M95512-D: interval 4,001, limit 5,001 (second: wanted)", 0, 1, 4001, 5001, 0, 1, 1 + 2 + 2);
+}
+
+/* the sizes that refusals read, and the cells past a page of 128 */
+static void cases_sizes(void)
+{
+    cartvesper_core large, small, core;
+    case_expect("M95M01: cycle 4,001 (second: wanted)", try_power_up(&core, (which){2, 1}, 4001, 1, 1, 1, 9), 6);
+    case_expect("the part it leaves (second: wanted)", core.part, M95512);
+    case_expect("the cycle it leaves (second: wanted)", core.cycle, 5000);
+    try_power_up(&large, (which){M95M01, 0}, 4000, 0, 0, 0, 0);
+    try_power_up(&small, (which){M95512D, 0}, 5000, 0, 0, 0, 0);
+    case_refused("M95M01: the M95512's lengths (second: wanted)", large, (lengths){65536, 128}, 1);
+    case_refused("M95M01: a memory of 65,536 (second: wanted)", large, (lengths){65536, 256}, 1);
+    case_refused("M95M01: a page of 128 (second: wanted)", large, (lengths){131072, 128}, 1);
+    case_refused("M95512-D: the M95M01's lengths (second: wanted)", small, (lengths){131072, 256}, 1);
+    case_own("M95M01 (second: wanted)", large, 0);
+    core = large;
+    core.cycle = 4001;
+    case_own("M95M01: a cycle length of 4,001 (second: wanted)", core, 2);
+    memset(frame_bytes, 0, 131077);
+    core = large;
+    case_expect("M95M01: 131,077 bytes (second: wanted)", try_frame(&core, whole(2), 1, 131077, 8 * 131077, 0), 3);
+    case_expect("M95M01: 131,076 bytes (second: wanted)", try_frame(&core, whole(2), 1, 131076, 8 * 131076, 131076), 0);
+    core = small;
+    case_expect("M95512-D: 65,541 bytes (second: wanted)", try_frame(&core, whole(1), 1, 65541, 8 * 65541, 65541), 3);
+    for (size_t cell = 127; cell <= 128; cell++) {
+        const cartvesper_latch one = one_cell(cell, 0x33);
+        cartvesper_latch byte = one;
+        byte.marks[cell / WORD] = 0;
+        for (uint8_t kind = 2; kind <= 3; kind++) {
+            core = small;
+            case_wait(&core, kind, &one);
+            case_own("M95512-D: a mark on cell 127, on cell 128 (second: wanted)", core, cell < 128 ? 0 : 2);
+            case_wait(&core, kind, &byte);
+            case_own("M95512-D: a byte without a mark (second: wanted)", core, 2);
+            core = large;
+            case_wait(&core, kind, &one);
+            case_own("M95M01: a mark on cell 127, on cell 128 (second: wanted)", core, 0);
+        }
+    }
 }
 
 /* ---- */
@@ -2865,24 +3312,27 @@ static void run_round(void)
         step_unreached_core();
     sweep_core();
     sweep_device();
-    sweep_marks();
+    sweep_marks((uint8_t)(current_round % PLAIN_PARTS));
     sweep_parts();
     sweep_fields(1);
     try_power_ups(40);
     cross_session(12);
     sweep_counts();
     try_conditions(60);
+    try_addressed(60);
+    try_in_cycle(60);
     try_in_hold(20);
+    try_wrdi_in_hold(10);
     lay_session();
     twice_session(100);
 }
 
-/* 82h of the M95512-D at deselect, by frame calls and at the pins; the page's has no last cause */
+/* 82h at deselect of the parts that know it, by frame calls and at the pins; the page's has no last cause */
 static void print_causes(const char *what, const uint64_t *causes, int count)
 {
     static const char *const names[CAUSES] = {"executed", "in a cycle", "without WEL", "by the count",
                                               "locked",   "at BP 11",   "in Hold",     "without data bit 1"};
-    printf("82h of the M95512-D for the %s:", what);
+    printf("82h of the M95512-D and the M95M01 for the %s:", what);
     for (int i = 0; i < count; i++)
         printf("%s %s %" PRIu64, i == 0 ? "" : i == 1 ? "; ignored" : ",", names[i], causes[i]);
     printf("\n");
@@ -2894,20 +3344,26 @@ static void print_summary(uint64_t rounds)
            counts.calls);
     printf("frames %" PRIu64 ", executed writes %" PRIu64 ", bits driven %" PRIu64 "\n", counts.frames,
            counts.executed, counts.driven);
-    printf("events %" PRIu64 ", in lists again %" PRIu64 " (%" PRIu64 " lists, %" PRIu64 " spoiled by a number), clock readings %" PRIu64 "\n", counts.events,
-           counts.listed, counts.lists, counts.spoiled, counts.readings);
+    printf("events %" PRIu64 ", in lists again %" PRIu64 " (%" PRIu64 " lists, %" PRIu64
+           " spoiled by a number), clock readings %" PRIu64 "\n",
+           counts.events, counts.listed, counts.lists, counts.spoiled, counts.readings);
+    printf("frames ended, of the M95512 %" PRIu64 ", the M95512-D %" PRIu64 ", the M95M01 %" PRIu64 "\n",
+           counts.of_part[M95512], counts.of_part[M95512D], counts.of_part[M95M01]);
     printf("cycles ended %" PRIu64 ", cells changed %" PRIu64 "\n", counts.cycles, counts.cells);
     printf("identification pages stored %" PRIu64 ", their cells changed %" PRIu64 ", locks set %" PRIu64,
            counts.identified, counts.kept, counts.locked);
     printf(", records made of each part and kind %" PRIu64 "\n", counts.parts_swept);
     print_causes("page", counts.by_page, BY_DATA);
     print_causes("lock", counts.by_lock, CAUSES);
-    printf("83h of the M95512-D: page shown %" PRIu64 ", lock shown %" PRIu64 ", nothing shown %" PRIu64,
+    printf("83h of both: page shown %" PRIu64 ", lock shown %" PRIu64 ", nothing shown %" PRIu64,
            counts.page_shown, counts.lock_shown, counts.unshown);
     printf("; 82h and 83h of the M95512 %" PRIu64 "\n", counts.unknown);
+    printf("WRDI in a cycle: WEL became 0 %" PRIu64 ", ignored %" PRIu64 "; readings in a cycle at WEL 0 %" PRIu64 "\n",
+           counts.disabled, counts.stayed, counts.unlatched);
     printf("frames in hand made field by field %" PRIu64 "\n", counts.fields_swept);
     printf("frames drawn at the pins against the frame call %" PRIu64 "\n", counts.drawn);
-    printf("records inside the ranges built by hand %" PRIu64 ", damaged records %" PRIu64 " (%" PRIu64 " calls), fields set to an edge %" PRIu64 "\n",
+    printf("records inside the ranges built by hand %" PRIu64 ", damaged records %" PRIu64 " (%" PRIu64
+           " calls), fields set to an edge %" PRIu64 "\n",
            counts.unreached, counts.damaged, counts.damaged_calls, counts.swept);
     printf("cells touched asked for %" PRIu64 ", not 0 %" PRIu64 ", latches made cell by cell %" PRIu64 "\n",
            counts.asked, counts.some, counts.marked);
@@ -2918,7 +3374,8 @@ static void print_summary(uint64_t rounds)
            counts.bytewise, counts.stored);
     printf("runs sent twice, both done %" PRIu64 ", a cycle at the first one's start %" PRIu64 "\n",
            counts.twice, counts.busy);
-    printf("runs of the driver %" PRIu64 ", a status cycle ended in the first wait %" PRIu64 ", pages done %" PRIu64 ", frames sent %" PRIu64 "\n",
+    printf("runs of the driver %" PRIu64 ", a status cycle ended in the first wait %" PRIu64 ", pages done %" PRIu64
+           ", frames sent %" PRIu64 "\n",
            counts.runs, counts.moved, counts.pages, counts.sent);
     printf("parts asked for %" PRIu64 "\n", counts.parts);
     printf("refusals, and endings 9 and 13:");
@@ -2943,6 +3400,12 @@ int main(int argc, char **argv)
     cases_page();
     cases_lock();
     cases_parts();
+    cases_large_page();
+    cases_large_block();
+    cases_disabled();
+    cases_large_identification();
+    cases_large_driver();
+    cases_sizes();
     sweep_fields(0);
     for (current_round = 0; current_round < rounds; current_round++)
         run_round();

@@ -1,10 +1,10 @@
-/* The library by example: one M95512 on a bench, from power-up to a run of the driver, and an M95512-D. Read it from
- * the top; example.sh builds and runs it.
+/* The library by example: one M95512 on a bench, from power-up to a run of the driver, then an M95512-D and an M95M01.
+ * Read it from the top; example.sh builds and runs it.
  *
  * The library keeps no state. The device is a record that goes in by value and comes back in the answer, and its cells
- * are yours, lent to each call: 65,536 bytes of memory and then 128 of the identification page, on the M95512 too,
- * which has none and leaves them alone. So a device is copied by copying all three, and a call that is refused has
- * changed none of them. */
+ * are yours, lent to each call: 65,536 bytes of memory and then 128 of the identification page; of an M95M01 131,072
+ * and 256. The M95512 has no such page, but is lent one too, and leaves it alone. So a device is copied by copying all
+ * three, and a call that is refused has changed none of them. */
 #include "cartvesper.h"
 #include <stdio.h>
 #include <stdlib.h>
@@ -12,7 +12,10 @@
 
 enum { MEMORY = CARTVESPER_MEMORY, IDENTIFICATION = CARTVESPER_IDENTIFICATION };
 
-static uint8_t memory[MEMORY], identification[IDENTIFICATION];
+/* room for any part; a call is lent what its part has */
+static uint8_t memory[CARTVESPER_LARGEST_MEMORY], identification[CARTVESPER_LARGEST_IDENTIFICATION];
+
+#define LENT(part) memory, cartvesper_memory_of(part), identification, cartvesper_identification_of(part)
 
 /* Every answer starts with a number: 0 is done, the others are in cartvesper.h. A bench that sends what it means to
  * send can stop at any other. */
@@ -29,8 +32,8 @@ static void must_be_done(const char *what, uint32_t number)
  * went in, FFh where the chip did not drive Q. */
 static void send(const char *what, cartvesper_core *core, const uint8_t *bytes, size_t length, uint8_t *out)
 {
-    cartvesper_frame_answer answer = cartvesper_frame(*core, memory, MEMORY, identification, IDENTIFICATION, 1, bytes,
-                                                      length, 8 * length, out, length);
+    cartvesper_frame_answer answer =
+        cartvesper_frame(*core, LENT(core->part), 1, bytes, length, 8 * length, out, length);
     must_be_done(what, answer.number);
     *core = answer.core; /* the device that follows */
 }
@@ -39,8 +42,7 @@ static void send(const char *what, cartvesper_core *core, const uint8_t *bytes, 
  * difference to the last one. */
 static void pass_time(cartvesper_core *core, uint32_t microseconds)
 {
-    cartvesper_core_answer answer = cartvesper_clock_reading(*core, core->last + microseconds, memory, MEMORY,
-                                                             identification, IDENTIFICATION);
+    cartvesper_core_answer answer = cartvesper_clock_reading(*core, core->last + microseconds, LENT(core->part));
     must_be_done("clock reading", answer.number);
     *core = answer.core;
 }
@@ -62,7 +64,7 @@ static void print_touched(const cartvesper_core *core)
     cartvesper_value touched = cartvesper_core_touched(*core);
     must_be_done("cells touched", touched.number);
     printf("cells to be touched: %u;", touched.value);
-    for (size_t cell = 0; cell < CARTVESPER_PAGE; cell++)
+    for (size_t cell = 0; cell < CARTVESPER_LARGEST_PAGE; cell++)
         if (cartvesper_marked(&core->waits.latch, cell))
             printf(" %u", (unsigned)cell);
     printf("%s\n", touched.value == 0 ? " no page waits" : " of the page");
@@ -84,7 +86,8 @@ static void write_by_hand(cartvesper_core *core)
     }
     print_touched(core);
     /* the cycle has ended and the page is stored: four bytes from offset 126 on, around the page's end */
-    printf("cells 007E %02X, 007F %02X, 0000 %02X, 0001 %02X\n", memory[0x7E], memory[0x7F], memory[0x00], memory[0x01]);
+    printf("cells 007E %02X, 007F %02X, 0000 %02X, 0001 %02X\n", memory[0x7E], memory[0x7F], memory[0x00],
+           memory[0x01]);
     send("READ", core, read, 7, out); /* READ goes on into the next page */
     printf("READ at 007E: %02X %02X %02X %02X\n", out[3], out[4], out[5], out[6]);
 }
@@ -94,8 +97,7 @@ static void write_by_hand(cartvesper_core *core)
 static cartvesper_driver_answer drive(const cartvesper_core *core, uint64_t address, const uint8_t *bytes,
                                       size_t length, uint32_t interval, uint32_t limit)
 {
-    return cartvesper_write(*core, memory, MEMORY, identification, IDENTIFICATION, address, bytes, length, interval,
-                            limit);
+    return cartvesper_write(*core, LENT(core->part), address, bytes, length, interval, limit);
 }
 
 static void write_by_driver(cartvesper_core *core)
@@ -103,18 +105,22 @@ static void write_by_driver(cartvesper_core *core)
     uint8_t bytes[300];
     for (int i = 0; i < 300; i++)
         bytes[i] = (uint8_t)(i + 1);
+    const uint8_t chip = core->part;
     /* how it will be split: the first number says whether there is a part k */
-    for (uint64_t k = 0; cartvesper_part_refusal(100, 300, k) == 0; k++)
-        printf("part %u of %u: %u bytes at %u\n", (unsigned)k + 1, (unsigned)cartvesper_part_count(100, 300, k),
-               (unsigned)cartvesper_part_length(100, 300, k), (unsigned)cartvesper_part_address(100, 300, k));
+    for (uint64_t k = 0; cartvesper_part_refusal(chip, 100, 300, k) == 0; k++)
+        printf("part %u of %u: %u bytes at %u\n", (unsigned)k + 1, (unsigned)cartvesper_part_count(chip, 100, 300, k),
+               (unsigned)cartvesper_part_length(chip, 100, 300, k),
+               (unsigned)cartvesper_part_address(chip, 100, 300, k));
     cartvesper_driver_answer done = drive(core, 100, bytes, sizeof bytes, 1000, 5001);
     must_be_done("driver", done.number);
     *core = done.core;
-    printf("driver: %u pages, %u frames, all there: %s\n", done.pages, done.frames, memcmp(memory + 100, bytes, 300) == 0 ? "yes" : "no");
+    printf("driver: %u pages, %u frames, all there: %s\n", done.pages, done.frames,
+           memcmp(memory + 100, bytes, 300) == 0 ? "yes" : "no");
     /* Four polls of 1,000 microseconds do not see the end of a cycle of 5,000: 9. The page in hand waits on in the
      * record */
     cartvesper_driver_answer early = drive(core, 1000, bytes, 1, 1000, 4);
-    printf("limit 4: number %u, %u pages, %u frames, %u microseconds left\n", early.number, early.pages, early.frames, early.core.left);
+    printf("limit 4: number %u, %u pages, %u frames, %u microseconds left\n", early.number, early.pages, early.frames,
+           early.core.left);
     *core = early.core;
     pass_time(core, early.core.left);
     printf("and then: cell 03E8 %02X\n", memory[1000]);
@@ -169,10 +175,12 @@ static void image(const cartvesper_core *core)
 {
     static uint8_t text[CARTVESPER_HEX_TEXT];
     static const char three[] = ":0300300002337A1E\n:00000001FF\n";
-    must_be_done("import", cartvesper_hex_import(*core, memory, MEMORY, (const uint8_t *)three, sizeof three - 1).number);
+    must_be_done("import",
+                 cartvesper_hex_import(*core, memory, MEMORY, (const uint8_t *)three, sizeof three - 1).number);
     must_be_done("export", cartvesper_hex_export(*core, memory, MEMORY, text, sizeof text));
     printf("the line of cells 0030 to 003F: %.43s\n", (const char *)text + 3 * 44);
-    printf("lower case: %u\n", cartvesper_hex_import(*core, memory, MEMORY, (const uint8_t *)":00000001ff\n", 12).number);
+    printf("lower case: %u\n",
+           cartvesper_hex_import(*core, memory, MEMORY, (const uint8_t *)":00000001ff\n", 12).number);
 }
 
 /* ---- what is not done says so, and changes nothing */
@@ -197,10 +205,11 @@ static void refusals(const cartvesper_core *core)
     must_be_done("power-up", guarded.number);
     printf("protected from %04X\n", cartvesper_core_lowest_protected(guarded.core).value);
     cartvesper_driver_answer stopped = drive(&guarded.core, 0xBFFE, bytes, 4, 1000, 5001);
-    printf("into the protected quarter: %u, %u pages, %u frame; cells BFFE %02X, BFFF %02X, C000 %02X\n", stopped.number, stopped.pages, stopped.frames,
-           memory[0xBFFE], memory[0xBFFF], memory[0xC000]);
+    printf("into the protected quarter: %u, %u pages, %u frame; cells BFFE %02X, BFFF %02X, C000 %02X\n",
+           stopped.number, stopped.pages, stopped.frames, memory[0xBFFE], memory[0xBFFF], memory[0xC000]);
     cartvesper_driver_answer below = drive(&guarded.core, 0xBFFE, bytes, 2, 1000, 5001);
-    printf("up to it: %u, %u page, %u frames; cells BFFE %02X, BFFF %02X\n", below.number, below.pages, below.frames, memory[0xBFFE], memory[0xBFFF]);
+    printf("up to it: %u, %u page, %u frames; cells BFFE %02X, BFFF %02X\n", below.number, below.pages, below.frames,
+           memory[0xBFFE], memory[0xBFFF]);
 }
 
 /* ---- the M95512-D: an identification page, and a lock that closes it for good */
@@ -255,7 +264,7 @@ static void other_part(void)
     printf("an M95512-D: part %u, lock %u, status %02X\n", powered.core.part, powered.core.lock, poll(&powered.core));
     /* the page's length is judged as the memory's is, and by the same number */
     printf("an identification page one byte short: %u\n", read_clock(&powered.core, MEMORY, IDENTIFICATION - 1));
-    printf("part 2: %u\n", cartvesper_power_up(2, 0, CARTVESPER_LONGEST_CYCLE, 0, 0, 0, 0).number);
+    printf("part 3: %u\n", cartvesper_power_up(3, 0, CARTVESPER_LONGEST_CYCLE, 0, 0, 0, 0).number);
     /* the M95512 knows neither code */
     powered = cartvesper_power_up(CARTVESPER_M95512, 0, CARTVESPER_LONGEST_CYCLE, 0, 0, 0, 0);
     must_be_done("power-up", powered.number);
@@ -263,10 +272,66 @@ static void other_part(void)
     print_83h("83h on an M95512, not driven", &powered.core, 0x007F);
 }
 
+/* ---- the M95M01: 131,072 bytes in pages of 256, and three address bytes */
+
+/* A run over the edge of a page above FFFFh. The address says A16 in the first address byte; its upper seven bits do
+ * not count. */
+static void write_above_ffff(cartvesper_core *core)
+{
+    const uint8_t bytes[2] = {0x3A, 0x3B}, read[6] = {CARTVESPER_READ, 0x01, 0x00, 0xFF};
+    uint8_t out[6];
+    cartvesper_driver_answer done = drive(core, 0x100FF, bytes, 2, 1000, CARTVESPER_M95M01_MOST_POLLS);
+    must_be_done("driver", done.number);
+    *core = done.core;
+    printf("M95M01, driver: %u pages, %u frames; cells 100FF %02X, 10100 %02X\n", done.pages, done.frames,
+           memory[0x100FF], memory[0x10100]);
+    send("READ", core, read, 6, out); /* four bytes go in before the first data byte */
+    printf("READ at 100FF: %02X %02X\n", out[4], out[5]);
+}
+
+/* WRDI is executed in a cycle too: WEL is 0, and the cycle runs on and stores. */
+static void disable_in_cycle(cartvesper_core *core)
+{
+    const uint8_t wren[1] = {CARTVESPER_WREN}, wrdi[1] = {CARTVESPER_WRDI};
+    const uint8_t write[6] = {CARTVESPER_WRITE, 0x01, 0x00, 0xFF, 0x4A, 0x4B};
+    uint8_t out[6];
+    send("WREN", core, wren, 1, out);
+    send("WRITE", core, write, 6, out);
+    printf("after WRITE: status %02X, %u microseconds left\n", poll(core), core->left);
+    print_touched(core); /* around the end of the page of 256 */
+    send("WRDI", core, wrdi, 1, out);
+    printf("after WRDI: status %02X, %u microseconds left\n", poll(core), core->left);
+    pass_time(core, core->left);
+    printf("after the cycle: status %02X, cells 100FF %02X, 10000 %02X\n", poll(core), memory[0x100FF],
+           memory[0x10000]);
+}
+
+static void large_part(void)
+{
+    static const uint8_t code[3] = {0x20, 0x00, 0x11}; /* delivered in the identification page (001, table 5) */
+    const uint8_t rdid[7] = {CARTVESPER_RDID};
+    uint8_t out[7];
+    memset(memory, 0xFF, sizeof memory);
+    memset(identification, 0xFF, sizeof identification);
+    memcpy(identification, code, sizeof code);
+    cartvesper_core_answer powered =
+        cartvesper_power_up(CARTVESPER_M95M01, 0, CARTVESPER_M95M01_LONGEST_CYCLE, 0, 0, 0, 0);
+    must_be_done("power-up", powered.number);
+    write_above_ffff(&powered.core);
+    disable_in_cycle(&powered.core);
+    send("83h", &powered.core, rdid, 7, out);
+    printf("83h at 00: %02X %02X %02X\n", out[4], out[5], out[6]);
+    /* its own numbers: a cycle of at most 4,000 microseconds, its own lengths, and no HEX text for it */
+    printf("cycle length 5,000: %u\n",
+           cartvesper_power_up(CARTVESPER_M95M01, 0, CARTVESPER_LONGEST_CYCLE, 0, 0, 0, 0).number);
+    printf("a memory of 65,536 bytes: %u\n", read_clock(&powered.core, MEMORY, IDENTIFICATION));
+    printf("export: %u\n", cartvesper_hex_export(powered.core, memory, sizeof memory, NULL, 0));
+}
+
 int main(void)
 {
-    memset(memory, 0xFF, MEMORY); /* as delivered */
-    memset(identification, 0xFF, IDENTIFICATION);
+    memset(memory, 0xFF, sizeof memory); /* as delivered */
+    memset(identification, 0xFF, sizeof identification);
     /* the M95512, lock 0, cycle length 5,000 microseconds, SRWD, BP1 and BP0 0, the clock just about to wrap */
     cartvesper_core_answer powered =
         cartvesper_power_up(CARTVESPER_M95512, 0, CARTVESPER_LONGEST_CYCLE, 0, 0, 0, 4294967290u);
@@ -278,5 +343,6 @@ int main(void)
     image(&core);
     refusals(&core);
     other_part();
+    large_part();
     return 0;
 }

@@ -36,7 +36,8 @@ int main() {
     unsigned cell = 0;
     for (size_t i = shown; i < q.size(); i += 3)
         cell = cell << 1 | q[i];
-    std::printf("pins: number %u, before the data Z is %d, cell 007F %02X\n", played.number, q[0] == CARTVESPER_Z, cell);
+    std::printf("pins: number %u, before the data Z is %d, cell 007F %02X\n", played.number, q[0] == CARTVESPER_Z,
+                cell);
 
     auto refused = cartvesper_core_status(cartvesper_core{CARTVESPER_M95512, 0, 2, 0, 0, 0, 1, 0, 0, {}});
     std::printf("a flag of 2: number %u, value %u\n", refused.number, refused.value);

@@ -1,14 +1,15 @@
 # The library from Python: the records as ctypes structures, a WRITE by frames, a run of the driver, two retries in a
-# row, and the M95512-D's lock. Argument: the shared object (docs/LINKING.md says how to make it from the archive).
+# row, the M95512-D's lock, and an M95M01. Argument: the shared object (docs/LINKING.md says how to make it from the
+# archive).
 import ctypes
 import sys
 from ctypes import POINTER, Structure, c_size_t, c_uint8, c_uint32, c_uint64
 
-MEMORY, IDENTIFICATION, M95512, M95512D = 65536, 128, 0, 1
+M95512, M95512D, M95M01 = 0, 1, 2
 
 
 class Latch(Structure):
-    _fields_ = [("bytes", c_uint8 * 128), ("marks", c_uint64 * 2)]  # cell i: bit i % 64 of word i / 64
+    _fields_ = [("bytes", c_uint8 * 256), ("marks", c_uint64 * 4)]  # cell i: bit i % 64 of word i / 64
 
 
 class Waiting(Structure):
@@ -40,15 +41,15 @@ class Value(Structure):
     _fields_ = [("number", c_uint32), ("value", c_uint32)]
 
 
-# the sizes of version 3 of the records (docs/LINKING.md)
-RECORDS = [(Latch, 144), (Core, 176), (CoreAnswer, 184), (FrameAnswer, 192), (LatchAnswer, 152), (DriverAnswer, 192),
+# the sizes of version 4 of the records (docs/LINKING.md)
+RECORDS = [(Latch, 288), (Core, 320), (CoreAnswer, 328), (FrameAnswer, 336), (LatchAnswer, 296), (DriverAnswer, 336),
            (Value, 8)]
 assert all(ctypes.sizeof(record) == size for record, size in RECORDS)
 
 BYTES = POINTER(c_uint8)
 library = ctypes.CDLL(sys.argv[1])
-power_up, reading, frame, write = (library.cartvesper_power_up, library.cartvesper_clock_reading, library.cartvesper_frame,
-                                   library.cartvesper_write)
+power_up, reading = library.cartvesper_power_up, library.cartvesper_clock_reading
+frame, write = library.cartvesper_frame, library.cartvesper_write
 touched, lay = library.cartvesper_core_touched, library.cartvesper_lay
 LENT = [BYTES, c_size_t, BYTES, c_size_t]  # the memory, the identification page
 power_up.restype = CoreAnswer
@@ -60,11 +61,18 @@ touched.restype, touched.argtypes = Value, [Core]
 lay.restype, lay.argtypes = LatchAnswer, [Latch, Latch]
 write.restype, write.argtypes = DriverAnswer, [Core, *LENT, c_uint64, BYTES, c_size_t, c_uint32, c_uint32]
 
-memory, identification = (c_uint8 * MEMORY)(*[0xFF] * MEMORY), (c_uint8 * IDENTIFICATION)(*[0xFF] * IDENTIFICATION)
-lent = memory, MEMORY, identification, IDENTIFICATION
 
 
-def send(core, values):
+def cells(size, page):
+    """Memory and identification page as the calls are lent them, every byte FFh."""
+    return (c_uint8 * size)(*[0xFF] * size), size, (c_uint8 * page)(*[0xFF] * page), page
+
+
+lent = cells(65536, 128)
+memory = lent[0]
+
+
+def send(core, values, lent=lent):
     """A whole frame with W high; the device that follows, and what Q showed."""
     sent, out = (c_uint8 * len(values))(*values), (c_uint8 * len(values))()
     answer = frame(core, *lent, 1, sent, len(values), 8 * len(values), out, len(values))
@@ -76,7 +84,7 @@ core = power_up(M95512, 0, 5000, 0, 0, 0, 0).core
 core, _ = send(core, [0x06])
 core, _ = send(core, [0x02, 0x00, 0x7E, 0x11, 0x22, 0x33, 0x44])
 core, out = send(core, [0x05, 0x00])
-marked = [i for i in range(128) if core.waits.latch.marks[i // 64] >> i % 64 & 1]
+marked = [i for i in range(256) if core.waits.latch.marks[i // 64] >> i % 64 & 1]
 print("status", out[1:].hex(), "cells to be touched", touched(core).value, marked)
 page_write = Latch.from_buffer_copy(core.waits.latch)
 core = reading(core, 5000, *lent).core
@@ -111,3 +119,19 @@ other, _ = send(other, [0x82, 0x00, 0x00, 0x2A])  # to the page: ignored from no
 other, out = send(other, [0x05, 0x00])
 print("M95512-D: lock", open_lock[3:].hex(), "then", lock[3:].hex(), "in the record", other.lock,
       "status", out[1:].hex())
+
+large_lent = cells(131072, 256)
+large = power_up(M95M01, 0, 4000, 0, 0, 0, 0).core
+done = write(large, *large_lent, 0x100FF, run, 2, 1000, 4001)  # over a page's edge above FFFFh
+large, out = send(done.core, [0x03, 0x01, 0x00, 0xFF, 0, 0], large_lent)  # three address bytes
+print("M95M01: driver", done.number, done.pages, done.frames, "READ at 100FF", out[4:].hex())
+large, _ = send(large, [0x06], large_lent)
+large, _ = send(large, [0x02, 0x01, 0x00, 0xFF, 0x11, 0x22], large_lent)
+large, before = send(large, [0x05, 0x00], large_lent)
+large, _ = send(large, [0x04], large_lent)  # WRDI works in a cycle too: WEL 0, and the cycle runs on
+large, after = send(large, [0x05, 0x00], large_lent)
+large = reading(large, large.last + 4000, *large_lent).core
+print("WRDI in a cycle: status", before[1:].hex(), "then", after[1:].hex(), "cells 100FF and 10000",
+      bytes([large_lent[0][0x100FF], large_lent[0][0x10000]]).hex())
+print("cycle length 5000:", power_up(M95M01, 0, 5000, 0, 0, 0, 0).number, "the M95512's lengths:",
+      reading(large, 0, *lent).number)

@@ -9,9 +9,10 @@
 #include <time.h>
 
 enum { MEMORY = CARTVESPER_MEMORY, ROOM = CARTVESPER_HEX_TEXT, MOST = 16 << 20 };
+enum { LARGEST = CARTVESPER_LARGEST_MEMORY }; /* of an M95M01, whose cells no text names: both calls refuse it */
 
 static uint8_t text[MOST], scratch[MOST];
-static uint8_t memory[MEMORY], lib_memory[MEMORY], plain_memory[MEMORY];
+static uint8_t memory[LARGEST], lib_memory[LARGEST], plain_memory[LARGEST];
 static uint8_t lib_out[ROOM + 1], plain_out[ROOM + 1];
 static cartvesper_core core;
 static unsigned long calls, counts[20];
@@ -36,7 +37,7 @@ static void fail(const char *what)
 
 static void draw_memory(uint8_t *cells)
 {
-    for (size_t i = 0; i < MEMORY; i++)
+    for (size_t i = 0; i < LARGEST; i++)
         cells[i] = (uint8_t)drawn(256);
 }
 
@@ -44,8 +45,8 @@ static void draw_memory(uint8_t *cells)
 
 static uint32_t both_import(cartvesper_core given, size_t size, size_t length)
 {
-    memcpy(lib_memory, memory, MEMORY);
-    memcpy(plain_memory, memory, MEMORY);
+    memcpy(lib_memory, memory, LARGEST);
+    memcpy(plain_memory, memory, LARGEST);
     cartvesper_core_answer a = cartvesper_hex_import(given, lib_memory, size, text, length);
     cartvesper_core_answer b = plain_hex_import_call(given, plain_memory, size, text, length);
     calls++;
@@ -53,9 +54,9 @@ static uint32_t both_import(cartvesper_core given, size_t size, size_t length)
         fail("import's number");
     if (!plain_core_same(&a.core, &b.core) || !plain_core_same(&a.core, &given))
         fail("import's record");
-    if (memcmp(lib_memory, plain_memory, MEMORY))
-        fail("import's memory");
-    if (a.number && memcmp(lib_memory, memory, MEMORY))
+    if (memcmp(lib_memory, plain_memory, LARGEST) || memcmp(lib_memory + MEMORY, memory + MEMORY, LARGEST - MEMORY))
+        fail("import's memory, or what stands past it");
+    if (a.number && memcmp(lib_memory, memory, LARGEST))
         fail("a refused import's memory");
     counts[a.number]++;
     return a.number;
@@ -187,10 +188,13 @@ static void import_of(const char *what, const char *s, uint32_t want)
 
 static void each_alone(void)
 {
-    cartvesper_core running = core, outside = core, other = core, none = core;
+    cartvesper_core running = core, outside = core, other = core, none = core, large = core, past = core;
     other.part = CARTVESPER_M95512D;
     other.lock = 1;
-    none.part = 2;
+    none.part = 3;
+    large.part = CARTVESPER_M95M01;
+    large.cycle = CARTVESPER_M95M01_LONGEST_CYCLE;
+    past.part = CARTVESPER_M95M01; /* its cycle length is the M95512's */
     running.wel = 1;
     running.left = running.cycle;
     running.waits.kind = 1;
@@ -229,6 +233,12 @@ static void each_alone(void)
     expect("a cycle runs, and the text is bad", both_import(running, MEMORY, 5), 12);
     expect("an M95512-D, locked", both_import(other, MEMORY, n), 0);
     expect("a part that is none", both_import(none, MEMORY, n), 2);
+    expect("a part that is none, 131,072 cells", both_import(none, LARGEST, n), 1);
+    expect("an M95M01", both_import(large, LARGEST, n), 12);
+    expect("an M95M01, and the text is bad", both_import(large, LARGEST, 5), 12);
+    expect("an M95M01, 65,536 cells", both_import(large, MEMORY, n), 1);
+    expect("an M95M01, its cycle length outside its range", both_import(past, LARGEST, n), 2);
+    expect("an M95512, 131,072 cells", both_import(core, LARGEST, n), 1);
     expect("a memory one byte short", both_import(core, MEMORY - 1, n), 1);
     expect("a record outside its ranges", both_import(outside, MEMORY, n), 2);
     expect("a short memory and such a record and a bad text", both_import(outside, MEMORY - 1, 5), 1);
@@ -246,11 +256,27 @@ static void each_alone(void)
     expect("export in a cycle", both_export(running, MEMORY, ROOM), 0);
     expect("export of an M95512-D, locked", both_export(other, MEMORY, ROOM), 0);
     expect("export of a part that is none", both_export(none, MEMORY, ROOM), 2);
+    expect("export of an M95M01", both_export(large, LARGEST, ROOM), 12);
+    expect("export of an M95M01 to one byte fewer", both_export(large, LARGEST, ROOM - 1), 12);
+    expect("export of an M95M01, 65,536 cells", both_export(large, MEMORY, ROOM), 1);
+    expect("export of an M95M01 by such a record", both_export(past, LARGEST, ROOM - 1), 2);
     expect("export to one byte fewer", both_export(core, MEMORY, ROOM - 1), 5);
     expect("export to one byte more", both_export(core, MEMORY, ROOM + 1), 5);
     expect("export to nothing", both_export(core, MEMORY, 0), 5);
     expect("export of a short memory to one byte fewer", both_export(outside, MEMORY - 1, ROOM - 1), 1);
     expect("export by such a record to one byte fewer", both_export(outside, MEMORY, ROOM - 1), 2);
+}
+
+/* ---- every part, and one that is none, with each length; the record may be outside its ranges */
+
+static void try_parts(size_t n)
+{
+    static const size_t sizes[] = {MEMORY, LARGEST, MEMORY - 1, LARGEST - 1, 0};
+    cartvesper_core given = core;
+    given.part = (uint8_t)drawn(4);
+    given.cycle = drawn(2) ? 1 : 4000 + drawn(1002);
+    both_import(given, sizes[drawn(5)], n);
+    both_export(given, sizes[drawn(5)], ROOM - drawn(2));
 }
 
 /* ---- time */
@@ -320,6 +346,8 @@ int main(int argc, char **argv)
         for (unsigned d = drawn(3); d > 0; d--)
             n = damage(n);
         both_import(core, MEMORY, n);
+        if (k % 64 == 0)
+            try_parts(n);
         if (k % 16 == 0) {
             n = drawn(200);
             for (size_t i = 0; i < n; i++)

@@ -3,21 +3,67 @@
 #include <string.h>
 
 enum { WREN = 0x06, WRDI = 0x04, RDSR = 0x05, WRSR = 0x01, READ = 0x03, WRITE = 0x02 };
-enum { RDID = 0x83, WRID = 0x82 };               /* of the M95512-D: its identification page, or the page's lock */
+enum { RDID = 0x83, WRID = 0x82 };               /* the identification page, or the page's lock */
 enum { LOCK_ADDRESS = 0x400, LOCK_DATA = 0x02 }; /* address bit 10 asks for the lock, data bit 1 sets it */
-enum { M95512 = 0, M95512D = 1 };                /* the parts: the second has an identification page and a lock */
-enum { MEMORY = 65536, PAGE = 128, PAGES = 512, LONGEST_FRAME = 65540, LONGEST_CYCLE = 5000 };
-enum { MOST = 5 };                       /* whole bytes counted of a frame */
-enum { WORD = 64, WORDS = PAGE / WORD }; /* a word of marks has a bit for each of 64 cells */
+enum { CELLS = CARTVESPER_LARGEST_PAGE };        /* of a latch, whatever the part */
+enum { HEAD = 4 };                               /* bytes before the data, at most */
+enum { WORD = 64, WORDS = CELLS / WORD };        /* a word of marks has a bit for each of 64 cells */
 enum { NOTHING = 0, STATUS = 1, LATCHED = 2, IDENTIFICATION = 3, LOCK = 4 }; /* what waits */
-enum { WRITABLE = 0x8C };                /* SRWD, BP1, BP0 in the status byte */
+enum { WRITABLE = 0x8C };                        /* SRWD, BP1, BP0 in the status byte */
 enum { Z = 2 };
+
+/* ---- the parts: 01, 02 Item 4 and Item 11. What differs between them stands here and nowhere else */
+
+enum { M95512 = 0, M95512D = 1, M95M01 = 2 };
+
+static const plain_row rows[PLAIN_PARTS] = {
+    /* size, page, address_bytes, most, longest_cycle, identified, wrdi_in_cycle */
+    [M95512] = {65536, 128, 2, 5, 5000, 0, 0},
+    [M95512D] = {65536, 128, 2, 5, 5000, 1, 0},
+    [M95M01] = {131072, 256, 3, 6, 4000, 1, 1},
+};
+
+static inline const plain_row *row_of(uint8_t part)
+{
+    return &rows[part < PLAIN_PARTS ? part : M95512];
+}
+
+static inline uint32_t head_of(const plain_row *row)
+{
+    return 1 + row->address_bytes;
+}
+
+const plain_row *plain_row_of(uint8_t part)
+{
+    return row_of(part);
+}
+
+uint32_t plain_head(const plain_row *row)
+{
+    return head_of(row);
+}
+
+uint32_t plain_longest_frame(const plain_row *row)
+{
+    return row->size + 4;
+}
+
+uint32_t plain_most_polls(const plain_row *row)
+{
+    return row->longest_cycle + 1;
+}
+
+/* the cell of its page that an address is of */
+static inline uint32_t cell_of(const plain_row *row, uint32_t address)
+{
+    return address & (row->page - 1);
+}
 
 /* ---- equality, without the bytes between fields */
 
 int plain_latch_same(const cartvesper_latch *one, const cartvesper_latch *other)
 {
-    return memcmp(one->bytes, other->bytes, PAGE) == 0 && memcmp(one->marks, other->marks, sizeof one->marks) == 0;
+    return memcmp(one->bytes, other->bytes, CELLS) == 0 && memcmp(one->marks, other->marks, sizeof one->marks) == 0;
 }
 
 static int waiting_same(const cartvesper_waiting *one, const cartvesper_waiting *other)
@@ -53,7 +99,7 @@ static int marks_empty(const cartvesper_latch *latch)
 
 static int latch_empty(const cartvesper_latch *latch)
 {
-    return all_zero(latch->bytes, PAGE) && marks_empty(latch);
+    return all_zero(latch->bytes, CELLS) && marks_empty(latch);
 }
 
 /* eight cells at once, the first in the low byte, as x86-64 has them */
@@ -74,21 +120,25 @@ static uint64_t eight_marked(const cartvesper_latch *latch, size_t cell)
 }
 
 /* unmarked bytes are 0 */
-static int latch_ok(const cartvesper_latch *latch)
+int plain_latch_ok(const cartvesper_latch *latch)
 {
     uint64_t bad = 0;
-    for (size_t i = 0; i < PAGE; i += 8)
+    for (size_t i = 0; i < CELLS; i += 8)
         bad |= eight(latch->bytes + i) & ~eight_marked(latch, i);
     return bad == 0;
 }
 
-int plain_latch_ok(const cartvesper_latch *latch)
+/* in a record: the cells past the part's page are not marked either */
+static int latch_ok(const cartvesper_latch *latch, const plain_row *row)
 {
-    return latch_ok(latch);
+    uint64_t past = 0;
+    for (size_t k = row->page / WORD; k < WORDS; k++)
+        past |= latch->marks[k];
+    return past == 0 && plain_latch_ok(latch);
 }
 
-/* the identification page and the lock wait only on the part that has them; the page's number is 0 */
-static int waiting_ok(const cartvesper_waiting *waits, int part)
+/* the identification page and the lock wait only on a part that has them; the page's number is 0 */
+static int waiting_ok(const cartvesper_waiting *waits, const plain_row *row)
 {
     switch (waits->kind) {
     case NOTHING:
@@ -96,28 +146,35 @@ static int waiting_ok(const cartvesper_waiting *waits, int part)
     case STATUS:
         return (waits->status & ~WRITABLE) == 0 && waits->page == 0 && latch_empty(&waits->latch);
     case LATCHED:
-        return waits->status == 0 && waits->page < PAGES && latch_ok(&waits->latch);
+        return waits->status == 0 && waits->page < row->size / row->page && latch_ok(&waits->latch, row);
     case IDENTIFICATION:
-        return part == M95512D && waits->status == 0 && waits->page == 0 && latch_ok(&waits->latch);
+        return row->identified && waits->status == 0 && waits->page == 0 && latch_ok(&waits->latch, row);
     case LOCK:
-        return part == M95512D && waits->status == 0 && waits->page == 0 && latch_empty(&waits->latch);
+        return row->identified && waits->status == 0 && waits->page == 0 && latch_empty(&waits->latch);
     default:
         return 0;
     }
 }
 
+/* 01: time left has WEL 1 and one thing waiting; with none left, nothing waits. 02, Item 11: where WRDI works in a
+ * cycle, WEL may be 0 */
+static int tied(const cartvesper_core *core, const plain_row *row)
+{
+    if (core->left == 0)
+        return core->waits.kind == NOTHING;
+    return core->waits.kind != NOTHING && (core->wel || row->wrdi_in_cycle);
+}
+
 int plain_core_ok(const cartvesper_core *core)
 {
-    if (core->part > M95512D || core->lock > 1)
+    const plain_row *row = row_of(core->part);
+    if (core->part >= PLAIN_PARTS || core->lock > 1)
         return 0;
     if (core->srwd > 1 || core->bp1 > 1 || core->bp0 > 1 || core->wel > 1)
         return 0;
-    if (core->cycle < 1 || core->cycle > LONGEST_CYCLE || core->left > core->cycle)
+    if (core->cycle < 1 || core->cycle > row->longest_cycle || core->left > core->cycle)
         return 0;
-    /* 01: time left has WEL 1 and one thing waiting; with none left, nothing waits */
-    if (core->left > 0 ? !core->wel || core->waits.kind == NOTHING : core->waits.kind != NOTHING)
-        return 0;
-    return waiting_ok(&core->waits, core->part);
+    return tied(core, row) && waiting_ok(&core->waits, row);
 }
 
 static int frame_empty(const cartvesper_frame_part *frame)
@@ -127,20 +184,20 @@ static int frame_empty(const cartvesper_frame_part *frame)
            latch_empty(&frame->latch);
 }
 
-/* 02, Item 4: the plain part knows neither 82h nor 83h */
-static inline int is_wrid(int part, uint8_t code)
+/* 02, Item 4: a part without the page knows neither 82h nor 83h */
+static inline int is_wrid(const plain_row *row, uint8_t code)
 {
-    return code == WRID && part == M95512D;
+    return code == WRID && row->identified;
 }
 
-static inline int is_rdid(int part, uint8_t code)
+static inline int is_rdid(const plain_row *row, uint8_t code)
 {
-    return code == RDID && part == M95512D;
+    return code == RDID && row->identified;
 }
 
-static inline int has_address(int part, uint8_t code)
+static inline int has_address(const plain_row *row, uint8_t code)
 {
-    return code == READ || code == WRITE || is_rdid(part, code) || is_wrid(part, code);
+    return code == READ || code == WRITE || is_rdid(row, code) || is_wrid(row, code);
 }
 
 /* of an 82h or an 83h: its address bit 10, which stays as it was taken */
@@ -149,67 +206,69 @@ static inline int of_lock(uint32_t address)
     return (address & LOCK_ADDRESS) != 0;
 }
 
-/* the address: its high byte from two whole bytes, its low byte from three */
-static int address_ok(const cartvesper_frame_part *frame, int part)
+/* the address: its highest byte from two whole bytes, each other from one more; the bits above the memory's are
+ * dropped */
+static int address_ok(const cartvesper_frame_part *frame, const plain_row *row)
 {
-    if (!has_address(part, frame->code) || frame->taken < 2)
+    uint32_t head = head_of(row), below = 0;
+    if (!has_address(row, frame->code) || frame->taken < 2)
         return frame->address == 0;
-    if (frame->taken == 2 && (frame->address & 0xFF) != 0)
-        return 0;
-    return frame->address < MEMORY;
+    if (frame->taken < head)
+        below = (1u << 8 * (head - frame->taken)) - 1; /* of the bytes that are still to come */
+    return frame->address < row->size && (frame->address & below) == 0;
 }
 
 /* the data byte of WRSR, or of an 82h that asks for the lock */
-static int has_value(const cartvesper_frame_part *frame, int part)
+static int has_value(const cartvesper_frame_part *frame, const plain_row *row)
 {
     if (frame->code == WRSR)
         return frame->taken >= 2;
-    return is_wrid(part, frame->code) && frame->taken >= 4 && of_lock(frame->address);
+    return is_wrid(row, frame->code) && frame->taken > head_of(row) && of_lock(frame->address);
 }
 
 /* the data bytes of WRITE, or of an 82h that asks for the identification page */
-static int has_latch(const cartvesper_frame_part *frame, int part)
+static int has_latch(const cartvesper_frame_part *frame, const plain_row *row)
 {
-    if (frame->taken < 4)
+    if (frame->taken <= head_of(row))
         return 0;
-    return frame->code == WRITE || (is_wrid(part, frame->code) && !of_lock(frame->address));
+    return frame->code == WRITE || (is_wrid(row, frame->code) && !of_lock(frame->address));
 }
 
-/* data output: RDSR from one whole byte, READ and 83h from three if no cycle ran at the eighth edge */
-static inline int in_output(const cartvesper_frame_part *frame, int part)
+/* data output: RDSR from one whole byte, READ and 83h from the whole address if no cycle ran at the eighth edge */
+static inline int in_output(const cartvesper_frame_part *frame, const plain_row *row)
 {
     switch (frame->code) {
     case RDSR:
         return frame->taken >= 1;
     case READ:
-        return frame->taken >= 3 && !frame->ran;
+        return frame->taken >= head_of(row) && !frame->ran;
     case RDID:
-        return part == M95512D && frame->taken >= 3 && !frame->ran;
+        return row->identified && frame->taken >= head_of(row) && !frame->ran;
     default:
         return 0;
     }
 }
 
-static int output_ok(const cartvesper_frame_part *frame, int part)
+static int output_ok(const cartvesper_frame_part *frame, const plain_row *row)
 {
-    if (!in_output(frame, part) || frame->shown == 0)
+    if (!in_output(frame, row) || frame->shown == 0)
         return frame->out == 0 && frame->shown == 0;
     return frame->shown <= 8;
 }
 
-static int frame_ok(const cartvesper_frame_part *frame, int part, int cycle_runs)
+static int frame_ok(const cartvesper_frame_part *frame, const plain_row *row, int cycle_runs)
 {
-    if (frame->taken > MOST || frame->bits > 7 || frame->partial >> frame->bits != 0 || frame->ran > 1)
+    if (frame->taken > row->most || frame->bits > 7 || frame->partial >> frame->bits != 0 || frame->ran > 1)
         return 0;
     if (frame->taken == 0 && (frame->code != 0 || frame->ran != 0))
         return 0;
     if (frame->taken >= 1 && cycle_runs && !frame->ran)
         return 0;
-    if (!has_value(frame, part) && frame->value != 0)
+    if (!has_value(frame, row) && frame->value != 0)
         return 0;
-    if (!address_ok(frame, part) || !output_ok(frame, part))
+    if (!address_ok(frame, row) || !output_ok(frame, row))
         return 0;
-    return has_latch(frame, part) ? latch_ok(&frame->latch) : latch_empty(&frame->latch);
+    return has_latch(frame, row) ? latch_ok(&frame->latch, row) : latch_empty(&frame->latch);
 }
 
 int plain_device_ok(const cartvesper_device *device)
@@ -223,7 +282,7 @@ int plain_device_ok(const cartvesper_device *device)
         return !device->held && frame_empty(&device->frame);
     if (!pins->c && device->held != !pins->hold)
         return 0;
-    return frame_ok(&device->frame, device->core.part, device->core.left > 0);
+    return frame_ok(&device->frame, row_of(device->core.part), device->core.left > 0);
 }
 
 /* ---- the status byte, protection, time */
@@ -233,16 +292,16 @@ uint8_t plain_status(const cartvesper_core *core)
     return (uint8_t)(core->srwd << 7 | core->bp1 << 3 | core->bp0 << 2 | core->wel << 1 | (core->left > 0));
 }
 
-/* BP1 and BP0 as a number; the memory's size where nothing is protected */
-static uint32_t lowest_by(uint8_t bp)
+/* BP1 and BP0 as a number: nothing, the upper quarter, the upper half or everything is protected */
+static uint32_t lowest_by(const plain_row *row, uint8_t bp)
 {
-    static const uint32_t lowest[4] = {MEMORY, 0xC000, 0x8000, 0};
+    const uint32_t lowest[4] = {row->size, row->size / 4 * 3, row->size / 2, 0};
     return lowest[bp & 3];
 }
 
 uint32_t plain_lowest_protected(const cartvesper_core *core)
 {
-    return lowest_by((uint8_t)(core->bp1 << 1 | core->bp0));
+    return lowest_by(row_of(core->part), (uint8_t)(core->bp1 << 1 | core->bp0));
 }
 
 int plain_protected(const cartvesper_core *core, uint32_t address)
@@ -256,7 +315,7 @@ uint32_t plain_touched(const cartvesper_core *core)
     uint32_t cells = 0;
     if (core->waits.kind != LATCHED && core->waits.kind != IDENTIFICATION)
         return 0;
-    for (size_t i = 0; i < PAGE; i++)
+    for (size_t i = 0; i < CELLS; i++)
         if (cartvesper_marked(&core->waits.latch, i))
             cells++;
     return cells;
@@ -275,14 +334,22 @@ void plain_core_power_up(cartvesper_core *core, int part, int lock, uint32_t cyc
     core->last = reading;
 }
 
-/* the marked cells of the target page */
-static void store_page(uint8_t *restrict cells, const cartvesper_latch *restrict latch)
+static int all_marked(const cartvesper_latch *latch, size_t page)
 {
-    if ((latch->marks[0] & latch->marks[1]) == UINT64_MAX) {
-        memcpy(cells, latch->bytes, PAGE);
+    uint64_t marks = UINT64_MAX;
+    for (size_t k = 0; k < page / WORD; k++)
+        marks &= latch->marks[k];
+    return marks == UINT64_MAX;
+}
+
+/* the marked cells of the target page */
+static void store_page(uint8_t *restrict cells, const cartvesper_latch *restrict latch, size_t page)
+{
+    if (all_marked(latch, page)) {
+        memcpy(cells, latch->bytes, page);
         return;
     }
-    for (size_t i = 0; i < PAGE; i += 8) {
+    for (size_t i = 0; i < page; i += 8) {
         uint64_t mask = eight_marked(latch, i);
         uint64_t bytes = (eight(cells + i) & ~mask) | (eight(latch->bytes + i) & mask);
         memcpy(cells + i, &bytes, sizeof bytes);
@@ -298,15 +365,16 @@ static void store_status(cartvesper_core *core, uint8_t status)
 
 static void end_cycle(cartvesper_core *core, uint8_t *memory, uint8_t *identification)
 {
+    size_t page = row_of(core->part)->page;
     switch (core->waits.kind) {
     case STATUS:
         store_status(core, core->waits.status);
         break;
     case LATCHED:
-        store_page(memory + PAGE * core->waits.page, &core->waits.latch);
+        store_page(memory + page * core->waits.page, &core->waits.latch, page);
         break;
     case IDENTIFICATION:
-        store_page(identification, &core->waits.latch);
+        store_page(identification, &core->waits.latch, page);
         break;
     case LOCK:
         core->lock = 1;
@@ -329,7 +397,13 @@ void plain_time(cartvesper_core *core, uint8_t *memory, uint8_t *identification,
         core->left -= elapsed;
 }
 
-/* ---- execution: nothing waits here, so only what begins to wait is written */
+/* ---- execution: nothing waits here, so only what begins to wait is written; but WRDI may come in a cycle */
+
+/* what a running cycle stops */
+static int needs_no_cycle(const plain_row *row, uint8_t code)
+{
+    return code != RDSR && !(code == WRDI && row->wrdi_in_cycle);
+}
 
 static int status_write_allowed(const cartvesper_core *core, int w)
 {
@@ -346,7 +420,7 @@ static void start_status_cycle(cartvesper_core *core, uint8_t value)
 static void start_page_cycle(cartvesper_core *core, uint32_t address)
 {
     core->waits.kind = LATCHED;
-    core->waits.page = address / PAGE;
+    core->waits.page = address / row_of(core->part)->page;
     core->left = core->cycle;
 }
 
@@ -380,37 +454,50 @@ static uint64_t frame_rdsr(const cartvesper_core *core, size_t length, size_t bi
     return 8;
 }
 
-static uint64_t frame_read(const uint8_t *memory, const uint8_t *bytes, size_t length, size_t bits, uint8_t *out)
+/* the address bytes, high byte first; the bits above the memory's are dropped */
+static uint32_t frame_address(const plain_row *row, const uint8_t *bytes)
 {
-    if (length <= 3) {
+    uint32_t address = 0;
+    for (uint32_t i = 1; i <= row->address_bytes; i++)
+        address = address << 8 | bytes[i];
+    return address & (row->size - 1);
+}
+
+static uint64_t frame_read(const plain_row *row, const uint8_t *memory, const uint8_t *bytes, size_t length,
+                           size_t bits, uint8_t *out)
+{
+    size_t head = head_of(row);
+    if (length <= head) {
         memset(out, 0xFF, length);
         return bits;
     }
-    size_t address = (size_t)bytes[1] << 8 | bytes[2];
-    size_t data = length - 3, first = MEMORY - address;
+    size_t address = frame_address(row, bytes), data = length - head, first = row->size - address;
     if (first > data)
         first = data;
-    memset(out, 0xFF, 3);
-    memcpy(out + 3, memory + address, first);
-    memcpy(out + 3 + first, memory, data - first); /* rolls from FFFFh to 0000h, once at most: data is 65,537 at most */
+    memset(out, 0xFF, head);
+    memcpy(out + head, memory + address, first);
+    /* rolls from the last cell to the first, once at most: a frame has at most one byte more than head and memory */
+    memcpy(out + head + first, memory, data - first);
     fill_tail(out, length, bits);
-    return 24;
+    return 8 * head;
 }
 
 /* 83h: the identification page's cells, again from its start after its end; or the lock, again and again */
 static uint64_t frame_rdid(const cartvesper_core *core, const uint8_t *identification, const uint8_t *bytes,
                            size_t length, size_t bits, uint8_t *out)
 {
-    if (length <= 3) {
+    const plain_row *row = row_of(core->part);
+    uint32_t head = head_of(row);
+    if (length <= head) {
         memset(out, 0xFF, length);
         return bits;
     }
-    uint32_t address = (uint32_t)bytes[1] << 8 | bytes[2];
-    memset(out, 0xFF, 3);
-    for (size_t i = 3; i < length; i++)
-        out[i] = of_lock(address) ? core->lock : identification[(address + i - 3) % PAGE];
+    uint32_t address = frame_address(row, bytes);
+    memset(out, 0xFF, head);
+    for (uint32_t i = head; i < length; i++)
+        out[i] = of_lock(address) ? core->lock : identification[cell_of(row, address + i - head)];
     fill_tail(out, length, bits);
-    return 24;
+    return 8 * head;
 }
 
 /* marks `count` cells from `cell` on, as many in a word as it has left */
@@ -426,15 +513,15 @@ static void mark_cells(cartvesper_latch *latch, size_t cell, size_t count)
     }
 }
 
-/* the latest byte for a cell wins, so only the last 128 data bytes can stay */
-static void frame_latch(cartvesper_latch *latch, size_t offset, const uint8_t *data, size_t count)
+/* the latest byte for a cell wins, so only the last page of data bytes can stay */
+static void frame_latch(cartvesper_latch *latch, size_t page, size_t offset, const uint8_t *data, size_t count)
 {
-    if (count > PAGE) {
-        offset = (offset + count - PAGE) % PAGE;
-        data += count - PAGE;
-        count = PAGE;
+    if (count > page) {
+        offset = (offset + count - page) % page;
+        data += count - page;
+        count = page;
     }
-    size_t first = PAGE - offset;
+    size_t first = page - offset;
     if (first > count)
         first = count;
     memcpy(latch->bytes + offset, data, first);
@@ -451,29 +538,33 @@ static void frame_wrsr(cartvesper_core *core, int w, const uint8_t *bytes, size_
 
 static void frame_write(cartvesper_core *core, const uint8_t *bytes, size_t length, size_t bits)
 {
-    if (length < 4 || bits != 8 * length || !core->wel)
+    const plain_row *row = row_of(core->part);
+    size_t head = head_of(row);
+    if (length <= head || bits != 8 * length || !core->wel)
         return;
-    uint32_t address = (uint32_t)bytes[1] << 8 | bytes[2];
+    uint32_t address = frame_address(row, bytes);
     if (plain_protected(core, address))
         return;
-    frame_latch(&core->waits.latch, address % PAGE, bytes + 3, length - 3);
+    frame_latch(&core->waits.latch, row->page, cell_of(row, address), bytes + head, length - head);
     start_page_cycle(core, address);
 }
 
 static void frame_wrid(cartvesper_core *core, const uint8_t *bytes, size_t length, size_t bits)
 {
-    if (length < 4 || bits != 8 * length || !identification_write_allowed(core))
+    const plain_row *row = row_of(core->part);
+    size_t head = head_of(row);
+    if (length <= head || bits != 8 * length || !identification_write_allowed(core))
         return;
-    uint32_t address = (uint32_t)bytes[1] << 8 | bytes[2];
+    uint32_t address = frame_address(row, bytes);
     if (!of_lock(address)) {
-        frame_latch(&core->waits.latch, address % PAGE, bytes + 3, length - 3);
+        frame_latch(&core->waits.latch, row->page, cell_of(row, address), bytes + head, length - head);
         start_identification_cycle(core, IDENTIFICATION);
-    } else if (bits == 32 && (bytes[3] & LOCK_DATA)) {
+    } else if (length == head + 1 && (bytes[head] & LOCK_DATA)) {
         start_identification_cycle(core, LOCK);
     }
 }
 
-/* what a frame without output does; in a cycle nothing */
+/* what a frame without output does; no cycle runs, or it does not matter */
 static void frame_execute(cartvesper_core *core, int w, const uint8_t *bytes, size_t length, size_t bits)
 {
     switch (bytes[0]) {
@@ -492,7 +583,7 @@ static void frame_execute(cartvesper_core *core, int w, const uint8_t *bytes, si
         frame_write(core, bytes, length, bits);
         break;
     case WRID:
-        if (core->part == M95512D)
+        if (row_of(core->part)->identified)
             frame_wrid(core, bytes, length, bits);
         break;
     }
@@ -501,16 +592,15 @@ static void frame_execute(cartvesper_core *core, int w, const uint8_t *bytes, si
 uint64_t plain_frame(cartvesper_core *core, const uint8_t *memory, const uint8_t *identification, int w,
                      const uint8_t *bytes, size_t length, size_t bits, uint8_t *out)
 {
-    if (bits >= 8) {
+    const plain_row *row = row_of(core->part);
+    if (bits >= 8 && (core->left == 0 || !needs_no_cycle(row, bytes[0]))) {
         if (bytes[0] == RDSR)
             return frame_rdsr(core, length, bits, out);
-        if (core->left == 0) {
-            if (bytes[0] == READ)
-                return frame_read(memory, bytes, length, bits, out);
-            if (is_rdid(core->part, bytes[0]))
-                return frame_rdid(core, identification, bytes, length, bits, out);
-            frame_execute(core, w, bytes, length, bits);
-        }
+        if (bytes[0] == READ)
+            return frame_read(row, memory, bytes, length, bits, out);
+        if (is_rdid(row, bytes[0]))
+            return frame_rdid(core, identification, bytes, length, bits, out);
+        frame_execute(core, w, bytes, length, bits);
     }
     if (length > 0)
         memset(out, 0xFF, length);
@@ -530,36 +620,32 @@ void plain_device_power_up(cartvesper_device *device, int part, int lock, uint32
 }
 
 /* the cell after this one: at the page's end its start, not the next page */
-static uint32_t next_in_page(uint32_t address)
+static uint32_t next_in_page(const plain_row *row, uint32_t address)
 {
-    uint32_t offset = address % PAGE;
-    return address - offset + (offset + 1) % PAGE;
+    return address - cell_of(row, address) + cell_of(row, address + 1);
 }
 
-static void latch_byte(cartvesper_frame_part *frame, uint8_t byte)
+static void latch_byte(cartvesper_frame_part *frame, const plain_row *row, uint8_t byte)
 {
-    uint32_t offset = frame->address % PAGE;
-    frame->latch.bytes[offset] = byte;
-    frame->latch.marks[offset / WORD] |= (uint64_t)1 << offset % WORD;
-    frame->address = next_in_page(frame->address);
+    uint32_t cell = cell_of(row, frame->address);
+    frame->latch.bytes[cell] = byte;
+    frame->latch.marks[cell / WORD] |= (uint64_t)1 << cell % WORD;
+    frame->address = next_in_page(row, frame->address);
 }
 
-/* the second whole byte: high address byte, or the WRSR data byte */
-static void second_byte(cartvesper_frame_part *frame, int part, uint8_t byte)
+/* high byte first, each to its place; the bits above the memory's are dropped when taken */
+static void address_byte(cartvesper_frame_part *frame, const plain_row *row, uint8_t byte)
 {
-    if (has_address(part, frame->code))
-        frame->address = (uint32_t)byte << 8;
-    else if (frame->code == WRSR)
-        frame->value = byte;
+    frame->address |= (uint32_t)byte << 8 * (row->address_bytes - frame->taken) & (row->size - 1);
 }
 
-/* from the fourth whole byte on; of a lock frame's data bytes the first is kept */
-static void data_byte(cartvesper_frame_part *frame, int part, uint8_t byte)
+/* after the address; of a lock frame's data bytes the first is kept */
+static void data_byte(cartvesper_frame_part *frame, const plain_row *row, uint8_t byte)
 {
-    int wrid = is_wrid(part, frame->code);
+    int wrid = is_wrid(row, frame->code);
     if (frame->code == WRITE || (wrid && !of_lock(frame->address)))
-        latch_byte(frame, byte);
-    else if (wrid && frame->taken == 3)
+        latch_byte(frame, row, byte);
+    else if (wrid && frame->taken == head_of(row))
         frame->value = byte;
 }
 
@@ -567,24 +653,18 @@ static void data_byte(cartvesper_frame_part *frame, int part, uint8_t byte)
 static void whole_byte(cartvesper_device *device, uint8_t byte)
 {
     cartvesper_frame_part *frame = &device->frame;
-    int part = device->core.part;
-    switch (frame->taken) {
-    case 0:
+    const plain_row *row = row_of(device->core.part);
+    if (frame->taken == 0) {
         frame->code = byte;
         frame->ran = device->core.left > 0; /* 01: "No cycle" is judged at the eighth counted edge */
-        break;
-    case 1:
-        second_byte(frame, part, byte);
-        break;
-    case 2:
-        if (has_address(part, frame->code))
-            frame->address |= byte;
-        break;
-    default:
-        data_byte(frame, part, byte);
-        break;
+    } else if (frame->taken == 1 && frame->code == WRSR) {
+        frame->value = byte;
+    } else if (frame->taken >= head_of(row)) {
+        data_byte(frame, row, byte);
+    } else if (has_address(row, frame->code)) {
+        address_byte(frame, row, byte);
     }
-    if (frame->taken < MOST)
+    if (frame->taken < row->most)
         frame->taken++;
 }
 
@@ -607,16 +687,17 @@ static void take_bit(cartvesper_device *device)
 static void load_byte(cartvesper_device *device, const uint8_t *memory, const uint8_t *identification)
 {
     cartvesper_frame_part *frame = &device->frame;
+    const plain_row *row = row_of(device->core.part);
     if (frame->code == RDSR) {
         frame->out = plain_status(&device->core);
     } else if (frame->code == READ) {
         frame->out = memory[frame->address];
-        frame->address = (frame->address + 1) % MEMORY;
+        frame->address = (frame->address + 1) & (row->size - 1);
     } else if (of_lock(frame->address)) {
         frame->out = device->core.lock;
     } else {
-        frame->out = identification[frame->address % PAGE];
-        frame->address = next_in_page(frame->address);
+        frame->out = identification[cell_of(row, frame->address)];
+        frame->address = next_in_page(row, frame->address);
     }
 }
 
@@ -628,32 +709,33 @@ static void move_q(cartvesper_device *device, const uint8_t *memory, const uint8
         frame->shown++;
         return;
     }
-    if (!in_output(frame, device->core.part))
+    if (!in_output(frame, row_of(device->core.part)))
         return;
     frame->shown = 1;
     load_byte(device, memory, identification);
 }
 
-/* an 82h of four whole bytes or more */
-static void execute_wrid(cartvesper_core *core, const cartvesper_frame_part *frame)
+/* an 82h with data */
+static void execute_wrid(cartvesper_core *core, const cartvesper_frame_part *frame, const plain_row *row)
 {
     if (!identification_write_allowed(core))
         return;
     if (!of_lock(frame->address)) {
         core->waits.latch = frame->latch;
         start_identification_cycle(core, IDENTIFICATION);
-    } else if (frame->taken == 4 && (frame->value & LOCK_DATA)) {
+    } else if (frame->taken == head_of(row) + 1 && (frame->value & LOCK_DATA)) {
         start_identification_cycle(core, LOCK);
     }
 }
 
-/* the frame's bits are `taken` whole bytes (5: five or more) and no part of one; `ran` 0 means that no cycle runs
- * now either */
+/* the frame's bits are `taken` whole bytes (at the most: that many or more) and no part of one; `ran` 0 means that no
+ * cycle runs now either */
 static void execute(cartvesper_device *device)
 {
     const cartvesper_frame_part *frame = &device->frame;
     cartvesper_core *core = &device->core;
-    if (frame->bits != 0 || frame->ran)
+    const plain_row *row = row_of(core->part);
+    if (frame->bits != 0 || (frame->ran && needs_no_cycle(row, frame->code)))
         return;
     switch (frame->code) {
     case WREN:
@@ -669,21 +751,21 @@ static void execute(cartvesper_device *device)
             start_status_cycle(core, frame->value);
         break;
     case WRITE:
-        if (frame->taken >= 4 && core->wel && !plain_protected(core, frame->address)) {
+        if (frame->taken > head_of(row) && core->wel && !plain_protected(core, frame->address)) {
             core->waits.latch = frame->latch;
             start_page_cycle(core, frame->address);
         }
         break;
     case WRID:
-        if (core->part == M95512D && frame->taken >= 4)
-            execute_wrid(core, frame);
+        if (row->identified && frame->taken > head_of(row))
+            execute_wrid(core, frame, row);
         break;
     }
 }
 
-static void empty_frame(cartvesper_frame_part *frame)
+static void empty_frame(cartvesper_frame_part *frame, const plain_row *row)
 {
-    if ((frame->code == WRITE || frame->code == WRID) && frame->taken >= 4) /* else the latch is empty */
+    if ((frame->code == WRITE || frame->code == WRID) && frame->taken > head_of(row)) /* else the latch is empty */
         memset(&frame->latch, 0, sizeof frame->latch);
     memset(frame, 0, offsetof(cartvesper_frame_part, latch));
 }
@@ -697,7 +779,7 @@ void plain_s(cartvesper_device *device, int level)
         if (!device->held || device->frame.code == WRITE) /* deselecting while held drops every frame but 02h */
             execute(device);
         device->held = 0;
-        empty_frame(&device->frame);
+        empty_frame(&device->frame, row_of(device->core.part));
     } else {
         device->held = !device->pins.c && !device->pins.hold;
     }
@@ -784,12 +866,12 @@ void plain_play(cartvesper_device *device, uint8_t *memory, uint8_t *identificat
     }
 }
 
-/* ---- laying: 02, Item 10. Each cell is wholly the one's or wholly the other's, byte and mark */
+/* ---- laying: 02, Item 10. Each cell is wholly the one's or wholly the other's, byte and mark; no part is asked */
 
 void plain_lay(cartvesper_latch *laid, const cartvesper_latch *earlier, const cartvesper_latch *later)
 {
     memset(laid, 0, sizeof *laid);
-    for (size_t i = 0; i < PAGE; i++) {
+    for (size_t i = 0; i < CELLS; i++) {
         const cartvesper_latch *winner = cartvesper_marked(later, i) ? later : earlier;
         if (!cartvesper_marked(winner, i))
             continue;
@@ -839,13 +921,14 @@ static uint8_t wait_for_wip(driver_run *run, int first_wait)
 static uint8_t write_page(driver_run *run, uint32_t address, const uint8_t *bytes, size_t length)
 {
     static const uint8_t wren[1] = {WREN};
-    uint8_t frame[3 + PAGE], out[3 + PAGE];
+    uint32_t head = head_of(row_of(run->core->part));
+    uint8_t frame[HEAD + CELLS], out[HEAD + CELLS];
     frame[0] = WRITE;
-    frame[1] = (uint8_t)(address >> 8);
-    frame[2] = (uint8_t)address;
-    memcpy(frame + 3, bytes, length);
+    for (uint32_t i = 1; i < head; i++)
+        frame[i] = (uint8_t)(address >> 8 * (head - 1 - i));
+    memcpy(frame + head, bytes, length);
     send(run, wren, sizeof wren, out);
-    send(run, frame, 3 + length, out);
+    send(run, frame, head + length, out);
     return wait_for_wip(run, 0);
 }
 
@@ -853,6 +936,7 @@ uint32_t plain_write(cartvesper_core *core, uint8_t *memory, uint8_t *identifica
                      const uint8_t *bytes, size_t length, uint32_t interval, uint32_t limit, uint32_t *pages,
                      uint32_t *frames)
 {
+    const plain_row *row = row_of(core->part);
     driver_run run = {core, memory, identification, interval, limit, 0};
     uint32_t number = 0;
     *pages = 0;
@@ -860,11 +944,11 @@ uint32_t plain_write(cartvesper_core *core, uint8_t *memory, uint8_t *identifica
         uint8_t status = wait_for_wip(&run, 1);
         if (status & 0x01)
             number = 9;
-        else if (address + length > lowest_by(status >> 2 & 3))
+        else if (address + length > lowest_by(row, status >> 2 & 3))
             number = 13;
     }
     while (length > 0 && number == 0) {
-        size_t part = PAGE - address % PAGE;
+        size_t part = row->page - cell_of(row, address);
         if (part > length)
             part = length;
         number = write_page(&run, address, bytes, part) & 0x01 ? 9 : 0;
@@ -879,22 +963,23 @@ uint32_t plain_write(cartvesper_core *core, uint8_t *memory, uint8_t *identifica
 
 /* ---- the split: the parts one after the other, as a person would cut the run */
 
-static int run_fits(uint64_t address, uint64_t length)
+static int run_fits(const plain_row *row, uint64_t address, uint64_t length)
 {
-    return address <= MEMORY && length <= MEMORY && address + length <= MEMORY;
+    return address <= row->size && length <= row->size && address + length <= row->size;
 }
 
 typedef struct {
     uint64_t refusal, count, address, length;
 } split_answer;
 
-static split_answer split(uint64_t address, uint64_t length, uint64_t part)
+static split_answer split(uint8_t chip, uint64_t address, uint64_t length, uint64_t part)
 {
+    const plain_row *row = row_of(chip);
     split_answer answer = {7, 0, 0, 0}, none = answer;
-    if (!run_fits(address, length))
+    if (!run_fits(row, address, length))
         return none;
     for (uint64_t k = 0; length > 0; k++) {
-        uint64_t here = PAGE - address % PAGE;
+        uint64_t here = row->page - address % row->page;
         if (here > length)
             here = length;
         if (k == part) {
@@ -909,39 +994,40 @@ static split_answer split(uint64_t address, uint64_t length, uint64_t part)
     return answer.refusal ? none : answer;
 }
 
-uint64_t plain_part_refusal(uint64_t address, uint64_t length, uint64_t part)
+uint64_t plain_part_refusal(uint8_t chip, uint64_t address, uint64_t length, uint64_t part)
 {
-    return split(address, length, part).refusal;
+    return split(chip, address, length, part).refusal;
 }
 
-uint64_t plain_part_count(uint64_t address, uint64_t length, uint64_t part)
+uint64_t plain_part_count(uint8_t chip, uint64_t address, uint64_t length, uint64_t part)
 {
-    return split(address, length, part).count;
+    return split(chip, address, length, part).count;
 }
 
-uint64_t plain_part_address(uint64_t address, uint64_t length, uint64_t part)
+uint64_t plain_part_address(uint8_t chip, uint64_t address, uint64_t length, uint64_t part)
 {
-    return split(address, length, part).address;
+    return split(chip, address, length, part).address;
 }
 
-uint64_t plain_part_length(uint64_t address, uint64_t length, uint64_t part)
+uint64_t plain_part_length(uint8_t chip, uint64_t address, uint64_t length, uint64_t part)
 {
-    return split(address, length, part).length;
+    return split(chip, address, length, part).length;
 }
 
 /* ---- every input answered */
 
-/* both parts are lent an identification page, and its length shares the memory's refusal */
-static int lent_ok(size_t size, size_t cells)
+/* every part is lent an identification page, and its length shares the memory's refusal */
+static int lent_ok(const cartvesper_core *core, size_t size, size_t cells)
 {
-    return size == MEMORY && cells == PAGE;
+    const plain_row *row = row_of(core->part);
+    return size == row->size && cells == row->page;
 }
 
 static uint32_t power_up_refusal(uint8_t part, uint8_t lock, uint32_t cycle, uint8_t srwd, uint8_t bp1, uint8_t bp0)
 {
-    if (part > M95512D || lock > 1 || srwd > 1 || bp1 > 1 || bp0 > 1)
+    if (part >= PLAIN_PARTS || lock > 1 || srwd > 1 || bp1 > 1 || bp0 > 1)
         return 2;
-    return cycle < 1 || cycle > LONGEST_CYCLE ? 6 : 0;
+    return cycle < 1 || cycle > row_of(part)->longest_cycle ? 6 : 0;
 }
 
 cartvesper_core_answer plain_power_up_call(uint8_t part, uint8_t lock, uint32_t cycle, uint8_t srwd, uint8_t bp1,
@@ -950,7 +1036,7 @@ cartvesper_core_answer plain_power_up_call(uint8_t part, uint8_t lock, uint32_t 
     cartvesper_core_answer answer;
     answer.number = power_up_refusal(part, lock, cycle, srwd, bp1, bp0);
     if (answer.number)
-        plain_core_power_up(&answer.core, M95512, 0, LONGEST_CYCLE, 0, 0, 0, 0); /* as delivered */
+        plain_core_power_up(&answer.core, M95512, 0, rows[M95512].longest_cycle, 0, 0, 0, 0); /* as delivered */
     else
         plain_core_power_up(&answer.core, part, lock, cycle, srwd, bp1, bp0, reading);
     return answer;
@@ -959,7 +1045,7 @@ cartvesper_core_answer plain_power_up_call(uint8_t part, uint8_t lock, uint32_t 
 cartvesper_core_answer plain_clock_reading_call(cartvesper_core core, uint32_t reading, uint8_t *memory, size_t size,
                                                 uint8_t *identification, size_t cells)
 {
-    cartvesper_core_answer answer = {!lent_ok(size, cells) ? 1 : !plain_core_ok(&core) ? 2 : 0, core};
+    cartvesper_core_answer answer = {!lent_ok(&core, size, cells) ? 1 : !plain_core_ok(&core) ? 2 : 0, core};
     if (answer.number == 0)
         plain_time(&answer.core, memory, identification, reading);
     return answer;
@@ -968,11 +1054,11 @@ cartvesper_core_answer plain_clock_reading_call(cartvesper_core core, uint32_t r
 static uint32_t frame_refusal(const cartvesper_core *core, size_t size, size_t cells, uint8_t w, size_t length,
                               size_t bits, size_t room)
 {
-    if (!lent_ok(size, cells))
+    if (!lent_ok(core, size, cells))
         return 1;
     if (!plain_core_ok(core) || w > 1)
         return 2;
-    if (length > LONGEST_FRAME)
+    if (length > plain_longest_frame(row_of(core->part)))
         return 3;
     if (length == 0 ? bits != 0 : bits < 8 * length - 7 || bits > 8 * length)
         return 4;
@@ -1013,7 +1099,7 @@ cartvesper_value plain_core_lowest_protected_call(cartvesper_core core)
 cartvesper_value plain_core_protected_call(cartvesper_core core, uint32_t address)
 {
     cartvesper_value above = {7, 0};
-    if (plain_core_ok(&core) && address >= MEMORY)
+    if (plain_core_ok(&core) && address >= row_of(core.part)->size)
         return above;
     return value_or_2(plain_core_ok(&core), (uint32_t)plain_protected(&core, address));
 }
@@ -1029,7 +1115,7 @@ cartvesper_device_answer plain_device_power_up_call(uint8_t part, uint8_t lock, 
     cartvesper_device_answer answer;
     answer.number = power_up_refusal(part, lock, cycle, srwd, bp1, bp0);
     if (answer.number)
-        plain_device_power_up(&answer.device, M95512, 0, LONGEST_CYCLE, 0, 0, 0, 0);
+        plain_device_power_up(&answer.device, M95512, 0, rows[M95512].longest_cycle, 0, 0, 0, 0);
     else
         plain_device_power_up(&answer.device, part, lock, cycle, srwd, bp1, bp0, reading);
     return answer;
@@ -1051,7 +1137,7 @@ cartvesper_device_answer plain_device_set_s_call(cartvesper_device device, uint8
 cartvesper_device_answer plain_device_set_c_call(cartvesper_device device, uint8_t level, const uint8_t *memory,
                                                  size_t size, const uint8_t *identification, size_t cells)
 {
-    cartvesper_device_answer answer = {!lent_ok(size, cells) ? 1 : level_refusal(&device, level), device};
+    cartvesper_device_answer answer = {!lent_ok(&device.core, size, cells) ? 1 : level_refusal(&device, level), device};
     if (answer.number == 0)
         plain_c(&answer.device, level, memory, identification);
     return answer;
@@ -1084,7 +1170,8 @@ cartvesper_device_answer plain_device_set_hold_call(cartvesper_device device, ui
 cartvesper_device_answer plain_device_read_clock_call(cartvesper_device device, uint32_t reading, uint8_t *memory,
                                                       size_t size, uint8_t *identification, size_t cells)
 {
-    cartvesper_device_answer answer = {!lent_ok(size, cells) ? 1 : !plain_device_ok(&device) ? 2 : 0, device};
+    cartvesper_device_answer answer = {!lent_ok(&device.core, size, cells) ? 1 : !plain_device_ok(&device) ? 2 : 0,
+                                       device};
     if (answer.number == 0)
         plain_device_time(&answer.device, memory, identification, reading);
     return answer;
@@ -1124,7 +1211,7 @@ static int is_event(uint64_t event)
 uint32_t plain_play_refusal(const cartvesper_device *device, size_t size, size_t cells, const uint64_t *events,
                             size_t count, size_t room)
 {
-    if (!lent_ok(size, cells))
+    if (!lent_ok(&device->core, size, cells))
         return 1;
     if (!plain_device_ok(device))
         return 2;
@@ -1155,13 +1242,14 @@ cartvesper_latch_answer plain_lay_call(cartvesper_latch earlier, cartvesper_latc
 static uint32_t write_refusal(const cartvesper_core *core, size_t size, size_t cells, uint64_t address, size_t length,
                               uint32_t interval, uint32_t limit)
 {
-    if (!lent_ok(size, cells))
+    const plain_row *row = row_of(core->part);
+    if (!lent_ok(core, size, cells))
         return 1;
     if (!plain_core_ok(core))
         return 2;
-    if (!run_fits(address, length))
+    if (!run_fits(row, address, length))
         return 7;
-    return interval < 1 || interval > LONGEST_CYCLE || limit < 1 || limit > LONGEST_CYCLE + 1 ? 8 : 0;
+    return interval < 1 || interval > row->longest_cycle || limit < 1 || limit > plain_most_polls(row) ? 8 : 0;
 }
 
 cartvesper_driver_answer plain_write_call(cartvesper_core core, uint8_t *memory, size_t size, uint8_t *identification,

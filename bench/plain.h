@@ -1,17 +1,35 @@
-/* A plain C model of the M95512 and the M95512-D in the C record types of cartvesper.h, updated in place: the frame
- * level and the pin level, written from the papers and their reading alone, and laying, the driver and the split,
- * written from the papers with the proved ones known. The functions without `_call` trust their caller (a record inside
- * its ranges, 65,536 bytes of memory, 128 of the identification page, levels 0 or 1); the `_call` functions answer
+/* A plain C model of the M95512, the M95512-D and the M95M01 in the C record types of cartvesper.h, updated in place:
+ * the frame level and the pin level, written from the papers and their reading alone, and laying, the driver and the
+ * split, written from the papers with the proved ones known. The functions without `_call` trust their caller (a record
+ * inside its ranges, memory and identification page of its part's length, levels 0 or 1); the `_call` functions answer
  * every input as cartvesper.h says. */
 #ifndef PLAIN_H
 #define PLAIN_H
 #include "cartvesper.h"
 
+/* ---- the parts: a row for each */
+
+typedef struct {
+    uint32_t size, page;    /* cells of the memory; of a page, and of the identification page. Powers of two */
+    uint32_t address_bytes; /* after the code */
+    uint32_t most;          /* where the count of whole bytes taken stays */
+    uint32_t longest_cycle; /* microseconds */
+    int identified;         /* it has an identification page and a lock */
+    int wrdi_in_cycle;      /* WRDI is executed in a cycle too */
+} plain_row;
+
+enum { PLAIN_PARTS = 3 };
+
+const plain_row *plain_row_of(uint8_t part); /* a number that is none reads the M95512's row */
+uint32_t plain_head(const plain_row *row);   /* bytes before the data: the code and the address */
+uint32_t plain_longest_frame(const plain_row *row);
+uint32_t plain_most_polls(const plain_row *row);
+
 /* ---- both levels */
 
 int plain_latch_same(const cartvesper_latch *one, const cartvesper_latch *other);
 int plain_core_same(const cartvesper_core *one, const cartvesper_core *other); /* in every field */
-int plain_latch_ok(const cartvesper_latch *latch);
+int plain_latch_ok(const cartvesper_latch *latch); /* of laying, whatever the part: unmarked bytes are 0 */
 int plain_core_ok(const cartvesper_core *core);
 int plain_device_ok(const cartvesper_device *device);
 uint8_t plain_status(const cartvesper_core *core);
@@ -58,11 +76,11 @@ void plain_lay(cartvesper_latch *laid, const cartvesper_latch *earlier, const ca
 uint32_t plain_write(cartvesper_core *core, uint8_t *memory, uint8_t *identification, uint32_t address,
                      const uint8_t *bytes, size_t length, uint32_t interval, uint32_t limit, uint32_t *pages,
                      uint32_t *frames);
-/* the four numbers, for any address, length and part */
-uint64_t plain_part_refusal(uint64_t address, uint64_t length, uint64_t part);
-uint64_t plain_part_count(uint64_t address, uint64_t length, uint64_t part);
-uint64_t plain_part_address(uint64_t address, uint64_t length, uint64_t part);
-uint64_t plain_part_length(uint64_t address, uint64_t length, uint64_t part);
+/* the four numbers, for any chip, address, length and part */
+uint64_t plain_part_refusal(uint8_t chip, uint64_t address, uint64_t length, uint64_t part);
+uint64_t plain_part_count(uint8_t chip, uint64_t address, uint64_t length, uint64_t part);
+uint64_t plain_part_address(uint8_t chip, uint64_t address, uint64_t length, uint64_t part);
+uint64_t plain_part_length(uint8_t chip, uint64_t address, uint64_t length, uint64_t part);
 
 /* ---- every input answered, call by call as cartvesper.h */
 

@@ -6,6 +6,16 @@
 
 enum { MEMORY = CARTVESPER_MEMORY };
 
+/* the memory by the record's own part, then the record, then a part whose cells a text cannot name */
+static uint32_t refusal(const cartvesper_core *core, size_t size)
+{
+    if (size != plain_row_of(core->part)->size)
+        return CARTVESPER_MEMORY_LENGTH;
+    if (!plain_core_ok(core))
+        return CARTVESPER_RECORD_RANGE;
+    return core->part == CARTVESPER_M95M01 ? CARTVESPER_NOT_IMPORTED : CARTVESPER_DONE;
+}
+
 static void put_byte(uint8_t **at, unsigned value, unsigned *sum)
 {
     static const char digits[] = "0123456789ABCDEF";
@@ -16,10 +26,9 @@ static void put_byte(uint8_t **at, unsigned value, unsigned *sum)
 
 uint32_t plain_hex_export_call(cartvesper_core core, const uint8_t *memory, size_t size, uint8_t *out, size_t room)
 {
-    if (size != MEMORY)
-        return CARTVESPER_MEMORY_LENGTH;
-    if (!plain_core_ok(&core))
-        return CARTVESPER_RECORD_RANGE;
+    uint32_t number = refusal(&core, size);
+    if (number)
+        return number;
     if (room != CARTVESPER_HEX_TEXT)
         return CARTVESPER_OUTPUT_LENGTH;
     for (unsigned address = 0; address < MEMORY; address += 16) {
@@ -39,8 +48,9 @@ uint32_t plain_hex_export_call(cartvesper_core core, const uint8_t *memory, size
 }
 
 /* one more than the value of a digit, 0 for every other byte */
-static const uint8_t values[256] = {['0'] = 1, ['1'] = 2, ['2'] = 3, ['3'] = 4, ['4'] = 5, ['5'] = 6, ['6'] = 7, ['7'] = 8, ['8'] = 9, ['9'] = 10,
-                                    ['A'] = 11, ['B'] = 12, ['C'] = 13, ['D'] = 14, ['E'] = 15, ['F'] = 16};
+static const uint8_t values[256] = {['0'] = 1,  ['1'] = 2,  ['2'] = 3,  ['3'] = 4,  ['4'] = 5,  ['5'] = 6,
+                                    ['6'] = 7,  ['7'] = 8,  ['8'] = 9,  ['9'] = 10, ['A'] = 11, ['B'] = 12,
+                                    ['C'] = 13, ['D'] = 14, ['E'] = 15, ['F'] = 16};
 
 static int digit(uint8_t c)
 {
@@ -88,18 +98,13 @@ static int stores(uint8_t *memory, const uint8_t *text, size_t length)
     return 0;
 }
 
-cartvesper_core_answer plain_hex_import_call(cartvesper_core core, uint8_t *memory, size_t size, const uint8_t *text, size_t length)
+cartvesper_core_answer plain_hex_import_call(cartvesper_core core, uint8_t *memory, size_t size, const uint8_t *text,
+                                             size_t length)
 {
     static uint8_t next[MEMORY];
-    cartvesper_core_answer answer = {CARTVESPER_DONE, core};
-    if (size != MEMORY) {
-        answer.number = CARTVESPER_MEMORY_LENGTH;
+    cartvesper_core_answer answer = {refusal(&core, size), core};
+    if (answer.number)
         return answer;
-    }
-    if (!plain_core_ok(&core)) {
-        answer.number = CARTVESPER_RECORD_RANGE;
-        return answer;
-    }
     memcpy(next, memory, MEMORY);
     if (core.left > 0 || !stores(next, text, length)) {
         answer.number = CARTVESPER_NOT_IMPORTED;

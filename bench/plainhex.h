@@ -4,5 +4,6 @@
 #include "cartvesper.h"
 
 uint32_t plain_hex_export_call(cartvesper_core core, const uint8_t *memory, size_t size, uint8_t *out, size_t room);
-cartvesper_core_answer plain_hex_import_call(cartvesper_core core, uint8_t *memory, size_t size, const uint8_t *text, size_t length);
+cartvesper_core_answer plain_hex_import_call(cartvesper_core core, uint8_t *memory, size_t size, const uint8_t *text,
+                                             size_t length);
 #endif

@@ -1,14 +1,14 @@
-/* plainplay: a plain C player of a trace, written from document 01's "Trace text" over the plain model of plain.c.
- * It reads and writes in one buffer each way: the line is parsed where it stands, played in place, and printed.
- * Standard input to standard output. */
+/* plainplay [--part M95512|M95512-D|M95M01]: a plain C player of a trace, written from document 01's "Trace text" over
+ * the plain model of plain.c. It reads and writes in one buffer each way: the line is parsed where it stands, played in
+ * place, and printed. Standard input to standard output. */
 #include "plain.h"
 #include <string.h>
 #include <unistd.h>
 
-enum { MEMORY = 65536, ROOM = 1 << 16, LAST = 1000000 };
+enum { ROOM = 1 << 16, LAST = 1000000 };
 
 static cartvesper_device device;
-static uint8_t memory[MEMORY], identification[CARTVESPER_IDENTIFICATION];
+static uint8_t memory[CARTVESPER_LARGEST_MEMORY], identification[CARTVESPER_LARGEST_IDENTIFICATION];
 static uint8_t in[ROOM], out[ROOM + 64];
 static size_t have, at, used;
 
@@ -109,11 +109,37 @@ static int one(uint32_t whole)
     return 0;
 }
 
-int main(void)
+/* as delivered, with the part's longest cycle; the identification page of the M95M01 has its code (001, table 5) */
+static void start(uint8_t part)
 {
-    memset(memory, 0xFF, MEMORY);
+    static const uint8_t code[3] = {0x20, 0x00, 0x11};
+    memset(memory, 0xFF, sizeof memory);
     memset(identification, 0xFF, sizeof identification);
-    plain_device_power_up(&device, CARTVESPER_M95512, 0, 5000, 0, 0, 0, 0);
+    if (part == CARTVESPER_M95M01)
+        memcpy(identification, code, sizeof code);
+    plain_device_power_up(&device, part, 0, plain_row_of(part)->longest_cycle, 0, 0, 0, 0);
+}
+
+/* the part that the words name, the M95512 where there are none; PLAIN_PARTS for other words */
+static uint8_t part_of(int count, char **words)
+{
+    static const char *const names[PLAIN_PARTS] = {"M95512", "M95512-D", "M95M01"};
+    uint8_t part = 0;
+    if (count == 1)
+        return CARTVESPER_M95512;
+    if (count != 3 || strcmp(words[1], "--part") != 0)
+        return PLAIN_PARTS;
+    while (part < PLAIN_PARTS && strcmp(words[2], names[part]) != 0)
+        part++;
+    return part;
+}
+
+int main(int count, char **words)
+{
+    uint8_t part = part_of(count, words);
+    if (part == PLAIN_PARTS)
+        return 2;
+    start(part);
     memcpy(out, "line\tq\n", 7);
     used = 7;
     for (uint32_t whole = 0;; whole++) {

@@ -17,19 +17,25 @@
 #endif
 
 enum { WREN = CARTVESPER_WREN, RDSR = CARTVESPER_RDSR, READ = CARTVESPER_READ, WRITE = CARTVESPER_WRITE };
-enum { MEMORY = CARTVESPER_MEMORY, PAGE = CARTVESPER_PAGE, LONGEST = CARTVESPER_LONGEST_FRAME };
-enum { CYCLE = CARTVESPER_LONGEST_CYCLE, EVENTS = 1 << 15 };
+enum { M95512 = CARTVESPER_M95512, M95M01 = CARTVESPER_M95M01 };
+enum { LARGEST = CARTVESPER_LARGEST_MEMORY, CELLS = CARTVESPER_LARGEST_PAGE, LONGEST = LARGEST + 4, EVENTS = 1 << 15 };
+enum { HEAD = 4, DATA = 64 }; /* bytes before the data, at most; data bytes of a drawn frame */
 enum { SET_S, SET_C, SET_D, SET_W, SET_HOLD, CLOCK };
 
 /* one side: what it works on */
 typedef struct {
     cartvesper_core core;
     cartvesper_device device;
-    uint8_t memory[MEMORY], identification[PAGE], out[LONGEST];
+    uint8_t memory[LARGEST], identification[CELLS], out[LONGEST];
 } side;
 
+/* the part at work, its row and the bytes before the data */
+static uint8_t part;
+static plain_row row;
+static size_t head;
+
 /* both slices as four arguments */
-#define LENT(one) (one).memory, MEMORY, (one).identification, PAGE
+#define LENT(one) (one).memory, row.size, (one).identification, row.page
 
 static side lib, plain;
 static uint8_t frame_bytes[LONGEST];
@@ -48,10 +54,24 @@ static double now(void)
 static void reset_side(side *one)
 {
     memset(one, 0, sizeof *one);
-    for (size_t i = 0; i < MEMORY; i++)
+    for (size_t i = 0; i < LARGEST; i++)
         one->memory[i] = (uint8_t)(i * 31 + (i >> 8));
-    plain_core_power_up(&one->core, CARTVESPER_M95512, 0, CYCLE, 0, 0, 0, 0);
-    plain_device_power_up(&one->device, CARTVESPER_M95512, 0, CYCLE, 0, 0, 0, 0);
+    plain_core_power_up(&one->core, part, 0, row.longest_cycle, 0, 0, 0, 0);
+    plain_device_power_up(&one->device, part, 0, row.longest_cycle, 0, 0, 0, 0);
+}
+
+static void choose_part(uint8_t chosen)
+{
+    part = chosen;
+    row = *plain_row_of(chosen);
+    head = plain_head(&row);
+}
+
+/* the address bytes of a frame, high byte first */
+static void put_address(uint8_t *bytes, uint32_t address)
+{
+    for (uint32_t i = row.address_bytes; i > 0; i--, address >>= 8)
+        bytes[i] = (uint8_t)address;
 }
 
 static void refused(void)
@@ -121,8 +141,7 @@ static void set_up_rdsr(void)
 static void set_up_read(void)
 {
     frame_bytes[0] = READ;
-    frame_bytes[1] = 0x12;
-    frame_bytes[2] = 0x34;
+    put_address(frame_bytes, 0x1234);
     frame_length = 259;
 }
 
@@ -137,16 +156,15 @@ static void set_up_long_read(void)
 static void set_up_write(void)
 {
     frame_bytes[0] = WRITE;
-    frame_length = 3 + PAGE;
-    for (size_t i = 0; i < PAGE; i++)
-        frame_bytes[3 + i] = (uint8_t)(i * 7);
+    frame_length = head + row.page;
+    for (size_t i = 0; i < row.page; i++)
+        frame_bytes[head + i] = (uint8_t)(i * 7);
 }
 
 /* the next page, from the middle of it */
 static void next_address(size_t n)
 {
-    frame_bytes[1] = (uint8_t)(n >> 1);
-    frame_bytes[2] = (uint8_t)(n << 7 | 0x40);
+    put_address(frame_bytes, (uint32_t)n * row.page + row.page / 2);
 }
 
 static void lib_writes(size_t n)
@@ -157,7 +175,8 @@ static void lib_writes(size_t n)
         cartvesper_frame_answer write =
             cartvesper_frame(wren.core, LENT(lib), 1, frame_bytes, frame_length, 8 * frame_length, lib.out,
                              frame_length);
-        cartvesper_core_answer end = cartvesper_clock_reading(write.core, write.core.last + CYCLE, LENT(lib));
+        cartvesper_core_answer end =
+            cartvesper_clock_reading(write.core, write.core.last + row.longest_cycle, LENT(lib));
         if (wren.number || write.number || end.number)
             refused();
         lib.core = end.core;
@@ -170,7 +189,7 @@ static void plain_writes(size_t n)
         next_address(n);
         plain_send(wren_byte, 1);
         plain_send(frame_bytes, frame_length);
-        plain_time(&plain.core, plain.memory, plain.identification, plain.core.last + CYCLE);
+        plain_time(&plain.core, plain.memory, plain.identification, plain.core.last + row.longest_cycle);
     }
 }
 
@@ -183,7 +202,7 @@ static void tested_writes(size_t n)
         test_core();
         plain_send(frame_bytes, frame_length);
         test_core();
-        plain_time(&plain.core, plain.memory, plain.identification, plain.core.last + CYCLE);
+        plain_time(&plain.core, plain.memory, plain.identification, plain.core.last + row.longest_cycle);
     }
 }
 
@@ -195,7 +214,8 @@ static void call_writes(size_t n)
         cartvesper_frame_answer write =
             plain_frame_call(wren.core, LENT(plain), 1, frame_bytes, frame_length, 8 * frame_length, plain.out,
                              frame_length);
-        cartvesper_core_answer end = plain_clock_reading_call(write.core, write.core.last + CYCLE, LENT(plain));
+        cartvesper_core_answer end =
+            plain_clock_reading_call(write.core, write.core.last + row.longest_cycle, LENT(plain));
         if (wren.number || write.number || end.number)
             refused();
         plain.core = end.core;
@@ -220,30 +240,34 @@ static void draw_frame(const uint8_t *bytes, size_t length)
     emit(SET_S, 1);
 }
 
+/* here and there in the whole memory */
+static uint32_t stream_address(uint32_t i)
+{
+    return i * 17 * (row.size / 256) + i * 29 % 256;
+}
+
 static void set_up_read_stream(void)
 {
-    uint8_t bytes[3 + 64] = {READ, 0, 0};
+    uint8_t bytes[HEAD + DATA] = {READ};
     event_count = 0;
-    for (int i = 0; i < 16; i++) {
-        bytes[1] = (uint8_t)(i * 17);
-        bytes[2] = (uint8_t)(i * 29);
-        draw_frame(bytes, sizeof bytes);
+    for (uint32_t i = 0; i < 16; i++) {
+        put_address(bytes, stream_address(i));
+        draw_frame(bytes, head + DATA);
     }
 }
 
 static void set_up_write_stream(void)
 {
-    uint8_t bytes[3 + 64] = {WRITE, 0, 0};
+    uint8_t bytes[HEAD + DATA] = {WRITE};
     event_count = 0;
-    for (int i = 0; i < 16; i++) {
-        for (int k = 0; k < 64; k++)
-            bytes[3 + k] = (uint8_t)(i * k);
-        bytes[1] = (uint8_t)(i * 17);
-        bytes[2] = (uint8_t)(i * 29);
+    for (uint32_t i = 0; i < 16; i++) {
+        for (uint32_t k = 0; k < DATA; k++)
+            bytes[head + k] = (uint8_t)(i * k);
+        put_address(bytes, stream_address(i));
         draw_frame(wren_byte, 1);
-        draw_frame(bytes, sizeof bytes);
+        draw_frame(bytes, head + DATA);
         /* from the last to the first again counts as nearly a full turn: ends the cycle too */
-        emit(CLOCK, (uint32_t)(i + 1) * CYCLE);
+        emit(CLOCK, (i + 1) * row.longest_cycle);
     }
 }
 
@@ -355,7 +379,7 @@ static void plain_plays(size_t n)
 static void tested_plays(size_t n)
 {
     while (n-- > 0) {
-        if (plain_play_refusal(&plain.device, MEMORY, PAGE, events, event_count, event_count))
+        if (plain_play_refusal(&plain.device, row.size, row.page, events, event_count, event_count))
             refused();
         plain_play(&plain.device, plain.memory, plain.identification, events, event_count, plain.out);
     }
@@ -374,12 +398,12 @@ static void call_plays(size_t n)
 
 /* ---- the driver writes the whole memory; operation = the run of 512 pages */
 
-static uint8_t run_bytes[MEMORY];
+static uint8_t run_bytes[LARGEST];
 static uint32_t run_interval;
 
 static void set_up_run(void)
 {
-    for (size_t i = 0; i < MEMORY; i++)
+    for (size_t i = 0; i < LARGEST; i++)
         run_bytes[i] = (uint8_t)(i * 5 + (i >> 7));
     run_interval = 1000;
 }
@@ -394,7 +418,7 @@ static void lib_runs(size_t n)
 {
     while (n-- > 0) {
         cartvesper_driver_answer a =
-            cartvesper_write(lib.core, LENT(lib), 0, run_bytes, MEMORY, run_interval, CYCLE + 1);
+            cartvesper_write(lib.core, LENT(lib), 0, run_bytes, row.size, run_interval, plain_most_polls(&row));
         if (a.number)
             refused();
         lib.core = a.core;
@@ -405,8 +429,8 @@ static void plain_runs(size_t n)
 {
     uint32_t pages, frames;
     while (n-- > 0)
-        if (plain_write(&plain.core, plain.memory, plain.identification, 0, run_bytes, MEMORY, run_interval, CYCLE + 1,
-                        &pages, &frames))
+        if (plain_write(&plain.core, plain.memory, plain.identification, 0, run_bytes, row.size, run_interval,
+                        plain_most_polls(&row), &pages, &frames))
             refused();
 }
 
@@ -423,7 +447,7 @@ static void call_runs(size_t n)
 {
     while (n-- > 0) {
         cartvesper_driver_answer a =
-            plain_write_call(plain.core, LENT(plain), 0, run_bytes, MEMORY, run_interval, CYCLE + 1);
+            plain_write_call(plain.core, LENT(plain), 0, run_bytes, row.size, run_interval, plain_most_polls(&row));
         if (a.number)
             refused();
         plain.core = a.core;
@@ -434,24 +458,36 @@ static void call_runs(size_t n)
 
 typedef struct {
     const char *name;
+    uint8_t part;
     void (*set_up)(void);
     void (*lib)(size_t), (*plain)(size_t), (*call)(size_t), (*tested)(size_t);
     size_t before; /* runs that are not timed: every page once, so that both memories end the same */
     int is_stream; /* an operation is one event */
 } speed_case;
 
+#define FRAMES lib_frames, plain_frames, call_frames, tested_frames, 512, 0
+#define WRITES lib_writes, plain_writes, call_writes, tested_writes, 512, 0
+#define SINGLES lib_events, plain_events, call_events, tested_events, 512, 1
+#define LISTS lib_play, plain_plays, call_plays, tested_plays, 512, 1
+#define RUNS lib_runs, plain_runs, call_runs, tested_runs, 1, 0
+
 static const speed_case cases[] = {
-    {"frame RDSR, 2 bytes", set_up_rdsr, lib_frames, plain_frames, call_frames, tested_frames, 512, 0},
-    {"frame READ, 259 bytes", set_up_read, lib_frames, plain_frames, call_frames, tested_frames, 512, 0},
-    {"frame READ, 65,539 bytes", set_up_long_read, lib_frames, plain_frames, call_frames, tested_frames, 512, 0},
-    {"WREN, WRITE of 128 bytes, cycle's end", set_up_write, lib_writes, plain_writes, call_writes, tested_writes, 512, 0},
-    {"pin event, READ frames, one by one", set_up_read_stream, lib_events, plain_events, call_events, tested_events, 512, 1},
-    {"pin event, WRITE frames, one by one", set_up_write_stream, lib_events, plain_events, call_events, tested_events, 512, 1},
-    {"pin event, READ frames, as a list", set_up_read_stream, lib_play, plain_plays, call_plays, tested_plays, 512, 1},
-    {"pin event, WRITE frames, as a list", set_up_write_stream, lib_play, plain_plays, call_plays, tested_plays, 512, 1},
-    {"pin event, RDSR polls, as a list", set_up_poll_stream, lib_play, plain_plays, call_plays, tested_plays, 512, 1},
-    {"driver, 65,536 bytes, interval 1,000", set_up_run, lib_runs, plain_runs, call_runs, tested_runs, 1, 0},
-    {"driver, 65,536 bytes, interval 1", set_up_fine_run, lib_runs, plain_runs, call_runs, tested_runs, 1, 0},
+    {"frame RDSR, 2 bytes", M95512, set_up_rdsr, FRAMES},
+    {"frame READ, 259 bytes", M95512, set_up_read, FRAMES},
+    {"frame READ, 65,539 bytes", M95512, set_up_long_read, FRAMES},
+    {"WREN, WRITE of 128 bytes, cycle's end", M95512, set_up_write, WRITES},
+    {"pin event, READ frames, one by one", M95512, set_up_read_stream, SINGLES},
+    {"pin event, WRITE frames, one by one", M95512, set_up_write_stream, SINGLES},
+    {"pin event, READ frames, as a list", M95512, set_up_read_stream, LISTS},
+    {"pin event, WRITE frames, as a list", M95512, set_up_write_stream, LISTS},
+    {"pin event, RDSR polls, as a list", M95512, set_up_poll_stream, LISTS},
+    {"driver, 65,536 bytes, interval 1,000", M95512, set_up_run, RUNS},
+    {"driver, 65,536 bytes, interval 1", M95512, set_up_fine_run, RUNS},
+    {"M95M01, frame READ, 259 bytes", M95M01, set_up_read, FRAMES},
+    {"M95M01, WREN, WRITE of 256 bytes, cycle's end", M95M01, set_up_write, WRITES},
+    {"M95M01, pin event, READ frames, as a list", M95M01, set_up_read_stream, LISTS},
+    {"M95M01, pin event, WRITE frames, as a list", M95M01, set_up_write_stream, LISTS},
+    {"M95M01, driver, 131,072 bytes, interval 1,000", M95M01, set_up_run, RUNS},
 };
 
 static double timed(void (*run)(size_t), size_t n)
@@ -472,8 +508,8 @@ static size_t calibrate(void (*run)(size_t))
 
 static void check_same(const char *name)
 {
-    if (memcmp(lib.memory, plain.memory, MEMORY) != 0 || memcmp(lib.out, plain.out, LONGEST) != 0 ||
-        memcmp(lib.identification, plain.identification, PAGE) != 0) {
+    if (memcmp(lib.memory, plain.memory, LARGEST) != 0 || memcmp(lib.out, plain.out, LONGEST) != 0 ||
+        memcmp(lib.identification, plain.identification, CELLS) != 0) {
         fprintf(stderr, "speed: the two sides differ after: %s\n", name);
         exit(1);
     }
@@ -496,6 +532,7 @@ static void run_case(const speed_case *one, int through_call)
 {
     clocked sides[3] = {{one->lib, 0, 0, 0}, {through_call ? one->call : one->plain, 0, 0, 0}, {one->tested, 0, 0, 0}};
     double ns[3], each;
+    choose_part(one->part);
     reset_side(&lib);
     reset_side(&plain);
     one->set_up();
@@ -510,7 +547,7 @@ static void run_case(const speed_case *one, int through_call)
     each = one->is_stream ? (double)event_count : 1;
     for (int k = 0; k < 3; k++)
         ns[k] = sides[k].time / sides[k].runs / each;
-    printf("%-40s %14.2f %14.2f %8.2f %14.2f %8.2f\n", one->name, ns[0], ns[1], ns[1] / ns[0], ns[2], ns[2] / ns[0]);
+    printf("%-46s %14.2f %14.2f %8.2f %14.2f %8.2f\n", one->name, ns[0], ns[1], ns[1] / ns[0], ns[2], ns[2] / ns[0]);
     fflush(stdout);
 }
 
@@ -518,7 +555,8 @@ int main(int argc, char **argv)
 {
     int through_call = argc > 1 && strcmp(argv[1], "call") == 0;
     printf("C compiler: %s %s\n", COMPILER, __VERSION__);
-    printf("%-40s %14s %14s %8s %14s %8s\n", "", "library ns", through_call ? "call ns" : "plain ns", "ratio", "tested ns", "ratio");
+    printf("%-46s %14s %14s %8s %14s %8s\n", "", "library ns", through_call ? "call ns" : "plain ns", "ratio",
+           "tested ns", "ratio");
     for (size_t i = 0; i < sizeof cases / sizeof *cases; i++)
         run_case(&cases[i], through_call);
     return 0;

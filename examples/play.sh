@@ -1,6 +1,7 @@
 #!/bin/sh
-# play.sh [--part M95512|M95512-D] [FILE.trace ..]: proves the player and plays each trace, on the M95512 or on the part
-# named; with no trace named, plays every example and compares it with its .out file. `play.sh --help` prints this.
+# play.sh [--part M95512|M95512-D|M95M01] [FILE.trace ..]: proves the player and plays each trace, on the M95512 or on
+# the part named; with no trace named, plays every example and compares it with its .out file. `play.sh --help` prints
+# this.
 # What is proved and has not changed is not proved again.
 # The player is an x86-64 program: on Arm the toolchain's own emulator runs it.
 set -eu
@@ -12,7 +13,7 @@ case ${1-} in
     ;;
 --part)
     [ $# -gt 1 ] || {
-        echo "play.sh: after --part comes M95512 or M95512-D" >&2
+        echo "play.sh: after --part comes M95512, M95512-D or M95M01" >&2
         exit 2
     }
     part=$2
@@ -54,7 +55,8 @@ for trace in "$here"/*.trace; do
     name=$(basename "$trace" .trace)
     on=$part
     case $name in
-    lock) on=M95512-D ;; # the part that has an identification page
+    lock) on=M95512-D ;; # a part that has an identification page
+    megabit) on=M95M01 ;; # the part with three address bytes
     esac
     if play ${on:+--part "$on"} "$trace" | cmp -s - "$here/$name.out"; then
         echo "$name: as its answer"

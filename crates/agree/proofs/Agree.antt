@@ -69,10 +69,10 @@ module _ (P : Part) (sound : Sound P) where
     unfolding framedOutput
     framed-output = at-yes _ _ (ap isDone (done (length (replicate (length s) 0)) (length-replicate (length s) 0)))
 
-    frame-seen : seenOf asOne P m c (noFrame P) (bitsOf s n) ≡ bitsOf (framedOutput P c (m .memory) (m .identification) s n (replicate (length s) 0)) n
+    frame-seen : seenOf asOne P m c noFrame (bitsOf s n) ≡ bitsOf (framedOutput P c (m .memory) (m .identification) s n (replicate (length s) 0)) n
     frame-seen =
         let few = few-unused (length s) n (sendable .counted) in
-        seen-bytes P sound m c asOne onQ shown-bit s n 0 (noFrame P) none (sendable .bytes)
+        seen-bytes P sound m c asOne onQ shown-bit s n 0 noFrame none (sendable .bytes)
         ∙ ap (λ l. take n (flat l)) (seen-table P sound (steady m c) m (lockByte c) (steady-still m c) s)
         ∙ sym (ap (λ l. take n (flat l)) framed-output ∙ padding (few .0) (few .1))
       where
@@ -83,16 +83,16 @@ module _ (P : Part) (sound : Sound P) where
             → take n (flat (output P (running c) v s n)) ≡ take n (flat (table (length s) shown))
         padding h k = unfold output table in pad-bits shown (length s) (8 * length s - n) k (length s) 0 n (omega arith) (omega arith)
 
-    frame-levels-seen : seenOf (λ l. l) P m c (noFrame P) (bitsOf s n) ≡ outputLevels P (lentBench c m) s n
+    frame-levels-seen : seenOf (λ l. l) P m c noFrame (bitsOf s n) ≡ outputLevels P (lentBench c m) s n
     frame-levels-seen =
         let few = few-unused (length s) n (sendable .counted) in
         frame-levels P sound m c s n (sendable .bytes) (few .0)
         ∙ ap₂ levelled (sym (at-yes _ _ (ap isDone (done (length s) refl)))) frame-seen
 
-    frame-core : decides P c w (endOf P m c (noFrame P) (bitsOf s n)) ≡ after P (running c) w c s n
+    frame-core : decides P c w (endOf P m c noFrame (bitsOf s n)) ≡ after P (running c) w c s n
     frame-core =
         let few = few-unused (length s) n (sendable .counted) in
-        end-bytes P sound m c s n 0 (noFrame P) w none (sendable .bytes) (few .0)
+        end-bytes P sound m c s n 0 noFrame w none (sendable .bytes) (few .0)
         ∙ end-table P sound (steady m c) c w s n (few .0) (omega arith)
 
   -- ---- the start: an unselected device inside its ranges
@@ -132,7 +132,7 @@ module _ (P : Part) (sound : Sound P) where
   -- what is noted of each frame is what the ticks see of it: so it is with any list
   same-seen : {A : Type 0} (look : Level → A) (note : Part → FrameBench → List ℕ → ℕ → List A)
       → ((w : Bool) (c : Core) (m : Lent) (s : List ℕ) (n : ℕ) → Within P c → Fitting P m → Sendable P s n
-      → seenOf look P m c (noFrame P) (bitsOf s n) ≡ note P (lentBench c m) s n)
+      → seenOf look P m c noFrame (bitsOf s n) ≡ note P (lentBench c m) s n)
       → SameSeen look note P
   unfolding SameSeen
   same-seen look note noted b ks es u r =

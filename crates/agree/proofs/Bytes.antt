@@ -198,7 +198,7 @@ module _ (P : Part) (sound : Sound P) (m : Lent) (c : Core) where
 
   -- a byte's start: no bit taken, and nothing or the first bit shown
   pub data Reached : ℕ → Frame → Type 0 where
-    none : Reached 0 (noFrame P)
+    none : Reached 0 noFrame
     some : (v j a x o : ℕ) (l : Latch) → 1 ≤ j → Reached j (afterBytes P sound T v j a x o (shownAt (drives P sound T (decode P v) j) 0) l)
 
   as-mid : (j : ℕ) (f : Frame) → Reached j f → f ≡ midByte (drivesNow f) 0 0 f

@@ -101,7 +101,7 @@ module _ (P : Part) (sound : Sound P) where
 
 module _ (P : Part) (sound : Sound P) (T : Course) (c : Core) (w : Bool) where
   abbrev unlatched : Latch
-  unlatched = noLatch P
+  unlatched = noLatch
 
   -- a frame of n bits, of the instruction i, with its address, the data byte that its row looks at, its value and its latch
   abbrev Judge : Instruction → ℕ → ℕ → ℕ → Bool
@@ -170,7 +170,7 @@ module _ (P : Part) (sound : Sound P) (T : Course) (c : Core) (w : Bool) where
 
   -- ---- WRSR: the code and its data byte
 
-  wrsr-two : (u v : ℕ) → decode P v ≡ Wrsr → bytesEnd P sound T 1 (step P sound T 0 v (noFrame P)) (u ∷ []) ≡ afterBytes P sound T v 2 0 u 0 0 unlatched
+  wrsr-two : (u v : ℕ) → decode P v ≡ Wrsr → bytesEnd P sound T 1 (step P sound T 0 v noFrame) (u ∷ []) ≡ afterBytes P sound T v 2 0 u 0 0 unlatched
   unfolding bytesEnd pick
   wrsr-two u v e =
       ap (λ f. step P sound T 1 u f) (step-first P sound T Wrsr v e)
@@ -335,12 +335,12 @@ module _ (P : Part) (sound : Sound P) (T : Course) (c : Core) (w : Bool) where
   page-same n A i x y p q l page =
       let a = cell P sound (A / P .page) i in
       ap₂ (λ r t. pick (isExecuted (verdictBy r n (T .runs 0) (on (c .wel)) (on (c .srwd) && not w) (barred P c Wrid A) false))
-      (withCycle (pick t (lockWaits P) (identificationWaits l)) c) c)
+      (withCycle (pick t lockWaits (identificationWaits l)) c) c)
       (page-row P a x A y (page-picks A i ∙ page) page) (page-picks A i)
 
   lock-same : (n A x p q : ℕ) (l k : Latch) → picksLock A ≡ true → Does Wrid n A x p l ≡ Does Wrid n A x q k
   lock-same n A x p q l k lock =
-      ap (λ t. pick (Judge Wrid n A x) (withCycle t c) c) (at-yes (lockWaits P) (identificationWaits l) lock ∙ sym (at-yes (lockWaits P) (identificationWaits k) lock))
+      ap (λ t. pick (Judge Wrid n A x) (withCycle t c) c) (at-yes lockWaits (identificationWaits l) lock ∙ sym (at-yes lockWaits (identificationWaits k) lock))
 
   one-byte : (vs : List ℕ) → length vs ≡ 1 → vs ≡ getD vs 0 0 ∷ []
   one-byte [] e = absurd (omega arith)
@@ -355,7 +355,7 @@ module _ (P : Part) (sound : Sound P) (T : Course) (c : Core) (w : Bool) where
     s = v ∷ vs
 
     abbrev End : Core
-    End = decidesAt P c w k (bytesEnd P sound T 1 (step P sound T 0 v (noFrame P)) (take j vs))
+    End = decidesAt P c w k (bytesEnd P sound T 1 (step P sound T 0 v noFrame) (take j vs))
 
     -- the data byte that the row looks at: the first after the address
     abbrev first : ℕ
@@ -391,7 +391,7 @@ module _ (P : Part) (sound : Sound P) (T : Course) (c : Core) (w : Bool) where
         let one : vs ≡ u ∷ [] = one-byte vs (omega arith) in
         let second : j ≡ 1 = omega arith in
         let same : 8 * 2 + k ≡ n = omega arith in
-        ap₂ (λ y l. decidesAt P c w k (bytesEnd P sound T 1 (step P sound T 0 v (noFrame P)) (take y l))) second one
+        ap₂ (λ y l. decidesAt P c w k (bytesEnd P sound T 1 (step P sound T 0 v noFrame) (take y l))) second one
         ∙ ap (decidesAt P c w k) (wrsr-two u v e)
         ∙ decides-bytes Wrsr v 2 k 0 u 0 0 unlatched e past
         ∙ ap (λ y. Does Wrsr y 0 u u unlatched) same
@@ -417,16 +417,16 @@ module _ (P : Part) (sound : Sound P) (T : Course) (c : Core) (w : Bool) where
       count-all = let rest : length (drop (P .addressBytes) vs) ≡ length vs - P .addressBytes = length-drop (P .addressBytes) vs in omega (arith, long)
 
       -- its address is in
-      addressed : (i : Instruction) → Writer i → step P sound T 0 v (noFrame P) ≡ afterBytes P sound T v 1 0 0 0 0 unlatched → decode P v ≡ i
+      addressed : (i : Instruction) → Writer i → step P sound T 0 v noFrame ≡ afterBytes P sound T v 1 0 0 0 0 unlatched → decode P v ≡ i
           → End ≡ decidesAt P c w k (bytesEnd P sound T (suc (P .addressBytes)) (afterBytes P sound T v (suc (P .addressBytes)) (address P s) 0 0 0 unlatched) (payload P s))
       addressed i t begun e =
-          ap (λ l. decidesAt P c w k (bytesEnd P sound T 1 (step P sound T 0 v (noFrame P)) l)) (take-all j vs (omega (arith, most, even)))
+          ap (λ l. decidesAt P c w k (bytesEnd P sound T 1 (step P sound T 0 v noFrame) l)) (take-all j vs (omega (arith, most, even)))
           ∙ ap (λ g. decidesAt P c w k (bytesEnd P sound T 1 g vs)) begun
           ∙ ap (decidesAt P c w k) (address-whole i t s vs v (P .addressBytes) 0 e (omega arith) (omega (arith, long))
           (λ x. let next : suc x ≡ suc 0 + x = omega arith in ap (λ y. getD s y 0) next))
 
       -- its data is latched
-      latched-end : (i : Instruction) → Latches i (address P s / P .page) → step P sound T 0 v (noFrame P) ≡ afterBytes P sound T v 1 0 0 0 0 unlatched
+      latched-end : (i : Instruction) → Latches i (address P s / P .page) → step P sound T 0 v noFrame ≡ afterBytes P sound T v 1 0 0 0 0 unlatched
           → decode P v ≡ i
           → End ≡ Does i n (cell P sound (address P s / P .page) (address P s % P .page + length (payload P s))) 0 0 (written P s)
       latched-end i t begun e =
@@ -491,7 +491,7 @@ module _ (P : Part) (sound : Sound P) (T : Course) (c : Core) (w : Bool) where
 
   -- ---- any frame
 
-  short-end : (s : List ℕ) (n : ℕ) → n < 8 → decidesAt P c w n (noFrame P) ≡ after P (T .runs 0) w c s n
+  short-end : (s : List ℕ) (n : ℕ) → n < 8 → decidesAt P c w n noFrame ≡ after P (T .runs 0) w c s n
   unfolding decidesAt
   short-end s n h =
       at-no _ _ (cut-short P (decode P 0) 0 0 (8 * 0 + n) (on 0) (on (c .wel)) (on (c .srwd) && not (on (bit w))) (barred P c (decode P 0) 0) (on 0) (omega arith))
@@ -499,14 +499,14 @@ module _ (P : Part) (sound : Sound P) (T : Course) (c : Core) (w : Bool) where
       (barred P c (instruction P s) (address P s)) false h))
 
   end-by : (s : List ℕ) (n j : ℕ) → n / 8 ≡ j → n ≤ 8 * length s → 8 * length s < n + 8
-      → decidesAt P c w (n % 8) (bytesEnd P sound T 0 (noFrame P) (take j s)) ≡ after P (T .runs 0) w c s n
+      → decidesAt P c w (n % 8) (bytesEnd P sound T 0 noFrame (take j s)) ≡ after P (T .runs 0) w c s n
   unfolding bytesEnd
   end-by s n zero q u l =
       let all : n % 8 ≡ n = omega arith in
-      ap (λ y. decidesAt P c w y (noFrame P)) all ∙ short-end s n (omega arith)
+      ap (λ y. decidesAt P c w y noFrame) all ∙ short-end s n (omega arith)
   end-by [] n (suc j) q u l = absurd (omega arith)
   end-by (v ∷ vs) n (suc j) q u l = code-end v vs n j (n % 8) (omega arith) (omega arith) u l (decode P v) refl
 
   pub end-table : (s : List ℕ) (n : ℕ) → n ≤ 8 * length s → 8 * length s < n + 8
-      → decidesAt P c w (n % 8) (bytesEnd P sound T 0 (noFrame P) (take (n / 8) s)) ≡ after P (T .runs 0) w c s n
+      → decidesAt P c w (n % 8) (bytesEnd P sound T 0 noFrame (take (n / 8) s)) ≡ after P (T .runs 0) w c s n
   end-table s n u l = end-by s n (n / 8) refl u l

@@ -206,7 +206,7 @@ module _ (P : Part) (sound : Sound P) (T : Course) where
       (ap (λ f. bytesSeen P sound T over (suc j) f us) (step-more P sound T i u v j a x o z l e k)
       ∙ driven-more i us v (suc j) _ _ _ _ _ e (omega arith))
 
-  driven-table : (s : List ℕ) → bytesSeen P sound T over 0 (noFrame P) s ≡ table (length s) (λ n. eight (outputs P (instruction P s) n (T .runs 0)))
+  driven-table : (s : List ℕ) → bytesSeen P sound T over 0 noFrame s ≡ table (length s) (λ n. eight (outputs P (instruction P s) n (T .runs 0)))
   unfolding bytesSeen table from decode pick
   driven-table [] = refl
   driven-table (v ∷ vs) =
@@ -226,11 +226,11 @@ module _ (P : Part) (sound : Sound P) (m : Lent) (c : Core) where
       ap₂ (λ x l. x ∷ l) (level-of (shows f) false (ap first e)) (levels-are u (tick P m c b f) bs (ap rest e))
 
   pub frame-levels : (s : List ℕ) (n : ℕ) → ((i : ℕ) → getD s i 0 < 256) → n ≤ 8 * length s
-      → seenOf (λ l. l) P m c (noFrame P) (bitsOf s n) ≡ levelled (undriven P (instruction P s) (running c) n) (seenOf asOne P m c (noFrame P) (bitsOf s n))
+      → seenOf (λ l. l) P m c noFrame (bitsOf s n) ≡ levelled (undriven P (instruction P s) (running c) n) (seenOf asOne P m c noFrame (bitsOf s n))
   frame-levels s n small h =
       let all : n ≤ length (flat s) = omega (arith, flat-length s) in
-      levels-are (undriven P (instruction P s) (running c) n) (noFrame P) (bitsOf s n)
-      (seen-bytes P sound m c isDriven over driven-bit s n 0 (noFrame P) none small
+      levels-are (undriven P (instruction P s) (running c) n) noFrame (bitsOf s n)
+      (seen-bytes P sound m c isDriven over driven-bit s n 0 noFrame none small
       ∙ ap (λ l. take n (flat l)) (driven-table P sound (steady m c) s)
       ∙ undriven-marks (length s) n h P (instruction P s) (running c)
       ∙ ap (marks (undriven P (instruction P s) (running c) n)) (sym (length-take-le n (flat s) all)))

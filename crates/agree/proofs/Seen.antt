@@ -34,7 +34,7 @@ use Rattle.agree.proofs.Bytes.{onQ}
 
 module _ (P : Part) (sound : Sound P) (T : Course) (m : Lent) (lock : ℕ) (still : Still T m lock) where
   abbrev unlatched : Latch
-  unlatched = noLatch P
+  unlatched = noLatch
 
   -- the status by the data byte; the cells and the lock as they stay
   abbrev sight : Sights
@@ -207,7 +207,7 @@ module _ (P : Part) (sound : Sound P) (T : Course) (m : Lent) (lock : ℕ) (stil
             (λ x. let there : suc k + suc x ≡ suc (suc k) + x = omega arith in tail (suc x) ∙ ap (λ y. getD s y 0) there))
 
       read-table : (v k : ℕ) (vs : List ℕ) → decode P v ≡ i → k ≡ P .addressBytes
-          → bytesSeen P sound T onQ 1 (step P sound T 0 v (noFrame P)) vs ≡ from 1 (length vs) (Out i (address P (v ∷ vs)))
+          → bytesSeen P sound T onQ 1 (step P sound T 0 v noFrame) vs ≡ from 1 (length vs) (Out i (address P (v ∷ vs)))
       read-table v zero vs e q = absurd (omega (arith, sound .bytes-some))
       read-table v (suc n) vs e q =
           let quiet = quiet-fall i v 1 0 0 0 unlatched (read-off 1 (omega (arith, sound .bytes-some))) in
@@ -288,14 +288,14 @@ module _ (P : Part) (sound : Sound P) (T : Course) (m : Lent) (lock : ℕ) (stil
   -- ---- any frame
 
   hush-table : (i : Instruction) (v A : ℕ) (vs : List ℕ) → decode P v ≡ i → Hushed i → ((n : ℕ) → 255 ≡ Out i A n)
-      → bytesSeen P sound T onQ 1 (step P sound T 0 v (noFrame P)) vs ≡ from 1 (length vs) (Out i A)
+      → bytesSeen P sound T onQ 1 (step P sound T 0 v noFrame) vs ≡ from 1 (length vs) (Out i A)
   hush-table i v A vs e q d =
       ap (λ f. bytesSeen P sound T onQ 1 f vs) (step-first P sound T i v e)
       ∙ hush-seen i vs 1 v 1 _ _ _ _ _ e (omega arith) q
       ∙ ap (λ g. from 1 (length vs) g) (fun-ext d)
 
   tail-table : (i : Instruction) (b : Bool) (v : ℕ) (vs : List ℕ) → decode P v ≡ i → T .runs 0 ≡ b
-      → bytesSeen P sound T onQ 1 (step P sound T 0 v (noFrame P)) vs ≡ from 1 (length vs) (Out i (address P (v ∷ vs)))
+      → bytesSeen P sound T onQ 1 (step P sound T 0 v noFrame) vs ≡ from 1 (length vs) (Out i (address P (v ∷ vs)))
   unfolding pick
   tail-table Wren b v vs e r = hush-table Wren v (address P (v ∷ vs)) vs e (λ n. refl) (λ n. refl)
   tail-table Wrdi b v vs e r = hush-table Wrdi v (address P (v ∷ vs)) vs e (λ n. refl) (λ n. refl)
@@ -326,7 +326,7 @@ module _ (P : Part) (sound : Sound P) (T : Course) (m : Lent) (lock : ℕ) (stil
   head-table Wrid A = refl
   head-table Silence A = refl
 
-  pub seen-table : (s : List ℕ) → bytesSeen P sound T onQ 0 (noFrame P) s ≡ table (length s) (Out (instruction P s) (address P s))
+  pub seen-table : (s : List ℕ) → bytesSeen P sound T onQ 0 noFrame s ≡ table (length s) (Out (instruction P s) (address P s))
   unfolding bytesSeen table from decode pick
   seen-table [] = refl
   seen-table (v ∷ vs) = ap₂ (λ b l. b ∷ l) (head-table (decode P v) (address P (v ∷ vs))) (tail-table (decode P v) (T .runs 0) v vs refl refl)

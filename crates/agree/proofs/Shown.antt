@@ -7,7 +7,7 @@ use lib.ListN.{getD, length-replicate}
 use Rattle.laws.specs.Pick.{pick}
 use Rattle.laws.specs.Each.{each}
 use Rattle.laws.specs.Table.{from, table}
-use Rattle.codes.specs.Part.{m95512, m95512d}
+use Rattle.codes.specs.Part.{m95512, m95512d, m95m01, partOf}
 use Rattle.laws.specs.Bits.{bitOn}
 use Rattle.latch.specs.Latches.{zeros, stored}
 use Rattle.chip.specs.Records.{status, idle}
@@ -73,7 +73,7 @@ frames-seen = record { bits = refl; registers = refl; cell = refl }
 -- ---- and so the pin model, from the same device, whatever drawing of the list
 
 abbrev pub deliveredBench : PinBench
-deliveredBench = pinBench (resting m95512 delivered) (deliveredMemory m95512) (deliveredIdentification m95512)
+deliveredBench = pinBench (resting delivered) (deliveredMemory m95512) (deliveredIdentification m95512)
 
 unselected : Unselected m95512 deliveredBench
 unfolding deviceFits inRanges each pick decode zeros bitOn
@@ -87,7 +87,7 @@ unselected =
     }
 
 pub pins-seen : (es : List Event) → Wave m95512 (between false) false true [] acts es → Seen (watched asOne m95512 es [] deliveredBench)
-unfolding SameSeen run
+unfolding partOf pick SameSeen run
 pins-seen es r = subst Seen (sym (agreement 0 deliveredBench acts es unselected r)) frames-seen
 
 -- ---- the identification page of an M95512-D, and its lock
@@ -144,7 +144,7 @@ page-frames-seen = record { bits = refl; registers = refl; last = refl; first = 
 -- and so the pin model, from the same device
 
 abbrev pub deliveredBenchD : PinBench
-deliveredBenchD = pinBench (resting m95512d deliveredD) (deliveredMemory m95512d) (deliveredIdentification m95512d)
+deliveredBenchD = pinBench (resting deliveredD) (deliveredMemory m95512d) (deliveredIdentification m95512d)
 
 unselectedD : Unselected m95512d deliveredBenchD
 unfolding deviceFits inRanges each pick decode zeros bitOn
@@ -158,5 +158,57 @@ unselectedD =
     }
 
 pub page-pins-seen : (es : List Event) → Wave m95512d (between false) false true [] identificationActs es → PageSeen (watched asOne m95512d es [] deliveredBenchD)
-unfolding SameSeen identificationRun
+unfolding partOf pick SameSeen identificationRun
 page-pins-seen es r = subst PageSeen (sym (agreement 1 deliveredBenchD identificationActs es unselectedD r)) page-frames-seen
+
+-- ---- an M95M01: above FFFFh, with WRDI in the cycle
+
+-- as delivered
+abbrev pub deliveredM : Core
+deliveredM = idle 2 false false false false (m95m01 .longest) 0
+
+-- WREN; WRITE of 11h and 22h at 100FFh, the last cell of its page; WRDI in the cycle; RDSR; the clock reads 4,000; READ at 100FFh, with bits above A16
+abbrev pub megabitActs : List Act
+megabitActs =
+    frame true (0x06 ∷ []) 8 ∷ frame true (0x02 ∷ 0x01 ∷ 0x00 ∷ 0xff ∷ 0x11 ∷ 0x22 ∷ []) 48 ∷ frame true (0x04 ∷ []) 8 ∷ frame true (0x05 ∷ 0x00 ∷ []) 16
+    ∷ reading 4000 ∷ frame true (0x03 ∷ 0xff ∷ 0x00 ∷ 0xff ∷ 0x00 ∷ []) 40 ∷ []
+
+pub megabitRun : List (Report Bool)
+megabitRun = framesPlayed outputBits m95m01 megabitActs (frameBench deliveredM (deliveredMemory m95m01) (deliveredIdentification m95m01))
+
+abbrev pub memoryCells : ℕ → List (Report Bool) → List ℕ
+memoryCells i [] = []
+memoryCells i (r ∷ rs) = getD (r .bench .memory) i 0 ∷ memoryCells i rs
+
+-- what a bench sees: WEL 0 and WIP 1 on Q in the cycle; the cycle ends all the same; 11h in the last cell of the page, 22h in its first
+pub record MegabitSeen (rs : List (Report Bool)) : Type 0 where
+  pub bits :
+      bitsSeen rs
+      ≡ ones ∷ (ones ++ ones ++ ones ++ ones ++ ones ++ ones) ∷ ones ∷ (ones ++ one) ∷ (ones ++ ones ++ ones ++ ones ++ elevens) ∷ []
+  pub registers : statuses rs ≡ 2 ∷ 3 ∷ 1 ∷ 1 ∷ 0 ∷ []
+  pub last : memoryCells 0x100ff rs ≡ 0xff ∷ 0xff ∷ 0xff ∷ 0xff ∷ 0x11 ∷ []
+  pub first : memoryCells 0x10000 rs ≡ 0xff ∷ 0xff ∷ 0xff ∷ 0xff ∷ 0x22 ∷ []
+
+pub megabit-frames-seen : MegabitSeen megabitRun
+unfolding megabitRun framesPlayed framedOutput inRanges each pick verdictBy decode latchedFrom zeros bitOn timed timedCells stored table from output flat
+megabit-frames-seen = record { bits = refl; registers = refl; last = refl; first = refl }
+
+-- and so the pin model, from the same device
+
+abbrev pub deliveredBenchM : PinBench
+deliveredBenchM = pinBench (resting deliveredM) (deliveredMemory m95m01) (deliveredIdentification m95m01)
+
+unselectedM : Unselected m95m01 deliveredBenchM
+unfolding deviceFits inRanges each pick decode zeros bitOn
+unselectedM =
+    record {
+      fits = refl;
+      up = refl;
+      free = refl;
+      memory = length-replicate {A = ℕ} (m95m01 .size) 0xff;
+      identification = refl;
+    }
+
+pub megabit-pins-seen : (es : List Event) → Wave m95m01 (between false) false true [] megabitActs es → MegabitSeen (watched asOne m95m01 es [] deliveredBenchM)
+unfolding partOf pick SameSeen megabitRun
+megabit-pins-seen es r = subst MegabitSeen (sym (agreement 2 deliveredBenchM megabitActs es unselectedM r)) megabit-frames-seen

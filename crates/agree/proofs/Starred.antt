@@ -7,7 +7,7 @@ use lib.ListN.{length, getD}
 use Rattle.laws.specs.Pick.{pick, at-yes}
 use Rattle.laws.specs.Each.{each}
 use Rattle.laws.specs.Table.{from, table}
-use Rattle.codes.specs.Part.{m95512}
+use Rattle.codes.specs.Part.{m95512, partOf}
 use Rattle.laws.specs.Bits.{bitOn}
 use Rattle.latch.specs.Latches.{zeros, stored}
 use Rattle.codes.specs.Instructions.{decode}
@@ -42,7 +42,7 @@ unfolding framedOutput
 read-rolls m d out e k r = at-yes _ _ (ap isDone (read-taken (length m) (length d) (length out) e k r)) ∙ case-f m d
 
 pub starred : Starred
-unfolding framed pick inRanges each verdictBy decode latchedFrom zeros bitOn timed timedCells stored table from
+unfolding partOf framed pick inRanges each verdictBy decode latchedFrom zeros bitOn timed timedCells stored table from
 starred =
     record {
       a = refl;

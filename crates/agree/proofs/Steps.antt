@@ -263,9 +263,9 @@ module _ (P : Part) (sound : Sound P) (T : Course) where
   fall-starts i true v j a x o l e h = fall-as i true v j a x o l e ∙ starts i true v j a x o l h
   fall-starts i false v j a x o l e h = fall-as i false v j a x o l e ∙ starts i false v j a x o l h
 
-  pub first-is : (i : Instruction) (v : ℕ) → decode P v ≡ i → stepByte 0 false v (noFrame P) ≡ afterFall i v 1 0 0 0 (noLatch P)
+  pub first-is : (i : Instruction) (v : ℕ) → decode P v ≡ i → stepByte 0 false v noFrame ≡ afterFall i v 1 0 0 0 noLatch
   unfolding stepByte wholeByte pick
-  first-is i v e = fall-starts i false v 1 0 0 0 (noLatch P) e (λ q. absurd (true≢false (sym q)))
+  first-is i v e = fall-starts i false v 1 0 0 0 noLatch e (λ q. absurd (true≢false (sym q)))
 
   pub step-is : (i : Instruction) (u v j a x o z : ℕ) (l : Latch) → decode P v ≡ i → 1 ≤ j
       → let n = min (P .most) j in
@@ -301,7 +301,7 @@ module _ (P : Part) (sound : Sound P) (T : Course) where
   bytesEnd j f [] = f
   bytesEnd j f (v ∷ vs) = bytesEnd (suc j) (step j v f) vs
 
-  pub step-first : (i : Instruction) (v : ℕ) → decode P v ≡ i → step 0 v (noFrame P) ≡ afterFall i v 1 0 0 0 (noLatch P)
+  pub step-first : (i : Instruction) (v : ℕ) → decode P v ≡ i → step 0 v noFrame ≡ afterFall i v 1 0 0 0 noLatch
   unfolding step decode pick
   step-first i v e = first-is i v e
 

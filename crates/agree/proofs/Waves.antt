@@ -174,7 +174,7 @@ module _ {A : Type 0} (look : Level → A) (note : Part → FrameBench → List 
       (λ e. ap (λ n. decidesAs c w (decode P n) (loading P m c i f)) (same-code m c i f) ∙ decides-loading m c w i f))
       (λ e. refl)
 
-  fall-none : (m : Lent) (c : Core) → fallen P m c (noFrame P) ≡ noFrame P
+  fall-none : (m : Lent) (c : Core) → fallen P m c noFrame ≡ noFrame
   unfolding fallen decode pick
   fall-none m c = refl
 
@@ -184,8 +184,8 @@ module _ {A : Type 0} (look : Level → A) (note : Part → FrameBench → List 
   abbrev pub EachFrame : Type 0
   EachFrame =
       (w : Bool) (c : Core) (m : Lent) (s : List ℕ) (n : ℕ) → Within P c → Fitting P m → Sendable P s n
-      → (seenOf look P m c (noFrame P) (bitsOf s n) ≡ note P (lentBench c m) s n)
-      × ((decides P c w (endOf P m c (noFrame P) (bitsOf s n)) ≡ after P (running c) w c s n)
+      → (seenOf look P m c noFrame (bitsOf s n) ≡ note P (lentBench c m) s n)
+      × ((decides P c w (endOf P m c noFrame (bitsOf s n)) ≡ after P (running c) w c s n)
       × Within P (after P (running c) w c s n))
 
   module _ (each-frame : EachFrame) where
@@ -205,15 +205,15 @@ module _ {A : Type 0} (look : Level → A) (note : Part → FrameBench → List 
     says (clock′ {l = true} false r) = λ f c m k e. says r f c m k e
     says (clock′ {l = true} true r) = λ f c m k e. says r f c m k e
     says (reading′ t r) = λ f c m k e.
-        says r f (timed P t c) (lent (timedMemory P t c (m .memory)) (timedIdentification P t c (m .identification))) (timed-within P t c k)
+        says r f (timed t c) (lent (timedMemory P t c (m .memory)) (timedIdentification P t c (m .identification))) (timed-within P t c k)
         (timed-length waitsPage P t c (m .memory) ∙ e .0, timed-length waitsIdentification P t c (m .identification) ∙ e .1)
     says (protect′ v r) = λ f c m k e. says r f c m k e
     says (select′ {w = w} {ks = ks} mode0 s n h r) = λ f c m k e.
         let z = each-frame w c m s n k e h in
-        says r (noFrame P) c m [] (subst (Within P) (sym (z .1 .0)) (z .1 .1), e) ∙ ap₂ (reportThen ks m) (z .0) (z .1 .0)
+        says r noFrame c m [] (subst (Within P) (sym (z .1 .0)) (z .1 .1), e) ∙ ap₂ (reportThen ks m) (z .0) (z .1 .0)
     says (select′ {w = w} {ks = ks} mode3 s n h r) = λ f c m k e.
         let z = each-frame w c m s n k e h in
-        says r (noFrame P) c m [] (subst (λ g. Kept (bitsOf s n) w g c m) (sym (fall-none m c)) (subst (Within P) (sym (z .1 .0)) (z .1 .1), e))
+        says r noFrame c m [] (subst (λ g. Kept (bitsOf s n) w g c m) (sym (fall-none m c)) (subst (Within P) (sym (z .1 .0)) (z .1 .1), e))
         ∙ ap (λ g. ticksThen (bitsOf s n) ks w g c m []) (fall-none m c)
         ∙ ap₂ (reportThen ks m) (z .0) (z .1 .0)
     says (rise′ {d = d} {w = w} {bs = bs} {ks = ks} r) = λ f c m seen k.
@@ -222,11 +222,11 @@ module _ {A : Type 0} (look : Level → A) (note : Part → FrameBench → List 
         (append-assoc seen (look (shows f) ∷ []) (seenOf look P m c (tick P m c d f) bs))
     says (fall′ r) = λ f c m seen k. says r (fallen P m c f) c m seen k
     says (deselect′ {m = mode0} {w = w} {ks = ks} r) = λ f c m seen k.
-        ap (λ l. report seen (lentBench (decides P c w f) m) ∷ l) (says r (noFrame P) (decides P c w f) m (k .0) (k .1))
+        ap (λ l. report seen (lentBench (decides P c w f) m) ∷ l) (says r noFrame (decides P c w f) m (k .0) (k .1))
         ∙ ap (λ b. reportThen ks m b (decides P c w f)) (sym (append-nil seen))
     says (deselect′ {m = mode3} {w = w} {ks = ks} r) = λ f c m seen k.
         ap (λ l. report seen (lentBench (decides P c w f) m) ∷ l)
-        (says r (noFrame P) (decides P c w f) m (subst (Within P) (decides-fall m c w f) (k .0)) (k .1))
+        (says r noFrame (decides P c w f) m (subst (Within P) (decides-fall m c w f) (k .0)) (k .1))
         ∙ ap₂ (reportThen ks m) (sym (append-nil seen)) (sym (decides-fall m c w f))
     says (hold′ r) = λ f c m seen k. says r f c m seen k
     says (idle′ {l = false} false r) = λ f c m seen k. says r f c m seen k

@@ -158,9 +158,9 @@ run-kept (driven.Protected s) = at-no _ _ refl ∙ at-no _ _ refl ∙ at-yes _ _
 run-kept (driven.Refused r) = at-no _ _ (not-done r) ∙ at-no _ _ (not-late r) ∙ at-no _ _ (not-touched r) ∙ ap driven.Refused (refusal-kept r)
 
 abbrev pub hexOf : ℕ → HexReply
-hexOf n = pick (eqb n 0) hex.Done (pick (eqb n 12) hex.NotImported (hex.Refused (refusalOf n)))
+hexOf n = pick (eqb n 0) hex.Done (pick (eqb n 12) hex.NotTaken (hex.Refused (refusalOf n)))
 
 pub hex-kept : (x : HexReply) → hexOf (hexNumber x) ≡ x
 hex-kept hex.Done = at-yes _ _ refl
-hex-kept hex.NotImported = at-no _ _ refl ∙ at-yes _ _ refl
+hex-kept hex.NotTaken = at-no _ _ refl ∙ at-yes _ _ refl
 hex-kept (hex.Refused r) = at-no _ _ (not-done r) ∙ at-no _ _ (not-unimported r) ∙ ap hex.Refused (refusal-kept r)

@@ -8,7 +8,7 @@ use Rattle.laws.specs.Pick.{pick}
 use Rattle.codes.specs.Part.{Part}
 use Rattle.codes.specs.Status.{on}
 use Rattle.chip.specs.Lents.{Lent}
-use Rattle.chip.specs.Records.{ownPart, status}
+use Rattle.chip.specs.Records.{status}
 use Rattle.chip.specs.Ranges.{inRanges}
 use Rattle.latch.specs.declared.Latch.{Latch}
 use Rattle.laying.specs.Laying.{laidOver, layNumber}
@@ -96,7 +96,7 @@ abbrev pub devicePowerUpCall : ℕ → ℕ → ℕ → ℕ → ℕ → ℕ → �
 devicePowerUpCall part k cycle s b a t =
     pick (leb k 1 && leb s 1 && leb b 1 && leb a 1)
     (deviceAnswer (powerUpNumber part cycle) (powered part (on k) cycle (on s) (on b) (on a) t .device))
-    (deviceAnswer 2 (resting (ownPart delivered) delivered))
+    (deviceAnswer 2 (resting delivered))
 
 -- an event that sets a pin: y follows, or the device as it was
 abbrev pub pinCall : Part → ℕ → Device → Device → DeviceAnswer
@@ -110,7 +110,7 @@ clockPinCall P level y x m =
     (deviceAnswer (badLevel P (length (m .memory)) (length (m .identification))) x)
 
 abbrev pub deviceReadingCall : Part → Device → ℕ → Lent → DeviceAnswer
-deviceReadingCall P x t m = deviceAnswer (memoryNumber P x m) (answer (memoryOutcome P x m) (onTime P t x) x .device)
+deviceReadingCall P x t m = deviceAnswer (memoryNumber P x m) (answer (memoryOutcome P x m) (onTime t x) x .device)
 
 abbrev pub qCall : Part → Device → Value
 qCall P x = valueAnswer (recordNumber P x) (qAsked P x)
@@ -142,5 +142,5 @@ importCall P c m t = coreAnswer (importNumber P c m t) (importAnswer P c m t .co
 
 -- ---- one page write laid over another
 
-abbrev pub layCall : Part → Latch → Latch → LatchAnswer
-layCall P l k = record { number = layNumber P l k; latch = laidOver P l k .latch }
+abbrev pub layCall : Latch → Latch → LatchAnswer
+layCall l k = record { number = layNumber l k; latch = laidOver l k .latch }

@@ -2,7 +2,7 @@
 // at once.
 ghost use mathlib.Core.Path.{_≡_};
 ghost use lib.ListN.{length};
-ghost use Rattle.codes.specs.Part.{m95512};
+ghost use Rattle.codes.specs.Part.{partOf};
 ghost use Rattle.pins.specs.Devices.{devicePart};
 ghost use Rattle.codes.specs.Status.{on};
 ghost use Rattle.codes.specs.Refusals.{number};
@@ -116,10 +116,10 @@ pub extern "C" fn cartvesper_device_set_hold(device: Device, level: u8) -> Devic
 }
 
 // What lent slices of these lengths and a level of 2 get.
-pub(crate) fn bad_level(size: usize, cells: usize) -> u32
-    ensures { λ r. ⌜ r ≡ badLevel m95512 size cells ⌝ }
+pub(crate) fn bad_level(part: u8, size: usize, cells: usize) -> u32
+    ensures { λ r. ⌜ r ≡ badLevel (partOf part) size cells ⌝ }
 {
-    if lent_fits(size, cells) {
+    if lent_fits(part, size, cells) {
         return 2;
     }
     1
@@ -141,7 +141,10 @@ pub extern "C" fn cartvesper_device_set_c(
     if level <= 1 {
         return answered(device.set_c(level == 1, memory, identification));
     }
-    refused(bad_level(memory.len(), identification.len()), device)
+    refused(
+        bad_level(device.core.part, memory.len(), identification.len()),
+        device,
+    )
 }
 
 // A clock reading, which may end a cycle and store its page. Refusals 1, 2.

@@ -36,7 +36,7 @@ pub extern "C" fn cartvesper_frame(
         };
     }
     FrameAnswer {
-        number: bad_level(memory.len(), identification.len()),
+        number: bad_level(core.part, memory.len(), identification.len()),
         undriven: 0,
         core: core,
     }

@@ -1,6 +1,5 @@
 // One page write laid over another, for C.
 ghost use mathlib.Core.Path.{_≡_};
-ghost use Rattle.codes.specs.Part.{m95512};
 ghost use Rattle.bench.specs.Calls.{layCall};
 use crate::LatchAnswer;
 use latch::Latch;
@@ -8,7 +7,7 @@ use latch::Latch;
 // The later page write laid over the earlier. Refusal 2 where either is outside its ranges, with the earlier one.
 #[no_mangle]
 pub extern "C" fn cartvesper_lay(earlier: Latch, later: Latch) -> LatchAnswer
-    ensures { λ r. ⌜ r ≡ layCall m95512 earlier later ⌝ }
+    ensures { λ r. ⌜ r ≡ layCall earlier later ⌝ }
 {
     let laid = laying::lay(earlier, later);
     let outcome = laid.outcome;

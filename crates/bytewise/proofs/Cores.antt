@@ -70,10 +70,10 @@ both-first true true true true true i false = refl
 
 module _ (P : Part) (sound : Sound P) where
   -- an empty latch passes its test
-  empty-true : (may : Bool) → true ≡ latchFits P may (noLatch P)
+  empty-true : (may : Bool) → true ≡ latchFits P may noLatch
   empty-true may = sym (none-latched P may)
 
-  core-first : (c : Core) → inRanges P c ≡ (latchFits P (waitsLatch (c .waits)) (c .waits .latch) && inRanges P (coreWith (noLatch P) c))
+  core-first : (c : Core) → inRanges P c ≡ (latchFits P (waitsLatch (c .waits)) (c .waits .latch) && inRanges P (coreWith noLatch c))
   unfolding inRanges
   core-first c =
       let others = flagsFit c && timeFits P c && tied P c in
@@ -81,7 +81,7 @@ module _ (P : Part) (sound : Sound P) where
       let l = latchFits P (waitsLatch (c .waits)) (c .waits .latch) in
       last-first others waiting l ∙ ap (λ (t : Bool). l && (others && (waiting && t))) (empty-true (waitsLatch (c .waits)))
 
-  frame-first : (f : Frame) → frameFits P f ≡ (latchFits P (latches P (decode P (f .code)) (f .address) (f .taken)) (f .latch) && frameFits P (withLatch (noLatch P) f))
+  frame-first : (f : Frame) → frameFits P f ≡ (latchFits P (latches P (decode P (f .code)) (f .address) (f .taken)) (f .latch) && frameFits P (withLatch noLatch f))
   frame-first f =
       let i = decode P (f .code) in
       let others = countsFit P f && codeFits f in
@@ -89,18 +89,18 @@ module _ (P : Part) (sound : Sound P) where
       let l = latchFits P (latches P i (f .address) (f .taken)) (f .latch) in
       last-first others fields l ∙ ap (λ (t : Bool). l && (others && (fields && t))) (empty-true (latches P i (f .address) (f .taken)))
 
-  pub core-fits-same : (c : Core) → inRanges P c ≡ formCoreFits (byteForm P) P (coreViewed P (coreApart P c))
+  pub core-fits-same : (c : Core) → inRanges P c ≡ formCoreFits (byteForm P) P (coreViewed (coreApart c))
   core-fits-same c =
       core-first c
-      ∙ ap (λ (t : Bool). t && inRanges P (coreWith (noLatch P) c)) (sym (view-fits P sound (waitsLatch (c .waits)) (c .waits .latch)))
+      ∙ ap (λ (t : Bool). t && inRanges P (coreWith noLatch c)) (sym (view-fits P sound (waitsLatch (c .waits)) (c .waits .latch)))
 
-  pub fits-same : (x : Device) → deviceFits P x ≡ formFits (byteForm P) P (viewed P (apart P x))
+  pub fits-same : (x : Device) → deviceFits P x ≡ formFits (byteForm P) P (viewed (apart x))
   unfolding deviceFits
   fits-same x =
       let may = latches P (decode P (x .frame .code)) (x .frame .address) (x .frame .taken) in
       let pins = pinsFit (x .pins) && heldFits (x .pins) (x .held) in
-      let frame = frameFits P (withLatch (noLatch P) (x .frame)) in
-      let core = inRanges P (coreWith (noLatch P) (x .core)) in
+      let frame = frameFits P (withLatch noLatch (x .frame)) in
+      let core = inRanges P (coreWith noLatch (x .core)) in
       let l = latchFits P may (x .frame .latch) in
       let k = latchFits P (waitsLatch (x .core .waits)) (x .core .waits .latch) in
       ap₂ (λ (s t : Bool). pins && s && emptyFits x && ranFits x && t) (frame-first (x .frame)) (core-first (x .core))
@@ -128,7 +128,7 @@ module _ (P : Part) (sound : Sound P) where
   effect-waits Silence a v l c = refl
 
   effect-rest : (i : Instruction) (a v : ℕ) (l : Latch) (c : Core)
-      → coreWith (noLatch P) (effect P i a v l c) ≡ coreWith (noLatch P) (effect P i a v l (coreWith (noLatch P) c))
+      → coreWith noLatch (effect P i a v l c) ≡ coreWith noLatch (effect P i a v l (coreWith noLatch c))
   effect-rest Wren a v l c = refl
   effect-rest Wrdi a v l c = refl
   effect-rest Rdsr a v l c = refl
@@ -140,37 +140,37 @@ module _ (P : Part) (sound : Sound P) where
   effect-rest Silence a v l c = refl
 
   pub framed-same : (ran w : Bool) (c : Core) (s : List ℕ) (n : ℕ)
-      → coreViewed P (coreApart P (after P ran w c s n)) ≡ formFramed (byteForm P) P ran w s n (coreViewed P (coreApart P c))
+      → coreViewed (coreApart (after P ran w c s n)) ≡ formFramed (byteForm P) P ran w s n (coreViewed (coreApart c))
   framed-same ran w c s n =
       let t = isExecuted (judged P ran w c s n) in
       let i = instruction P s in
       let done = effect P i (address P s) (getD s 1 0) (written P s) c in
-      let rest-done = effect P i (address P s) (getD s 1 0) (written P s) (coreWith (noLatch P) c) in
+      let rest-done = effect P i (address P s) (getD s 1 0) (written P s) (coreWith noLatch c) in
       ap₂ apartOf
-      (pick-ap (coreWith (noLatch P)) t done c
-      ∙ ap (λ (d : Core). pick t d (coreWith (noLatch P) c)) (effect-rest i (address P s) (getD s 1 0) (written P s) c)
-      ∙ sym (pick-ap (coreWith (noLatch P)) t rest-done (coreWith (noLatch P) c)))
-      (pick-ap (λ (d : Core). view P (d .waits .latch)) t done c
-      ∙ ap (λ (b : Bytewise). pick t b (view P (c .waits .latch)))
-      (ap (view P) (effect-waits i (address P s) (getD s 1 0) (written P s) c)
+      (pick-ap (coreWith noLatch) t done c
+      ∙ ap (λ (d : Core). pick t d (coreWith noLatch c)) (effect-rest i (address P s) (getD s 1 0) (written P s) c)
+      ∙ sym (pick-ap (coreWith noLatch) t rest-done (coreWith noLatch c)))
+      (pick-ap (λ (d : Core). view (d .waits .latch)) t done c
+      ∙ ap (λ (b : Bytewise). pick t b (view (c .waits .latch)))
+      (ap view (effect-waits i (address P s) (getD s 1 0) (written P s) c)
       ∙ waits-viewed P sound (executedDeed i (address P s)) (written P s) (c .waits .latch)
-      ∙ ap (λ (b : Bytewise). waitsAfter (byteForm P) (executedDeed i (address P s)) b (view P (c .waits .latch))) (view-written P sound s)))
+      ∙ ap (λ (b : Bytewise). waitsAfter (byteForm P) (executedDeed i (address P s)) b (view (c .waits .latch))) (view-written P sound s)))
 
   -- ---- a reading
 
-  stopped-rest : (t : ℕ) (c : Core) → coreWith (noLatch P) (timed P t c) ≡ timed P t (coreWith (noLatch P) c)
+  stopped-rest : (t : ℕ) (c : Core) → coreWith noLatch (timed t c) ≡ timed t (coreWith noLatch c)
   unfolding timed
   stopped-rest t c =
-      both-ways (ends t c) (coreWith (noLatch P)) (λ d. d)
-      (both-ways (waitsStatus (c .waits)) (λ d. coreWith (noLatch P) (withTime t 0 (withoutCycle P d)))
-      (λ d. withTime t 0 (withoutCycle P d)) refl
-      (both-ways (waitsLock (c .waits)) (λ d. coreWith (noLatch P) (withTime t 0 (withoutCycle P d)))
-      (λ d. withTime t 0 (withoutCycle P d)) refl refl)) refl
+      both-ways (ends t c) (coreWith noLatch) (λ d. d)
+      (both-ways (waitsStatus (c .waits)) (λ d. coreWith noLatch (withTime t 0 (withoutCycle d)))
+      (λ d. withTime t 0 (withoutCycle d)) refl
+      (both-ways (waitsLock (c .waits)) (λ d. coreWith noLatch (withTime t 0 (withoutCycle d)))
+      (λ d. withTime t 0 (withoutCycle d)) refl refl)) refl
 
-  stopped-waits : (t : ℕ) (c : Core) → view P (timed P t c .waits .latch) ≡ pick (ends t c) (noBytes P) (view P (c .waits .latch))
+  stopped-waits : (t : ℕ) (c : Core) → view (timed t c .waits .latch) ≡ pick (ends t c) noBytes (view (c .waits .latch))
   unfolding timed
-  stopped-waits t c = both-ways (ends t c) (λ (d : Core). view P (d .waits .latch)) (λ b. b) (view-none P sound) refl
+  stopped-waits t c = both-ways (ends t c) (λ (d : Core). view (d .waits .latch)) (λ b. b) (view-none P sound) refl
 
   pub read-same : (t : ℕ) (c : Core)
-      → coreViewed P (coreApart P (timed P t c)) ≡ formRead (byteForm P) P t (coreViewed P (coreApart P c))
+      → coreViewed (coreApart (timed t c)) ≡ formRead (byteForm P) t (coreViewed (coreApart c))
   read-same t c = ap₂ apartOf (stopped-rest t c) (stopped-waits t c)

@@ -59,7 +59,7 @@ module _ (P : Part) (h w : Latch) where
     -- ---- S
 
     abbrev ended : Device → Core → Device
-    ended z c = withPins (withS 1 (x .pins)) (withHeld false (withFrame (noFrame P) (withCore c z)))
+    ended z c = withPins (withS 1 (x .pins)) (withHeld false (withFrame noFrame (withCore c z)))
 
     does-execute : (i : Instruction) (a v : ℕ)
         → Does (ended y (effect P i a v h (y .core))) (ended x (effect P i a v (x .frame .latch) (x .core))) (executedDeed i a)
@@ -158,9 +158,9 @@ module _ (P : Part) (h w : Latch) where
     timedTo z c = withCore c z
 
     abbrev stoppedTo : ℕ → Device → Core → Device
-    stoppedTo t z c = withCore (withTime t 0 (withoutCycle P c)) z
+    stoppedTo t z c = withCore (withTime t 0 (withoutCycle c)) z
 
-    does-time : (t : ℕ) → Does (onTime P t y) (onTime P t x) (deedOf P (Time t) x)
+    does-time : (t : ℕ) → Does (onTime t y) (onTime t x) (deedOf P (Time t) x)
     unfolding onTime timed
     does-time t =
         does-in (ends t (x .core)) (timedTo y) (timedTo x)

@@ -8,7 +8,7 @@ use native.Mathlib.Nat.{mod-lt}
 use lib.Dec.{eqb, leb, ltb}
 use lib.ListN.{length, length-set, length-replicate}
 use Rattle.laws.specs.Pick.{pick, pick-case, pick-ap}
-use Rattle.codes.specs.Part.{Part, words}
+use Rattle.codes.specs.Part.{Part, roomWords}
 use Rattle.codes.specs.Status.{bit, on}
 use Rattle.codes.specs.Instructions.{decode, picksLock}
 use Rattle.codes.specs.Verdicts.{isExecuted}
@@ -58,10 +58,10 @@ module _ (P : Part) (sound : Sound P) where
   Small finish = Unit {0}
 
   abbrev Whole : Latch → Type 0
-  Whole l = length (l .marks) ≡ words P
+  Whole l = length (l .marks) ≡ roomWords
 
   hand-viewed : (d : Deed) (h : Latch) → Small d → Whole h
-      → view P (handAfter (forms.words P) d h) ≡ handAfter (byteForm P) d (view P h)
+      → view (handAfter (forms.words P) d h) ≡ handAfter (byteForm P) d (view h)
   hand-viewed keep h s e = refl
   hand-viewed empty h s e = view-none P sound
   hand-viewed (latching i v) h s e = view-latched P sound i v h e s
@@ -70,7 +70,7 @@ module _ (P : Part) (sound : Sound P) where
   hand-viewed finish h s e = refl
 
   pub waits-viewed : (d : Deed) (h w : Latch)
-      → view P (waitsAfter (forms.words P) d h w) ≡ waitsAfter (byteForm P) d (view P h) (view P w)
+      → view (waitsAfter (forms.words P) d h w) ≡ waitsAfter (byteForm P) d (view h) (view w)
   waits-viewed keep h w = refl
   waits-viewed empty h w = refl
   waits-viewed (latching i v) h w = refl
@@ -78,9 +78,9 @@ module _ (P : Part) (sound : Sound P) where
   waits-viewed clear h w = view-none P sound
   waits-viewed finish h w = view-none P sound
 
-  none-whole : Whole (noLatch P)
+  none-whole : Whole noLatch
   unfolding zeros
-  none-whole = length-replicate {A = ℕ} (words P) 0
+  none-whole = length-replicate {A = ℕ} roomWords 0
 
   hand-whole : (d : Deed) (h : Latch) → Whole h → Whole (handAfter (forms.words P) d h)
   hand-whole keep h e = e
@@ -145,40 +145,40 @@ module _ (P : Part) (sound : Sound P) where
 
   module _ (m : Lent) (e : Event) (x : Device) where
     -- marks as words are a form like any other
-    pub words-stepped : apart P (stepped P m e x) ≡ formStepped (forms.words P) P m e (apart P x)
-    words-stepped = ap (apart P) (stepped-does P (x .frame .latch) (x .core .waits .latch) (restOf P x) m e .done)
+    pub words-stepped : apart (stepped P m e x) ≡ formStepped (forms.words P) P m e (apart x)
+    words-stepped = ap apart (stepped-does P (x .frame .latch) (x .core .waits .latch) (restOf x) m e .done)
 
     -- and marks as bytes do the same, seen through the view
     pub stepped-same : Whole (x .frame .latch)
-        → viewed P (apart P (stepped P m e x)) ≡ formStepped (byteForm P) P m e (viewed P (apart P x))
+        → viewed (apart (stepped P m e x)) ≡ formStepped (byteForm P) P m e (viewed (apart x))
     stepped-same s =
-        ap (viewed P) words-stepped
-        ∙ ap₂ (λ (h w : Bytewise). record { rest = restOf P (stepped P m e (restOf P x)); hand = h; waits = w })
-        (hand-viewed (deedOf P e (restOf P x)) (x .frame .latch) (deed-small e (restOf P x)) s)
-        (waits-viewed (deedOf P e (restOf P x)) (x .frame .latch) (x .core .waits .latch))
+        ap viewed words-stepped
+        ∙ ap₂ (λ (h w : Bytewise). record { rest = restOf (stepped P m e (restOf x)); hand = h; waits = w })
+        (hand-viewed (deedOf P e (restOf x)) (x .frame .latch) (deed-small e (restOf x)) s)
+        (waits-viewed (deedOf P e (restOf x)) (x .frame .latch) (x .core .waits .latch))
 
     pub hand-sized : Whole (x .frame .latch) → Whole (stepped P m e x .frame .latch)
     hand-sized s =
         ap (λ (a : Apart Latch). length (a .hand .marks)) words-stepped
-        ∙ hand-whole (deedOf P e (restOf P x)) (x .frame .latch) s
+        ∙ hand-whole (deedOf P e (restOf x)) (x .frame .latch) s
 
     pub waits-sized : Whole (x .frame .latch) → Whole (x .core .waits .latch) → Whole (stepped P m e x .core .waits .latch)
     waits-sized s k =
         ap (λ (a : Apart Latch). length (a .waits .marks)) words-stepped
-        ∙ waits-whole (deedOf P e (restOf P x)) (x .frame .latch) (x .core .waits .latch) s k
+        ∙ waits-whole (deedOf P e (restOf x)) (x .frame .latch) (x .core .waits .latch) s k
 
   -- ---- its lent cells
 
-  module _ (theirs : Waiting → Bool) (mine : (w : Waiting) → theirs w ≡ theirs (waitsWith (noLatch P) w)) where
+  module _ (theirs : Waiting → Bool) (mine : (w : Waiting) → theirs w ≡ theirs (waitsWith noLatch w)) where
     pub read-cells-same : (t : ℕ) (c : Core) (m : List ℕ)
-        → timedCells theirs P t c m ≡ readCells theirs (byteForm P) t (coreWith (noLatch P) c) (view P (c .waits .latch)) m
+        → timedCells theirs P t c m ≡ readCells theirs (byteForm P) t (coreWith noLatch c) (view (c .waits .latch)) m
     unfolding timedCells
     read-cells-same t c m =
         ap (λ (s : List ℕ). pick (ends t c) (pick (theirs (c .waits)) s m) m) (sym (view-stored P sound (c .waits .page) (c .waits .latch) m))
-        ∙ ap (λ (o : Bool). pick (ends t c) (pick o (byteForm P .store (c .waits .page) (view P (c .waits .latch)) m) m) m) (mine (c .waits))
+        ∙ ap (λ (o : Bool). pick (ends t c) (pick o (byteForm P .store (c .waits .page) (view (c .waits .latch)) m) m) m) (mine (c .waits))
 
     pub cells-same : (e : Event) (x : Device) (m : List ℕ)
-        → steppedCells theirs P e x m ≡ formCells theirs (byteForm P) e (viewed P (apart P x)) m
+        → steppedCells theirs P e x m ≡ formCells theirs (byteForm P) e (viewed (apart x)) m
     cells-same (S level) x m = refl
     cells-same (C level) x m = refl
     cells-same (D level) x m = refl
@@ -187,23 +187,23 @@ module _ (P : Part) (sound : Sound P) where
     cells-same (Time t) x m = read-cells-same t (x .core) m
 
   pub memory-same : (e : Event) (x : Device) (m : List ℕ)
-      → steppedMemory P e x m ≡ formCells waitsPage (byteForm P) e (viewed P (apart P x)) m
+      → steppedMemory P e x m ≡ formCells waitsPage (byteForm P) e (viewed (apart x)) m
   memory-same = cells-same waitsPage (λ w. refl)
 
   pub identification-same : (e : Event) (x : Device) (m : List ℕ)
-      → steppedIdentification P e x m ≡ formCells waitsIdentification (byteForm P) e (viewed P (apart P x)) m
+      → steppedIdentification P e x m ≡ formCells waitsIdentification (byteForm P) e (viewed (apart x)) m
   identification-same = cells-same waitsIdentification (λ w. refl)
 
   -- ---- Q
 
-  pub q-same : (x : Device) → q x ≡ q (viewed P (apart P x) .rest)
+  pub q-same : (x : Device) → q x ≡ q (viewed (apart x) .rest)
   unfolding q
   q-same x = refl
 
   -- ---- any list of events
 
   abbrev benchApart : PinBench → FormBench Bytewise
-  benchApart b = record { device = viewed P (apart P (b .device)); memory = b .memory; identification = b .identification }
+  benchApart b = record { device = viewed (apart (b .device)); memory = b .memory; identification = b .identification }
 
   pub played-same : (es : List ℕ) (b : PinBench) → Whole (b .device .frame .latch)
       → benchApart (played P es b) ≡ formPlayed (byteForm P) P es (benchApart b)

@@ -114,7 +114,7 @@ abbrev pub formStepped : {L : Type 0} → Form L → Part → Lent → Event →
 formStepped F P m e a =
     let d = deedOf P e (a .rest) in
     record {
-      rest = restOf P (stepped P m e (a .rest));
+      rest = restOf (stepped P m e (a .rest));
       hand = handAfter F d (a .hand);
       waits = waitsAfter F d (a .hand) (a .waits);
     }
@@ -170,15 +170,15 @@ writtenIn F P s = latchedAll F P (address P s % P .page) (payload P s) (F .none)
 abbrev pub formFramed : {L : Type 0} → Form L → Part → Bool → Bool → List ℕ → ℕ → CoreApart L → CoreApart L
 formFramed F P ran w s n a =
     record {
-      rest = coreWith (noLatch P) (after P ran w (a .rest) s n);
+      rest = coreWith noLatch (after P ran w (a .rest) s n);
       waits =
           pick (isExecuted (judged P ran w (a .rest) s n))
           (waitsAfter F (executedDeed (instruction P s) (address P s)) (writtenIn F P s) (a .waits)) (a .waits);
     }
 
-abbrev pub formRead : {L : Type 0} → Form L → Part → ℕ → CoreApart L → CoreApart L
-formRead F P t a =
-    record { rest = timed P t (a .rest); waits = pick (ends t (a .rest)) (F .none) (a .waits) }
+abbrev pub formRead : {L : Type 0} → Form L → ℕ → CoreApart L → CoreApart L
+formRead F t a =
+    record { rest = timed t (a .rest); waits = pick (ends t (a .rest)) (F .none) (a .waits) }
 
 abbrev pub formCoreFits : {L : Type 0} → Form L → Part → CoreApart L → Bool
 formCoreFits F P a = F .fits (waitsLatch (a .rest .waits)) (a .waits) && inRanges P (a .rest)

@@ -19,7 +19,7 @@ pub record Form (L : Type 0) : Type 0 where
 
 -- marks as words: the form of the record
 abbrev pub words : Part → Form Latch
-words P = record { none = noLatch P; latch = latched; fits = latchFits P; store = stored P }
+words P = record { none = noLatch; latch = latched; fits = latchFits P; store = stored P }
 
 -- ---- the latches put into a record
 
@@ -53,16 +53,16 @@ pub record Apart (L : Type 0) : Type 0 where
   pub hand : L
   pub waits : L
 
-abbrev pub restOf : Part → Device → Device
-restOf P x = latchesWith (noLatch P) (noLatch P) x
+abbrev pub restOf : Device → Device
+restOf x = latchesWith noLatch noLatch x
 
-abbrev pub apart : Part → Device → Apart Latch
-apart P x = record { rest = restOf P x; hand = x .frame .latch; waits = x .core .waits .latch }
+abbrev pub apart : Device → Apart Latch
+apart x = record { rest = restOf x; hand = x .frame .latch; waits = x .core .waits .latch }
 
 -- the same of the core record alone
 pub record CoreApart (L : Type 0) : Type 0 where
   pub rest : Core
   pub waits : L
 
-abbrev pub coreApart : Part → Core → CoreApart Latch
-coreApart P c = record { rest = coreWith (noLatch P) c; waits = c .waits .latch }
+abbrev pub coreApart : Core → CoreApart Latch
+coreApart c = record { rest = coreWith noLatch c; waits = c .waits .latch }

@@ -1,12 +1,14 @@
 // Cases of the driver: g, h and l, a running cycle, runs at the edge of the protected block, and what is refused.
 use crate::identification;
 use crate::say;
+use crate::with_bp;
 use chip::Core;
 use chip::power_up;
+use codes::M95512;
 use codes::wide;
 
 // 300 bytes that differ at their ends.
-fn bytes_300() -> [u8; 300] {
+pub(crate) fn bytes_300() -> [u8; 300] {
     let mut bytes = [0x55u8; 300];
     bytes[0] = 0x11;
     bytes[16] = 0x22;
@@ -15,6 +17,29 @@ fn bytes_300() -> [u8; 300] {
 }
 
 // A run: the number, pages done, frames sent, and the record that it leaves.
+pub(crate) fn run_with(
+    what: &[u8],
+    core: Core,
+    memory: &mut [u8],
+    page: &mut [u8],
+    address: u64,
+    bytes: &[u8],
+    interval: u32,
+    limit: u32,
+) -> Core {
+    let driven = driver::write(core, memory, page, address, bytes, interval, limit);
+    let answer = driven.answer;
+    let next = driven.core;
+    say(what, answer.number());
+    say(b"  pages done", answer.pages());
+    say(b"  frames sent", answer.frames());
+    say(b"  its status byte", wide(next.status()));
+    say(b"  time left", next.left);
+    say(b"  its last reading", next.last);
+    next
+}
+
+// The same with the M95512's identification page.
 fn run(
     what: &[u8],
     core: Core,
@@ -25,16 +50,16 @@ fn run(
     limit: u32,
 ) -> Core {
     let mut page = identification();
-    let driven = driver::write(core, memory, &mut page, address, bytes, interval, limit);
-    let answer = driven.answer;
-    let next = driven.core;
-    say(what, answer.number());
-    say(b"  pages done", answer.pages());
-    say(b"  frames sent", answer.frames());
-    say(b"  its status byte", wide(next.status()));
-    say(b"  time left", next.left);
-    say(b"  its last reading", next.last);
-    next
+    run_with(
+        what,
+        core,
+        memory,
+        &mut page,
+        address,
+        bytes,
+        interval,
+        limit,
+    )
 }
 
 // 300 bytes from address 100 on, and the cells at their edges.
@@ -54,7 +79,7 @@ fn whole_runs() {
     run_300(b"h: interval 700", fresh, 700, 5001);
     run_300(b"interval 1000, limit 5", fresh, 1000, 5);
     run_300(b"l: interval 1000, limit 4", fresh, 1000, 4);
-    let late = power_up(codes::M95512, false, 5000, false, false, false, 4294967290).core;
+    let late = power_up(M95512, false, 5000, false, false, false, 4294967290).core;
     run_300(b"the counter wraps", late, 5000, 1);
 }
 
@@ -90,8 +115,8 @@ fn at_block(what: &[u8], core: Core, address: u64, bytes: &[u8], limit: u32) {
 }
 
 fn protected_block() {
-    let upper = power_up(codes::M95512, false, 5000, false, false, true, 0).core;
-    let all = power_up(codes::M95512, false, 5000, false, true, true, 0).core;
+    let upper = with_bp(M95512, false, true);
+    let all = with_bp(M95512, true, true);
     let bytes = bytes_300();
     at_block(b"BP 01, 16 bytes at BFF0h", upper, 0xbff0, &bytes[0..16], 1);
     at_block(b"BP 01, 17 bytes at BFF0h", upper, 0xbff0, &bytes[0..17], 1);
@@ -112,9 +137,7 @@ fn moving(bp0: bool, wrsr: &[u8]) -> Core {
     let memory = io::large_buffer();
     let page = identification();
     let mut out = [0u8; 2];
-    let enabled = power_up(codes::M95512, false, 5000, false, false, bp0, 0)
-        .core
-        .with_wel(1);
+    let enabled = with_bp(M95512, false, bp0).with_wel(1);
     frames::frame(enabled, &memory, &page, true, wrsr, 16, &mut out).core
 }
 
@@ -149,6 +172,20 @@ fn nothing_to_write() {
     say(b"  cell FFFFh", wide(memory[0xffff]));
 }
 
+pub(crate) fn refused_with(
+    what: &[u8],
+    core: Core,
+    memory: &mut [u8],
+    page: &mut [u8],
+    address: u64,
+    bytes: &[u8],
+    interval: u32,
+    limit: u32,
+) {
+    let answer = driver::write(core, memory, page, address, bytes, interval, limit).answer;
+    say(what, answer.number());
+}
+
 fn refused(
     what: &[u8],
     core: Core,
@@ -159,8 +196,16 @@ fn refused(
     limit: u32,
 ) {
     let mut page = identification();
-    let answer = driver::write(core, memory, &mut page, address, bytes, interval, limit).answer;
-    say(what, answer.number());
+    refused_with(
+        what,
+        core,
+        memory,
+        &mut page,
+        address,
+        bytes,
+        interval,
+        limit,
+    );
 }
 
 fn with_left() -> Core {

@@ -3,12 +3,17 @@
 use chip::Core;
 use chip::clock_reading;
 use chip::power_up;
-use codes::PAGE;
+use codes::M95512;
+use codes::longest_of;
 use codes::wide;
 use frames::frame;
 use libc::STDOUT_FILENO;
 
 mod driven;
+mod parts;
+
+// Cells of the M95512's identification page.
+const PAGE: usize = 128;
 
 pub(crate) fn say(what: &[u8], number: u32) {
     io::write_all(STDOUT_FILENO, what);
@@ -22,8 +27,8 @@ pub(crate) fn identification() -> [u8; PAGE] {
     [0xffu8; PAGE]
 }
 
-fn power(what: &[u8], cycle: u32) {
-    let p = power_up(codes::M95512, false, cycle, true, true, true, 7);
+pub(crate) fn power(what: &[u8], part: u8, cycle: u32) {
+    let p = power_up(part, false, cycle, true, true, true, 7);
     let outcome = p.outcome;
     let core = p.core;
     say(what, outcome.number());
@@ -31,15 +36,18 @@ fn power(what: &[u8], cycle: u32) {
     say(b"  its last reading", core.last);
 }
 
-fn protect(what: &[u8], bp1: bool, bp0: bool, address: u32) {
-    let p = power_up(codes::M95512, false, 5000, false, bp1, bp0, 0);
-    let core = p.core;
+// A part with the given bits, as delivered otherwise.
+pub(crate) fn with_bp(part: u8, bp1: bool, bp0: bool) -> Core {
+    power_up(part, false, longest_of(part), false, bp1, bp0, 0).core
+}
+
+pub(crate) fn protect(what: &[u8], core: Core, address: u32) {
     let answer = core.protection(address);
     say(what, answer.number());
     say(b"  protected", answer.value());
 }
 
-fn lowest(what: &[u8], core: Core) {
+pub(crate) fn lowest(what: &[u8], core: Core) {
     let answer = core.protected_from();
     say(what, answer.number());
     say(b"  protected from", answer.value());
@@ -47,7 +55,7 @@ fn lowest(what: &[u8], core: Core) {
 
 // A cycle of 5,000 that began at reading 4294967290, with page 1 waiting: cell 128 gets 11h.
 fn waiting() -> Core {
-    let p = power_up(codes::M95512, false, 5000, false, false, false, 4294967290);
+    let p = power_up(M95512, false, 5000, false, false, false, 4294967290);
     let mut core = p.core;
     let mut waits = core.waits;
     let mut latch = waits.latch;
@@ -242,30 +250,21 @@ fn too_long() {
 }
 
 fn main() {
-    power(b"power-up, cycle 0", 0);
-    power(b"power-up, cycle 1", 1);
-    power(b"power-up, cycle 5000", 5000);
-    power(b"power-up, cycle 5001", 5001);
-    protect(b"BP 01, BFFFh", false, true, 0xbfff);
-    protect(b"BP 01, C000h", false, true, 0xc000);
-    protect(b"BP 10, 7FFFh", true, false, 0x7fff);
-    protect(b"BP 10, 8000h", true, false, 0x8000);
-    protect(b"BP 11, 0000h", true, true, 0);
-    protect(b"BP 00, FFFFh", false, false, 0xffff);
-    protect(b"BP 00, 10000h", false, false, 0x10000);
+    power(b"power-up, cycle 0", M95512, 0);
+    power(b"power-up, cycle 1", M95512, 1);
+    power(b"power-up, cycle 5000", M95512, 5000);
+    power(b"power-up, cycle 5001", M95512, 5001);
+    protect(b"BP 01, BFFFh", with_bp(M95512, false, true), 0xbfff);
+    protect(b"BP 01, C000h", with_bp(M95512, false, true), 0xc000);
+    protect(b"BP 10, 7FFFh", with_bp(M95512, true, false), 0x7fff);
+    protect(b"BP 10, 8000h", with_bp(M95512, true, false), 0x8000);
+    protect(b"BP 11, 0000h", with_bp(M95512, true, true), 0);
+    protect(b"BP 00, FFFFh", with_bp(M95512, false, false), 0xffff);
+    protect(b"BP 00, 10000h", with_bp(M95512, false, false), 0x10000);
     lowest(b"BP 00", Core::delivered());
-    lowest(
-        b"BP 01",
-        power_up(codes::M95512, false, 5000, false, false, true, 0).core,
-    );
-    lowest(
-        b"BP 10",
-        power_up(codes::M95512, false, 5000, false, true, false, 0).core,
-    );
-    lowest(
-        b"BP 11",
-        power_up(codes::M95512, false, 5000, false, true, true, 0).core,
-    );
+    lowest(b"BP 01", with_bp(M95512, false, true));
+    lowest(b"BP 10", with_bp(M95512, true, false));
+    lowest(b"BP 11", with_bp(M95512, true, true));
     time(b"16 microseconds later", waiting(), 10);
     time(b"4999 microseconds later", waiting(), 4993);
     time(b"5000 microseconds later", waiting(), 4994);
@@ -284,4 +283,5 @@ fn main() {
     bad_output();
     too_long();
     driven::all();
+    parts::all();
 }

@@ -16,7 +16,7 @@ use Rattle.chip.specs.declared.Waiting.{Waiting}
 use Rattle.chip.specs.declared.Core.{Core}
 
 -- no cell of theirs waits where what waits is not theirs
-status-awaits : (k : Cells) (P : Part) (v : ℕ) (c : Core) (i : ℕ) → awaitedIn k P (withCycle (statusWaits P v) c) i ≡ false
+status-awaits : (k : Cells) (P : Part) (v : ℕ) (c : Core) (i : ℕ) → awaitedIn k P (withCycle (statusWaits v) c) i ≡ false
 status-awaits memoryCells P v c i = refl
 status-awaits identificationCells P v c i = refl
 
@@ -26,14 +26,14 @@ page-awaits memoryCells P a l c i e = e
 page-awaits identificationCells P a l c i e = refl
 
 identification-awaits : (k : Cells) (P : Part) (a : ℕ) (l : Latch) (c : Core) (i : ℕ) → (writesTo k Wrid a && latchedIn k P a l i) ≡ false
-    → awaitedIn k P (withCycle (pick (picksLock a) (lockWaits P) (identificationWaits l)) c) i ≡ false
+    → awaitedIn k P (withCycle (pick (picksLock a) lockWaits (identificationWaits l)) c) i ≡ false
 identification-awaits memoryCells P a l c i e =
     pick-case (λ (w : Waiting). awaitedIn memoryCells P (withCycle w c) i ≡ false) (picksLock a) (λ p. refl) (λ p. refl)
 identification-awaits identificationCells P a l c i e =
     pick-case (λ (w : Waiting). awaitedIn identificationCells P (withCycle w c) i ≡ false) (picksLock a) (λ p. refl)
     (λ p. sym (ap (λ (t : Bool). not t && latchedIn identificationCells P a l i) p) ∙ e)
 
-none-awaits : (k : Cells) (P : Part) (c : Core) (i : ℕ) → awaitedIn k P (withoutCycle P c) i ≡ false
+none-awaits : (k : Cells) (P : Part) (c : Core) (i : ℕ) → awaitedIn k P (withoutCycle c) i ≡ false
 none-awaits memoryCells P c i = refl
 none-awaits identificationCells P c i = refl
 
@@ -49,6 +49,6 @@ effect-awaits k P Rdid a v l c i e h = h
 effect-awaits k P Wrid a v l c i e h = identification-awaits k P a l c i e
 effect-awaits k P Silence a v l c i e h = h
 
-pub timed-awaits : (k : Cells) (P : Part) (t : ℕ) (c : Core) (i : ℕ) → awaitedIn k P c i ≡ false → awaitedIn k P (timed P t c) i ≡ false
+pub timed-awaits : (k : Cells) (P : Part) (t : ℕ) (c : Core) (i : ℕ) → awaitedIn k P c i ≡ false → awaitedIn k P (timed t c) i ≡ false
 unfolding timed
 timed-awaits k P t c i h = pick-case (λ (d : Core). awaitedIn k P d i ≡ false) (ends t c) (λ e. none-awaits k P c i) (λ e. h)

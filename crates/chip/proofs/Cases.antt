@@ -1,17 +1,19 @@
 -- Document 01's cases e and i of the definitions; WIP; and the records of power-up, which are inside the ranges.
-use mathlib.Core.Path.{_≡_, refl, ap, _∙_}
+use mathlib.Core.Path.{_≡_, refl, sym, ap, _∙_, subst}
 use mathlib.Core.Bool.{Bool, true, false}
 use Prim.Native.Nat.{ℕ, _%_, _<_, _≤_}
 use native.Mathlib.Omega.{arith}
 use lib.Dec.{lit≤}
+use lib.ListN.{length, length-replicate}
 use borrow.Author.Tests.{lt-ltb, le-ltb, le-leb}
 use Rattle.laws.specs.Pick.{pick-case, and-both}
-use Rattle.codes.specs.Part.{m95512, partOf, isPart}
+use Rattle.codes.specs.Part.{Part, m95512, partOf, isPart}
+use Rattle.codes.proofs.Parts.{of-each, row-plain}
 use Rattle.codes.specs.Status.{bit}
 use Rattle.chip.specs.Records.{ownPart, running, status, idle}
 use Rattle.chip.specs.Ranges.{flagsFit, cycleFits}
 use Rattle.chip.specs.Time.{elapsed}
-use Rattle.chip.specs.Power.{delivered, poweredUp}
+use Rattle.chip.specs.Power.{delivered, deliveredMemory, deliveredIdentification, poweredUp}
 use Rattle.chip.specs.declared.Core.{Core}
 use Rattle.chip.specs.declared.PoweredUp.{PoweredUp}
 use Rattle.chip.proofs.Within.{Within, quiet-within}
@@ -56,11 +58,25 @@ idle-flags part k s b a n t e =
 pub delivered-within : Within m95512 delivered
 delivered-within = quiet-within m95512 _ refl refl refl refl
 
+own-delivered : Within (ownPart delivered) delivered
+own-delivered = subst (λ (P : Part). Within P delivered) (sym row-plain) delivered-within
+
 -- of the part that it was given, or of the M95512
 pub powered-within : (part : ℕ) (k : Bool) (n : ℕ) (s b a : Bool) (t : ℕ) → let c = poweredUp part k n s b a t .core in Within (ownPart c) c
 powered-within part k n s b a t =
     pick-case (λ (x : PoweredUp). Within (ownPart (x .core)) (x .core)) (isPart part)
     (λ e. pick-case (λ (x : PoweredUp). Within (ownPart (x .core)) (x .core)) (cycleFits (partOf part) n)
     (λ y. quiet-within (partOf part) _ (idle-flags part k s b a n t e) y refl refl)
-    (λ y. delivered-within))
-    (λ e. delivered-within)
+    (λ y. own-delivered))
+    (λ e. own-delivered)
+
+-- the memory and the identification page as delivered are as long as the part has them
+pub delivered-size : (n : ℕ) → length (deliveredMemory (partOf n)) ≡ partOf n .size
+delivered-size n = length-replicate {A = ℕ} (partOf n .size) 0xff
+
+pub delivered-page : (n : ℕ) → length (deliveredIdentification (partOf n)) ≡ partOf n .page
+delivered-page n = of-each (λ (P : Part). length (deliveredIdentification P) ≡ P .page) n refl refl refl
+
+-- each part's longest cycle is one of its cycles
+pub longest-fits : (n : ℕ) → cycleFits (partOf n) (partOf n .longest) ≡ true
+longest-fits n = of-each (λ (P : Part). cycleFits P (P .longest) ≡ true) n refl refl refl

@@ -7,12 +7,13 @@ use native.Mathlib.Omega.{arith}
 use lib.ListN.{length, getD, getD-replicate}
 use lib.Dec.{leb, eqb}
 use borrow.Author.Tests.{le-leb, leb-true, lt-ltb, eq-eqb, not-false}
-use Rattle.laws.specs.Pick.{pick, at-yes, at-no, pick-case, and-left, and-right, and-both}
+use Rattle.laws.specs.Pick.{pick, at-yes, at-no, pick-case, and-left, and-right, and-both, and-no-right}
+use Rattle.laws.specs.And.{or-right}
 use Rattle.laws.specs.Each.{each-at, each-of}
 use Rattle.codes.specs.Part.{Part, isPart, pages}
 use Rattle.codes.specs.Status.{on, bitOf, writable}
 use Rattle.latch.specs.Latches.{zeros, noLatch, latched, cellFits, latchFits}
-use Rattle.chip.specs.Records.{running, nothing, statusWaits, pageWaits, identificationWaits, lockWaits, withWel, withCycle}
+use Rattle.chip.specs.Records.{running, waitsNothing, nothing, statusWaits, pageWaits, identificationWaits, lockWaits, withWel, withCycle}
 use Rattle.chip.specs.Ranges.{valueFits, pageFits, waitFits, waitsOne}
 use Rattle.codes.specs.Verdicts.{verdict, isExecuted}
 use Rattle.codes.specs.Instructions.{row, isWrid, picksLock}
@@ -49,12 +50,12 @@ writable-twice v =
       bit-2 (bitOf 7 v) (bitOf 3 v) (bitOf 2 v) (bit-small 7 v) (bit-small 3 v) (bit-small 2 v),
     )
 
-status-fits : (P : Part) (v : ℕ) → waitFits P (statusWaits P v) ≡ true
+status-fits : (P : Part) (v : ℕ) → waitFits P (statusWaits v) ≡ true
 unfolding pick
 status-fits P v =
-    and-both (valueFits (statusWaits P v) && pageFits P (statusWaits P v)) (latchFits P false (noLatch P))
-    (and-both (valueFits (statusWaits P v)) true (eq-eqb _ _ (writable-twice v)) refl)
-    (and-right (valueFits (nothing P) && pageFits P (nothing P)) (latchFits P false (noLatch P)) (nothing-fits P))
+    and-both (valueFits (statusWaits v) && pageFits P (statusWaits v)) (latchFits P false noLatch)
+    (and-both (valueFits (statusWaits v)) true (eq-eqb _ _ (writable-twice v)) refl)
+    (and-right (valueFits nothing && pageFits P nothing) (latchFits P false noLatch) (nothing-fits P))
 
 page-fits : (P : Part) (p : ℕ) (l : Latch) → p < pages P → latchFits P true l ≡ true → waitFits P (pageWaits p l) ≡ true
 unfolding pick
@@ -67,23 +68,27 @@ unfolding pick
 identification-fits P l fits =
     and-both (valueFits (identificationWaits l) && pageFits P (identificationWaits l)) (latchFits P true l) refl fits
 
-lock-fits : (P : Part) → waitFits P (lockWaits P) ≡ true
+lock-fits : (P : Part) → waitFits P lockWaits ≡ true
 unfolding pick
 lock-fits P = nothing-fits P
 
 -- ---- what an executed instruction leaves
 
 module _ (P : Part) (c : Core) where
-  -- WEL set or cleared while no cycle runs
-  wel-within : (v : ℕ) → v ≤ 1 → running c ≡ false → Within P c → Within P (withWel v c)
-  wel-within v h quiet w =
+  -- WEL set or cleared while no cycle runs, or in one where the part has WRDI in a cycle
+  tie-kept : (d r u v o n : Bool) → (not d && r) ≡ false → pick r ((d || u) && o) n ≡ true → pick r ((d || v) && o) n ≡ true
+  tie-kept true r u v o n f e = e
+  tie-kept false r u v o n f e = at-no _ _ f ∙ sym (at-no _ _ f) ∙ e
+
+  wel-within : (v : ℕ) → v ≤ 1 → (not (P .wrdiInCycle) && running c) ≡ false → Within P c → Within P (withWel v c)
+  wel-within v h free w =
       record {
         flags =
             and-both (isPart (c .part) && leb (c .lock) 1 && leb (c .srwd) 1 && leb (c .bp1) 1 && leb (c .bp0) 1) (leb v 1)
             (and-left (isPart (c .part) && leb (c .lock) 1 && leb (c .srwd) 1 && leb (c .bp1) 1 && leb (c .bp0) 1) (leb (c .wel) 1) (w .flags)) (le-leb v 1 h);
         cycle = w .cycle;
         left = w .left;
-        tie = at-no _ _ quiet ∙ sym (at-no _ _ quiet) ∙ w .tie;
+        tie = tie-kept (P .wrdiInCycle) (running c) (on (c .wel)) (on v) (waitsOne P (c .waits)) (waitsNothing (c .waits)) free (w .tie);
         waits = w .waits;
       }
 
@@ -95,24 +100,24 @@ module _ (P : Part) (c : Core) where
         flags = w .flags;
         cycle = w .cycle;
         left = omega arith;
-        tie = at-yes _ _ (lt-ltb 0 (c .cycle) some) ∙ and-both (on (c .wel)) (waitsOne P x) wel one;
+        tie = at-yes _ _ (lt-ltb 0 (c .cycle) some) ∙ and-both (P .wrdiInCycle || on (c .wel)) (waitsOne P x) (or-right (P .wrdiInCycle) (on (c .wel)) wel) one;
         waits = fits;
       }
 
 -- the record, by the instruction: no cycle runs where there must be none, WEL is on where it must be
 module _ (P : Part) (a v x : ℕ) (l : Latch) (c : Core) (below : a / P .page < pages P) (fits : latchFits P true l ≡ true) where
   -- 82h makes one of two things wait, on a part that has them
-  one-waits : (t : Bool) → P .identified ≡ true → let w = pick t (lockWaits P) (identificationWaits l) in (waitsOne P w ≡ true) × (waitFits P w ≡ true)
+  one-waits : (t : Bool) → P .identified ≡ true → let w = pick t lockWaits (identificationWaits l) in (waitsOne P w ≡ true) × (waitFits P w ≡ true)
   unfolding pick
   one-waits true known = (and-both (P .identified) true known refl, lock-fits P)
   one-waits false known = (and-both (P .identified) true known refl, identification-fits P l fits)
 
   pub effect-within : (i : Instruction) → (isWrid i ≡ true → P .identified ≡ true)
       → (row P i a x .idle && running c) ≡ false → (row P i a x .wel && not (on (c .wel))) ≡ false → Within P c → Within P (effect P i a v l c)
-  effect-within Wren known free wel w = wel-within P c 1 (omega arith) free w
+  effect-within Wren known free wel w = wel-within P c 1 (omega arith) (and-no-right (not (P .wrdiInCycle)) (running c) free) w
   effect-within Wrdi known free wel w = wel-within P c 0 (omega arith) free w
   effect-within Rdsr known free wel w = w
-  effect-within Wrsr known free wel w = cycle-within P c (statusWaits P v) (not-false _ wel) refl (status-fits P v) w
+  effect-within Wrsr known free wel w = cycle-within P c (statusWaits v) (not-false _ wel) refl (status-fits P v) w
   effect-within Read known free wel w = w
   effect-within Write known free wel w = cycle-within P c (pageWaits (a / P .page) l) (not-false _ wel) refl (page-fits P (a / P .page) l below fits) w
   effect-within Rdid known free wel w = w

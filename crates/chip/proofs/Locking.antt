@@ -42,11 +42,11 @@ module _ (P : Part) (a v x n : ℕ) (ran wel locked held : Bool) (l : Latch) (c 
   locked-effect Silence e = k
 
 module _ (P : Part) (t : ℕ) (c : Core) (k : Locked c) where
-  still-quiet : waitsIdentification (timed P t c .waits) ≡ false
+  still-quiet : waitsIdentification (timed t c .waits) ≡ false
   unfolding timed
   still-quiet = pick-case (λ (d : Core). waitsIdentification (d .waits) ≡ false) (ends t c) (λ e. refl) (λ e. k .quiet)
 
-  pub locked-timed : Locked (timed P t c)
+  pub locked-timed : Locked (timed t c)
   locked-timed =
       record { lock = lock-rule P t c ∙ ap (pick (ends t c && waitsLock (c .waits)) 1) (k .lock) ∙ pick-same _ 1; quiet = still-quiet }
 
@@ -69,6 +69,6 @@ effect-awaits-lock P Wrid a v l c e h =
     pick-case (λ (w : Waiting). waitsLock w ≡ false) (picksLock a) (λ p. absurd (never p e)) (λ p. refl)
 effect-awaits-lock P Silence a v l c e h = h
 
-pub timed-awaits-lock : (P : Part) (t : ℕ) (c : Core) → waitsLock (c .waits) ≡ false → waitsLock (timed P t c .waits) ≡ false
+pub timed-awaits-lock : (P : Part) (t : ℕ) (c : Core) → waitsLock (c .waits) ≡ false → waitsLock (timed t c .waits) ≡ false
 unfolding timed
 timed-awaits-lock P t c h = pick-case (λ (d : Core). waitsLock (d .waits) ≡ false) (ends t c) (λ e. refl) (λ e. h)

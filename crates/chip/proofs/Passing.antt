@@ -51,19 +51,19 @@ flags-locked c e =
     and-right n k (and-left (n && k) s (and-left (n && k && s) b (and-left (n && k && s && b) a (and-left (n && k && s && b && a) w e)))) in
     sym (ap (λ (x : Bool). n && x && s && b && a && w) one) ∙ e
 
-flags-cleared : (P : Part) (c : Core) → flagsFit c ≡ true → flagsFit (withoutCycle P c) ≡ true
+flags-cleared : (P : Part) (c : Core) → flagsFit c ≡ true → flagsFit (withoutCycle c) ≡ true
 flags-cleared P c e =
     let s = isPart (c .part) && leb (c .lock) 1 && leb (c .srwd) 1 && leb (c .bp1) 1 && leb (c .bp0) 1 in
     and-both s true (and-left s (leb (c .wel) 1) e) refl
 
 module _ (P : Part) (t : ℕ) (c : Core) where
-  pub timed-within : Within P c → Within P (timed P t c)
+  pub timed-within : Within P c → Within P (timed t c)
   unfolding timed
   timed-within w =
       pick-case (Within P) (ends t c)
-      (λ e. pick-case (λ x. Within P (withTime t 0 (withoutCycle P x))) (waitsStatus (c .waits))
+      (λ e. pick-case (λ x. Within P (withTime t 0 (withoutCycle x))) (waitsStatus (c .waits))
       (λ s. quiet-within P _ (flags-cleared P (withStatus (c .waits .status) c) (flags-status (c .waits .status) c (w .flags))) (w .cycle) refl refl)
-      (λ s. pick-case (λ x. Within P (withTime t 0 (withoutCycle P x))) (waitsLock (c .waits))
+      (λ s. pick-case (λ x. Within P (withTime t 0 (withoutCycle x))) (waitsLock (c .waits))
       (λ k. quiet-within P _ (flags-cleared P (withLock c) (flags-locked c (w .flags))) (w .cycle) refl refl)
       (λ k. quiet-within P _ (flags-cleared P c (w .flags)) (w .cycle) refl refl)))
       (λ e. runs-within P c t (c .left - elapsed (c .last) t) (omega arith) (λ h. left-over h e) w)
@@ -78,20 +78,20 @@ module _ (P : Part) (t : ℕ) (c : Core) where
               omega arith
 
   -- WEL and what waits are gone in the step in which the cycle ends, and no time is left
-  pub over-wel : ends t c ≡ true → timed P t c .wel ≡ 0
+  pub over-wel : ends t c ≡ true → timed t c .wel ≡ 0
   unfolding timed
   over-wel e = ap (λ (x : Core). x .wel) (at-yes _ _ e)
 
-  pub over-waits : ends t c ≡ true → timed P t c .waits ≡ nothing P
+  pub over-waits : ends t c ≡ true → timed t c .waits ≡ nothing
   unfolding timed
   over-waits e = ap (λ (x : Core). x .waits) (at-yes _ _ e)
 
-  pub over-left : ends t c ≡ true → timed P t c .left ≡ 0
+  pub over-left : ends t c ≡ true → timed t c .left ≡ 0
   unfolding timed
   over-left e = ap (λ (x : Core). x .left) (at-yes _ _ e)
 
   -- while it does not end, only the time left and the last reading move
-  pub on-core : ends t c ≡ false → timed P t c ≡ withTime t (c .left - elapsed (c .last) t) c
+  pub on-core : ends t c ≡ false → timed t c ≡ withTime t (c .left - elapsed (c .last) t) c
   unfolding timed
   on-core e = at-no _ _ e
 
@@ -168,7 +168,7 @@ module _ (P : Part) (t : ℕ) (c : Core) (m : List ℕ) (size : length m ≡ P .
   cell-rule i h = lent-rule P t c w memoryCells m size i h
 
 -- .. and for the lock, which is set exactly where a cycle of its own ends, and never opens
-pub lock-rule : (P : Part) (t : ℕ) (c : Core) → timed P t c .lock ≡ pick (ends t c && waitsLock (c .waits)) 1 (c .lock)
+pub lock-rule : (P : Part) (t : ℕ) (c : Core) → timed t c .lock ≡ pick (ends t c && waitsLock (c .waits)) 1 (c .lock)
 unfolding timed
 lock-rule P t c =
     let its : Core → ℕ = λ x. x .lock in

@@ -29,9 +29,9 @@ pub record Unwaited (c : Core) : Type 0 where
 module _ (P : Part) (c : Core) (plain : P .identified ≡ false) (w : Within P c) where
   -- the tie of time left to what waits, by the number of what waits
   tied-at : (n : ℕ) → c .waits .kind ≡ n
-      → pick (running c) (on (c .wel) && (eqb n 1 || eqb n 2 || false && (eqb n 3 || eqb n 4))) (eqb n 0) ≡ true
+      → pick (running c) ((P .wrdiInCycle || on (c .wel)) && (eqb n 1 || eqb n 2 || false && (eqb n 3 || eqb n 4))) (eqb n 0) ≡ true
   tied-at n e =
-      ap₂ (λ k i. pick (running c) (on (c .wel) && (eqb k 1 || eqb k 2 || i && (eqb k 3 || eqb k 4))) (eqb k 0)) (sym e) (sym plain) ∙ w .tie
+      ap₂ (λ k i. pick (running c) ((P .wrdiInCycle || on (c .wel)) && (eqb k 1 || eqb k 2 || i && (eqb k 3 || eqb k 4))) (eqb k 0)) (sym e) (sym plain) ∙ w .tie
 
   neither : (r d : Bool) → pick r (d && false) false ≡ true → ⊥
   unfolding pick
@@ -42,8 +42,8 @@ module _ (P : Part) (c : Core) (plain : P .identified ≡ false) (w : Within P c
   pub plain-unwaited : Unwaited c
   plain-unwaited =
       record {
-        page = failed (eqb (c .waits .kind) 3) (λ e. neither (running c) (on (c .wel)) (tied-at 3 (eqb-true _ _ e)));
-        lock = failed (eqb (c .waits .kind) 4) (λ e. neither (running c) (on (c .wel)) (tied-at 4 (eqb-true _ _ e)));
+        page = failed (eqb (c .waits .kind) 3) (λ e. neither (running c) (P .wrdiInCycle || on (c .wel)) (tied-at 3 (eqb-true _ _ e)));
+        lock = failed (eqb (c .waits .kind) 4) (λ e. neither (running c) (P .wrdiInCycle || on (c .wel)) (tied-at 4 (eqb-true _ _ e)));
       }
 
 pub unwaited-effect : (P : Part) (i : Instruction) (a v : ℕ) (l : Latch) (c : Core) → (isWrid i ≡ true → ⊥) → Unwaited c → Unwaited (effect P i a v l c)
@@ -58,12 +58,12 @@ unwaited-effect P Wrid a v l c other k = absurd (other refl)
 unwaited-effect P Silence a v l c other k = k
 
 module _ (P : Part) (t : ℕ) (c : Core) (k : Unwaited c) where
-  pub unwaited-timed : Unwaited (timed P t c)
+  pub unwaited-timed : Unwaited (timed t c)
   unfolding timed
   unwaited-timed =
       pick-case Unwaited (ends t c) (λ e. record { page = refl; lock = refl }) (λ e. record { page = k .page; lock = k .lock })
 
-  pub unwaited-lock : timed P t c .lock ≡ c .lock
+  pub unwaited-lock : timed t c .lock ≡ c .lock
   unwaited-lock = lock-rule P t c ∙ at-no _ _ (and-no-right (ends t c) (waitsLock (c .waits)) (k .lock))
 
   pub unwaited-cells : (d : List ℕ) → timedIdentification P t c d ≡ d

@@ -44,7 +44,7 @@ module _ (P : Part) (c : Core) where
 
 -- ---- nothing waits
 
-pub nothing-fits : (P : Part) → waitFits P (nothing P) ≡ true
+pub nothing-fits : (P : Part) → waitFits P nothing ≡ true
 unfolding pick
 nothing-fits P = none-latched P false
 
@@ -53,7 +53,7 @@ pub quiet-tie : (P : Part) (c : Core) → c .left ≡ 0 → c .waits .kind ≡ 0
 quiet-tie P c l k = at-no _ _ (le-ltb 0 (c .left) (omega arith)) ∙ eq-eqb _ _ k
 
 -- a device with no cycle and nothing that waits
-pub quiet-within : (P : Part) (c : Core) → flagsFit c ≡ true → cycleFits P (c .cycle) ≡ true → c .left ≡ 0 → c .waits ≡ nothing P → Within P c
+pub quiet-within : (P : Part) (c : Core) → flagsFit c ≡ true → cycleFits P (c .cycle) ≡ true → c .left ≡ 0 → c .waits ≡ nothing → Within P c
 quiet-within P c f y l w =
     record {
       flags = f;

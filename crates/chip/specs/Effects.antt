@@ -16,9 +16,9 @@ abbrev pub effect : Part → Instruction → ℕ → ℕ → Latch → Core → 
 effect P Wren a value latch c = withWel 1 c
 effect P Wrdi a value latch c = withWel 0 c
 effect P Rdsr a value latch c = c
-effect P Wrsr a value latch c = withCycle (statusWaits P value) c
+effect P Wrsr a value latch c = withCycle (statusWaits value) c
 effect P Read a value latch c = c
 effect P Write a value latch c = withCycle (pageWaits (a / P .page) latch) c
 effect P Rdid a value latch c = c
-effect P Wrid a value latch c = withCycle (pick (picksLock a) (lockWaits P) (identificationWaits latch)) c
+effect P Wrid a value latch c = withCycle (pick (picksLock a) lockWaits (identificationWaits latch)) c
 effect P Silence a value latch c = c

@@ -1,8 +1,8 @@
 -- Power-up, and the device as delivered.
-use Prim.Native.Nat.{ℕ}
+use Prim.Native.Nat.{ℕ, _-_}
 use mathlib.Core.Bool.{Bool, false}
-use mathlib.Core.List.{List}
-use lib.ListN.{replicate}
+use mathlib.Core.List.{List, _++_}
+use lib.ListN.{length, replicate}
 use Rattle.laws.specs.Pick.{pick}
 use Rattle.codes.specs.Part.{Part, m95512, partOf, isPart}
 use Rattle.chip.specs.Records.{idle}
@@ -17,12 +17,12 @@ use Rattle.codes.specs.declared.Outcome.the-variants.{Done, Refused}
 abbrev pub delivered : Core
 delivered = idle 0 false false false false (m95512 .longest) 0
 
--- with every byte FFh
+-- with every byte FFh, but for the first of the identification page
 abbrev pub deliveredMemory : Part → List ℕ
 deliveredMemory P = replicate (P .size) 0xff
 
 abbrev pub deliveredIdentification : Part → List ℕ
-deliveredIdentification P = replicate (P .page) 0xff
+deliveredIdentification P = P .identity ++ replicate (P .page - length (P .identity)) 0xff
 
 -- what stands for refusal 2, for a part that is none; for 6, where the cycle length is not 1 to the part's longest; and
 -- for none

@@ -25,9 +25,11 @@ cycleFits P n = leb 1 n && leb n (P .longest)
 abbrev pub waitsOne : Part → Waiting → Bool
 waitsOne P w = waitsStatus w || waitsPage w || P .identified && (waitsIdentification w || waitsLock w)
 
--- a device with time left has WEL 1 and one thing waiting; with none left, nothing waits
+-- a device with time left has one thing waiting, and WEL 1 but where WRDI may have cleared it; with none left, nothing
+-- waits
 abbrev pub tied : Part → Core → Bool
-tied P c = pick (running c) (on (c .wel) && waitsOne P (c .waits)) (waitsNothing (c .waits))
+tied P c =
+    pick (running c) ((P .wrdiInCycle || on (c .wel)) && waitsOne P (c .waits)) (waitsNothing (c .waits))
 
 -- a status value that waits has bits 6, 5, 4, 1 and 0 at 0; one that does not reads 0
 abbrev pub valueFits : Waiting → Bool

@@ -32,12 +32,12 @@ waitsLock w = eqb (w .kind) 4
 abbrev pub waitsLatch : Waiting → Bool
 waitsLatch w = waitsPage w || waitsIdentification w
 
-abbrev pub nothing : Part → Waiting
-nothing P = record { kind = 0; status = 0; page = 0; latch = noLatch P }
+abbrev pub nothing : Waiting
+nothing = record { kind = 0; status = 0; page = 0; latch = noLatch }
 
 -- only the writable bits of a status value wait
-abbrev pub statusWaits : Part → ℕ → Waiting
-statusWaits P v = record { kind = 1; status = writable v; page = 0; latch = noLatch P }
+abbrev pub statusWaits : ℕ → Waiting
+statusWaits v = record { kind = 1; status = writable v; page = 0; latch = noLatch }
 
 abbrev pub pageWaits : ℕ → Latch → Waiting
 pageWaits p l = record { kind = 2; status = 0; page = p; latch = l }
@@ -46,8 +46,8 @@ pageWaits p l = record { kind = 2; status = 0; page = p; latch = l }
 abbrev pub identificationWaits : Latch → Waiting
 identificationWaits l = record { kind = 3; status = 0; page = 0; latch = l }
 
-abbrev pub lockWaits : Part → Waiting
-lockWaits P = record { kind = 4; status = 0; page = 0; latch = noLatch P }
+abbrev pub lockWaits : Waiting
+lockWaits = record { kind = 4; status = 0; page = 0; latch = noLatch }
 
 -- ---- what a core says
 
@@ -148,8 +148,8 @@ withCycle w c =
     }
 
 -- the cycle is over: WEL 0, no time left, nothing waits
-abbrev pub withoutCycle : Part → Core → Core
-withoutCycle P c =
+abbrev pub withoutCycle : Core → Core
+withoutCycle c =
     record {
       part = c .part;
       lock = c .lock;
@@ -160,7 +160,7 @@ withoutCycle P c =
       cycle = c .cycle;
       left = 0;
       last = c .last;
-      waits = nothing P;
+      waits = nothing;
     }
 
 -- ---- a core made anew: WEL 0, no cycle, and the given part, lock, status bits, cycle length and clock reading
@@ -177,5 +177,5 @@ idle part lock srwd bp1 bp0 cycle t =
       cycle = cycle;
       left = 0;
       last = t;
-      waits = nothing (partOf part);
+      waits = nothing;
     }

@@ -27,9 +27,9 @@ abbrev pub ends : ℕ → Core → Bool
 ends t c = running c && leb (c .left) (elapsed (c .last) t)
 
 -- what waits is stored and WEL becomes 0, in that same step: a status value or the lock into the record ..
-abbrev pub ended : Part → Core → Core
-ended P c =
-    withoutCycle P
+abbrev pub ended : Core → Core
+ended c =
+    withoutCycle
     (pick (waitsStatus (c .waits)) (withStatus (c .waits .status) c) (pick (waitsLock (c .waits)) (withLock c) c))
 
 -- .. and latched bytes into the cells that they wait for: `its` says whether what waits is for them
@@ -37,8 +37,8 @@ abbrev pub endedCells : (Waiting → Bool) → Part → Core → List ℕ → Li
 endedCells its P c m = pick (its (c .waits)) (stored P (c .waits .page) (c .waits .latch) m) m
 
 -- the record after the reading t
-unfoldable pub timed : Part → ℕ → Core → Core
-timed P t c = pick (ends t c) (withTime t 0 (ended P c)) (withTime t (c .left - elapsed (c .last) t) c)
+unfoldable pub timed : ℕ → Core → Core
+timed t c = pick (ends t c) (withTime t 0 (ended c)) (withTime t (c .left - elapsed (c .last) t) c)
 
 -- lent cells after it: the memory, and the identification page, which is a memory of one page
 unfoldable pub timedCells : (Waiting → Bool) → Part → ℕ → Core → List ℕ → List ℕ
@@ -69,7 +69,7 @@ readingNumber P c m d = readingChoice P c m d 1 2 0
 
 abbrev pub clockReading : Part → ℕ → Core → List ℕ → List ℕ → Timed
 clockReading P t c m d =
-    record { outcome = readingOutcome P c m d; core = pick (isDone (readingOutcome P c m d)) (timed P t c) c }
+    record { outcome = readingOutcome P c m d; core = pick (isDone (readingOutcome P c m d)) (timed t c) c }
 
 abbrev pub clockMemory : Part → ℕ → Core → List ℕ → List ℕ → List ℕ
 clockMemory P t c m d = pick (isDone (readingOutcome P c m d)) (timedMemory P t c m) m

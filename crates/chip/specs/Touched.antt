@@ -14,8 +14,8 @@ use Rattle.chip.specs.declared.Touched.{Touched}
 use Rattle.chip.specs.declared.Touched.the-variants.{Cells, Refused}
 
 -- the ones of the words that wait
-abbrev pub cellsTouched : Part → Core → ℕ
-cellsTouched P c = touched P (c .waits .latch)
+abbrev pub cellsTouched : Core → ℕ
+cellsTouched c = touched (c .waits .latch)
 
 -- and the marked cells, one by one
 abbrev pub cellsMarked : Part → Core → ℕ
@@ -25,8 +25,8 @@ cellsMarked P c = count (marked (c .waits .latch)) (P .page)
 abbrev pub touchedChoice : {A : Type 0} → Bool → A → A → A
 touchedChoice fits two done = pick fits done two
 
-abbrev pub touchedAnswer : Part → Bool → Core → Touched
-touchedAnswer P fits c = touchedChoice fits (Refused RecordRange) (Cells (cellsTouched P c))
+abbrev pub touchedAnswer : Bool → Core → Touched
+touchedAnswer fits c = touchedChoice fits (Refused RecordRange) (Cells (cellsTouched c))
 
 -- the number of an answer in document 01, and its value
 abbrev pub touchedNumber : Touched → ℕ

@@ -1,5 +1,8 @@
 // How many cells the running cycle will touch: the question to a record.
 ghost use mathlib.Core.Path.{_≡_};
+ghost use Rattle.laws.specs.Count.{count};
+ghost use Rattle.codes.specs.Part.{room};
+ghost use Rattle.latch.specs.Latches.{marked};
 ghost use Rattle.chip.specs.Records.{ownPart};
 ghost use Rattle.chip.specs.Ranges.{inRanges};
 ghost use Rattle.chip.specs.Touched.{cellsMarked, cellsTouched, touchedAnswer, touchedChoice, touchedNumber};
@@ -11,7 +14,7 @@ use codes::Refusal;
 impl Core {
     // The ones of the words that wait, which are the marked cells; of any record.
     pub fn touched(self) -> u32
-        ensures { λ r. ⌜ (r ≡ cellsTouched (ownPart self) self) × (r ≡ cellsMarked (ownPart self) self) ⌝ }
+        ensures { λ r. ⌜ (r ≡ cellsTouched self) × (r ≡ count (marked (self .waits .latch)) room) ⌝ }
     {
         let waits = self.waits;
         let latch = waits.latch;
@@ -20,7 +23,7 @@ impl Core {
 
     // How many cells the running cycle will touch, 0 where no latched bytes wait: 2 for a record outside its ranges.
     pub fn cells_touched(self) -> Touched
-        ensures { λ r. ⌜ r ≡ touchedAnswer (ownPart self) (inRanges (ownPart self) self) self ⌝ }
+        ensures { λ r. ⌜ r ≡ touchedAnswer (inRanges (ownPart self) self) self ⌝ }
         ensures { λ r. ⌜ touchedNumber r ≡ touchedChoice (inRanges (ownPart self) self) 2 0 ⌝ }
         ensures { λ r. ⌜ touchedValue r
             ≡ touchedChoice (inRanges (ownPart self) self) 0 (cellsMarked (ownPart self) self) ⌝ }

@@ -1,9 +1,8 @@
 // What an executed instruction does to the record.
 ghost use mathlib.Core.Path.{_≡_};
 ghost use Rattle.laws.specs.Pick.{pick};
-ghost use Rattle.codes.specs.Part.{m95512};
 ghost use Rattle.codes.specs.Instructions.{picksLock};
-ghost use Rattle.chip.specs.Records.{ownPart, statusWaits, pageWaits, identificationWaits, lockWaits};
+ghost use Rattle.chip.specs.Records.{statusWaits, pageWaits, identificationWaits, lockWaits};
 ghost use Rattle.chip.specs.Records.{withWel, withCycle};
 use crate::Core;
 use crate::Waiting;
@@ -14,7 +13,7 @@ use latch::Latch;
 impl Waiting {
     // Only the writable bits of a status value wait.
     fn for_status(value: u8) -> Waiting
-        ensures { λ r. ⌜ r ≡ statusWaits m95512 value ⌝ }
+        ensures { λ r. ⌜ r ≡ statusWaits value ⌝ }
     {
         Waiting {
             kind: 1,
@@ -47,7 +46,7 @@ impl Waiting {
     }
 
     fn for_lock() -> Waiting
-        ensures { λ r. ⌜ r ≡ lockWaits m95512 ⌝ }
+        ensures { λ r. ⌜ r ≡ lockWaits ⌝ }
     {
         Waiting {
             kind: 4,
@@ -78,7 +77,7 @@ impl Core {
 
     // WRSR: the cycle begins at whose end the status value shows.
     pub fn begin_status(self, value: u8) -> Core
-        ensures { λ r. ⌜ r ≡ withCycle (statusWaits (ownPart self) value) self ⌝ }
+        ensures { λ r. ⌜ r ≡ withCycle (statusWaits value) self ⌝ }
     {
         self.with_cycle(Waiting::for_status(value))
     }
@@ -93,7 +92,7 @@ impl Core {
     // 82h: the cycle begins at whose end the lock is set or the identification page is stored, as its address picks.
     pub fn begin_identification(self, address: u32, latch: Latch) -> Core
         ensures { λ r. ⌜ r
-            ≡ withCycle (pick (picksLock address) (lockWaits (ownPart self)) (identificationWaits latch)) self ⌝ }
+            ≡ withCycle (pick (picksLock address) lockWaits (identificationWaits latch)) self ⌝ }
     {
         if picks_lock(address) {
             return self.with_cycle(Waiting::for_lock());

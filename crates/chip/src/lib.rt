@@ -1,4 +1,4 @@
-// What both models of the M95512 and the M95512-D share: the record that each holds, its ranges, passing time,
+// What both models of the three parts share: the record that each holds, its ranges, passing time,
 // power-up, and what waits for the end of a cycle.
 //
 // Public calls, each for every input: power_up, in_ranges, protected_from, protection, cells_touched, clock_reading.
@@ -39,7 +39,7 @@ pub struct Waiting {
 // The core record. All its fields are numbers: one record serves C too, and a flag of 2 is outside the ranges.
 #[repr(C)]
 pub struct Core {
-    // 0 the M95512, 1 the M95512-D
+    // 0 the M95512, 1 the M95512-D, 2 the M95M01
     pub part: u8,
     // the identification page is locked for good; on the M95512 it is never looked at
     pub lock: u8,

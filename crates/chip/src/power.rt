@@ -7,10 +7,11 @@ use crate::Core;
 use crate::PoweredUp;
 use crate::Waiting;
 use crate::ranges::cycle_fits;
-use codes::LONGEST_CYCLE;
+use codes::M95512;
 use codes::Outcome;
 use codes::Refusal;
 use codes::is_part;
+use codes::longest_of;
 
 impl Core {
     // WEL 0, no cycle, and the given part, lock, status bits, cycle length and clock reading.
@@ -43,7 +44,7 @@ impl Core {
     pub fn delivered() -> Core
         ensures { λ r. ⌜ r ≡ delivered ⌝ }
     {
-        Core::idle(0, false, false, false, false, LONGEST_CYCLE, 0)
+        Core::idle(M95512, false, false, false, false, longest_of(M95512), 0)
     }
 }
 
@@ -72,7 +73,7 @@ pub fn power_up(
     ensures { λ r. ⌜ number (r .outcome) ≡ powerUpNumber part cycle ⌝ }
 {
     if is_part(part) {
-        if cycle_fits(cycle) {
+        if cycle_fits(part, cycle) {
             return PoweredUp {
                 outcome: Outcome::Done,
                 core: Core::idle(part, lock, srwd, bp1, bp0, cycle, reading),

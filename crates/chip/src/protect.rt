@@ -11,16 +11,14 @@ use crate::Protection;
 use codes::Instruction;
 use codes::Refusal;
 use codes::lowest_protected;
-
-// Addresses are u32.
-const SIZE: u32 = codes::SIZE as u32;
+use codes::size_of;
 
 impl Core {
     // The lowest protected address, the memory's size for none.
     pub fn lowest(self) -> u32
         ensures { λ r. ⌜ r ≡ lowest (ownPart self) self ⌝ }
     {
-        lowest_protected(self.bp1 == 1, self.bp0 == 1)
+        lowest_protected(self.part, self.bp1 == 1, self.bp0 == 1)
     }
 
     // The lowest protected address is at most this one.
@@ -66,7 +64,7 @@ impl Core {
         ensures { λ r. ⌜ protectionValue r ≡ questionValue (ownPart self) self address ⌝ }
     {
         if self.in_ranges() {
-            if address < SIZE {
+            if (address as usize) < size_of(self.part) {
                 if self.protects(address) {
                     return Protection::Protected;
                 }

@@ -2,20 +2,22 @@
 ghost use mathlib.Core.Path.{_≡_};
 ghost use mathlib.Core.Bool.{_&&_, _||_};
 ghost use lib.Dec.{eqb};
-ghost use Rattle.codes.specs.Part.{m95512, partOf};
+ghost use Rattle.codes.specs.Part.{partOf};
 ghost use Rattle.chip.specs.Records.{ownPart};
 ghost use Rattle.chip.specs.Ranges.{flagsFit, cycleFits, timeFits, tied, valueFits, pageFits, waitFits, inRanges};
 use crate::Core;
 use crate::Waiting;
-use codes::LONGEST_CYCLE;
-use codes::M95512D;
-use codes::PAGES;
+use codes::identified;
+use codes::is_part;
+use codes::longest_of;
+use codes::pages_of;
+use codes::wrdi_in_cycle;
 
-// The cycle length, 1 to the longest.
-pub fn cycle_fits(cycle: u32) -> bool
-    ensures { λ r. ⌜ r ≡ cycleFits m95512 cycle ⌝ }
+// The cycle length, 1 to the part's longest.
+pub fn cycle_fits(part: u8, cycle: u32) -> bool
+    ensures { λ r. ⌜ r ≡ cycleFits (partOf part) cycle ⌝ }
 {
-    (1 <= cycle) & (cycle <= LONGEST_CYCLE)
+    (1 <= cycle) & (cycle <= longest_of(part))
 }
 
 impl Waiting {
@@ -29,20 +31,22 @@ impl Waiting {
         status == 0
     }
 
-    fn page_fits(self) -> bool
-        ensures { λ r. ⌜ r ≡ pageFits m95512 self ⌝ }
+    fn page_fits(self, part: u8) -> bool
+        ensures { λ r. ⌜ r ≡ pageFits (partOf part) self ⌝ }
     {
         if self.kind == 2 {
-            return self.page < PAGES;
+            return self.page < pages_of(part);
         }
         self.page == 0
     }
 
-    fn fits(self) -> bool
-        ensures { λ r. ⌜ r ≡ waitFits m95512 self ⌝ }
+    fn fits(self, part: u8) -> bool
+        ensures { λ r. ⌜ r ≡ waitFits (partOf part) self ⌝ }
     {
         let latch = self.latch;
-        self.value_fits() & self.page_fits() & latch.fits((self.kind == 2) | (self.kind == 3))
+        self.value_fits()
+            & self.page_fits(part)
+            & latch.fits(part, (self.kind == 2) | (self.kind == 3))
     }
 }
 
@@ -50,14 +54,14 @@ impl Waiting {
 fn one_waits(part: u8, kind: u8) -> bool
     ensures { λ r. ⌜ r ≡ (eqb kind 1 || eqb kind 2 || partOf part .identified && (eqb kind 3 || eqb kind 4)) ⌝ }
 {
-    (kind == 1) | (kind == 2) | (part == M95512D) & ((kind == 3) | (kind == 4))
+    (kind == 1) | (kind == 2) | identified(part) & ((kind == 3) | (kind == 4))
 }
 
 impl Core {
     fn flags_fit(self) -> bool
         ensures { λ r. ⌜ r ≡ flagsFit self ⌝ }
     {
-        (self.part <= M95512D)
+        is_part(self.part)
             & (self.lock <= 1)
             & (self.srwd <= 1)
             & (self.bp1 <= 1)
@@ -68,7 +72,7 @@ impl Core {
     fn time_fits(self) -> bool
         ensures { λ r. ⌜ r ≡ timeFits (ownPart self) self ⌝ }
     {
-        cycle_fits(self.cycle) & (self.left <= self.cycle)
+        cycle_fits(self.part, self.cycle) & (self.left <= self.cycle)
     }
 
     fn tied(self) -> bool
@@ -76,7 +80,7 @@ impl Core {
     {
         let kind = self.waits.kind;
         if 0 < self.left {
-            return (self.wel == 1) & one_waits(self.part, kind);
+            return (wrdi_in_cycle(self.part) | (self.wel == 1)) & one_waits(self.part, kind);
         }
         kind == 0
     }
@@ -86,6 +90,6 @@ impl Core {
         ensures { λ r. ⌜ r ≡ inRanges (ownPart self) self ⌝ }
     {
         let waits = self.waits;
-        self.flags_fit() & self.time_fits() & self.tied() & waits.fits()
+        self.flags_fit() & self.time_fits() & self.tied() & waits.fits(self.part)
     }
 }

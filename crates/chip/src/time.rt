@@ -4,7 +4,7 @@ ghost use mathlib.Core.Bool.{_&&_};
 ghost use Prim.Native.Nat.{_-_};
 ghost use lib.Dec.{leb};
 ghost use Rattle.laws.specs.Pick.{pick};
-ghost use Rattle.codes.specs.Part.{m95512};
+ghost use Rattle.codes.specs.Part.{partOf};
 ghost use Rattle.latch.specs.Latches.{stored};
 ghost use Rattle.chip.specs.Records.{ownPart, running, nothing};
 ghost use Rattle.chip.specs.Records.{withStatus, withLock, withTime, withoutCycle};
@@ -15,11 +15,11 @@ use crate::Core;
 use crate::Timed;
 use crate::Waiting;
 use codes::Outcome;
-use codes::PAGE;
 use codes::Refusal;
-use codes::SIZE;
 use codes::bp0_of;
 use codes::bp1_of;
+use codes::page_of;
+use codes::size_of;
 use codes::srwd_of;
 use latch::Latch;
 
@@ -33,7 +33,7 @@ pub fn elapsed(old: u32, new: u32) -> u32
 impl Waiting {
     // What waits where nothing does: every field is 0.
     pub fn nothing() -> Waiting
-        ensures { λ r. ⌜ r ≡ nothing m95512 ⌝ }
+        ensures { λ r. ⌜ r ≡ nothing ⌝ }
     {
         Waiting {
             kind: 0,
@@ -74,7 +74,7 @@ impl Core {
     }
 
     fn without_cycle(mut self) -> Core
-        ensures { λ r. ⌜ r ≡ withoutCycle (ownPart self) self ⌝ }
+        ensures { λ r. ⌜ r ≡ withoutCycle self ⌝ }
     {
         let waits = Waiting::nothing();
         self.wel = 0;
@@ -92,7 +92,7 @@ impl Core {
 
     // The record once its cycle is over: a waiting status value or lock shows now.
     fn ended(self) -> Core
-        ensures { λ r. ⌜ r ≡ ended (ownPart self) self ⌝ }
+        ensures { λ r. ⌜ r ≡ ended self ⌝ }
     {
         let kind = self.waits.kind;
         let value = self.waits.status;
@@ -115,13 +115,13 @@ impl Core {
         let page = self.waits.page;
         let latch = self.waits.latch;
         if theirs {
-            latch.store(page, cells);
+            latch.store(self.part, page, cells);
         }
     }
 
     // A clock reading, with no refusal: the step that both models take.
     pub fn timed(self, reading: u32, memory: &mut [u8], identification: &mut [u8]) -> Core
-        ensures { λ r. ⌜ r ≡ timed (ownPart self) reading self ⌝ }
+        ensures { λ r. ⌜ r ≡ timed reading self ⌝ }
         ensures { λ _. ⌜ now (memory .exit) ≡ timedMemory (ownPart self) reading self (now (memory .entry)) ⌝ }
         ensures { λ _. ⌜ now (identification .exit)
             ≡ timedIdentification (ownPart self) reading self (now (identification .entry)) ⌝ }
@@ -145,10 +145,10 @@ pub fn left_after(left: u32, passed: u32) -> u32
 }
 
 // Both lent slices are as long as the part has it.
-pub fn lent_fits(memory: usize, identification: usize) -> bool
-    ensures { λ r. ⌜ r ≡ lentFits m95512 memory identification ⌝ }
+pub fn lent_fits(part: u8, memory: usize, identification: usize) -> bool
+    ensures { λ r. ⌜ r ≡ lentFits (partOf part) memory identification ⌝ }
 {
-    (memory == SIZE) & (identification == PAGE)
+    (memory == size_of(part)) & (identification == page_of(part))
 }
 
 // The public clock reading, for every input: 1 for a memory or an identification page of another length, then 2 for a
@@ -168,7 +168,7 @@ pub fn clock_reading(
     ensures { λ _. ⌜ now (identification .exit)
         ≡ clockIdentification (ownPart core) reading core (now (memory .entry)) (now (identification .entry)) ⌝ }
 {
-    if lent_fits(memory.len(), identification.len()) {
+    if lent_fits(core.part, memory.len(), identification.len()) {
         if core.in_ranges() {
             let next = core.timed(reading, memory, identification);
             return Timed {

@@ -16,6 +16,26 @@ use Rattle.codes.proofs.protect.lowest_protected.Kinds as lowest-protec
 use Rattle.codes.proofs.protect.lowest_protected.Reads as lowest-protected-reads
 use Rattle.codes.proofs.sizes.is_part.Kinds as is-part
 use Rattle.codes.proofs.sizes.is_part.Reads as is-part-reads
+use Rattle.codes.proofs.sizes.size_of.Kinds as size-of
+use Rattle.codes.proofs.sizes.size_of.Reads as size-of-reads
+use Rattle.codes.proofs.sizes.page_of.Kinds as page-of
+use Rattle.codes.proofs.sizes.page_of.Reads as page-of-reads
+use Rattle.codes.proofs.sizes.pages_of.Kinds as pages-of
+use Rattle.codes.proofs.sizes.pages_of.Reads as pages-of-reads
+use Rattle.codes.proofs.sizes.page_number.Kinds as page-number
+use Rattle.codes.proofs.sizes.page_number.Reads as page-number-reads
+use Rattle.codes.proofs.sizes.address_bytes_of.Kinds as address-bytes-of
+use Rattle.codes.proofs.sizes.address_bytes_of.Reads as address-bytes-of-reads
+use Rattle.codes.proofs.sizes.head_of.Kinds as head-of
+use Rattle.codes.proofs.sizes.head_of.Reads as head-of-reads
+use Rattle.codes.proofs.sizes.most_of.Kinds as most-of
+use Rattle.codes.proofs.sizes.most_of.Reads as most-of-reads
+use Rattle.codes.proofs.sizes.longest_of.Kinds as longest-of
+use Rattle.codes.proofs.sizes.longest_of.Reads as longest-of-reads
+use Rattle.codes.proofs.sizes.identified.Kinds as identified
+use Rattle.codes.proofs.sizes.identified.Reads as identified-reads
+use Rattle.codes.proofs.sizes.wrdi_in_cycle.Kinds as wrdi-in-cycle
+use Rattle.codes.proofs.sizes.wrdi_in_cycle.Reads as wrdi-in-cycle-reads
 use Rattle.codes.proofs.status.status_byte.Kinds as status-byte
 use Rattle.codes.proofs.status.status_byte.Reads as status-byte-reads
 use Rattle.codes.proofs.status.writable.Kinds as writable
@@ -56,6 +76,36 @@ lowest-protected-one κs a z z′ e e′ p q = same p q
 
 pub is-part-one : OneResult is-part.ps is-part.r is-part-reads.Post
 is-part-one κs a z z′ e e′ p q = same p q
+
+pub size-of-one : OneResult size-of.ps size-of.r size-of-reads.Post
+size-of-one κs a z z′ e e′ p q = same (p .0) (q .0)
+
+pub page-of-one : OneResult page-of.ps page-of.r page-of-reads.Post
+page-of-one κs a z z′ e e′ p q = same (p .0) (q .0)
+
+pub pages-of-one : OneResult pages-of.ps pages-of.r pages-of-reads.Post
+pages-of-one κs a z z′ e e′ p q = same p q
+
+pub page-number-one : OneResult page-number.ps page-number.r page-number-reads.Post
+page-number-one κs a z z′ e e′ p q = same (p .0) (q .0)
+
+pub address-bytes-of-one : OneResult address-bytes-of.ps address-bytes-of.r address-bytes-of-reads.Post
+address-bytes-of-one κs a z z′ e e′ p q = same (p .0) (q .0)
+
+pub head-of-one : OneResult head-of.ps head-of.r head-of-reads.Post
+head-of-one κs a z z′ e e′ p q = same (p .0) (q .0)
+
+pub most-of-one : OneResult most-of.ps most-of.r most-of-reads.Post
+most-of-one κs a z z′ e e′ p q = same (p .0) (q .0)
+
+pub longest-of-one : OneResult longest-of.ps longest-of.r longest-of-reads.Post
+longest-of-one κs a z z′ e e′ p q = same (p .0) (q .0)
+
+pub identified-one : OneResult identified.ps identified.r identified-reads.Post
+identified-one κs a z z′ e e′ p q = same p q
+
+pub wrdi-in-cycle-one : OneResult wrdi-in-cycle.ps wrdi-in-cycle.r wrdi-in-cycle-reads.Post
+wrdi-in-cycle-one κs a z z′ e e′ p q = same p q
 
 pub status-byte-one : OneResult status-byte.ps status-byte.r status-byte-reads.Post
 status-byte-one κs a z z′ e e′ p q = same p q

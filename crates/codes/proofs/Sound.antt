@@ -1,11 +1,13 @@
--- What the proofs need of a part's sizes, each a fact of its numbers, and that the M95512 has it: a law is stated for a sound part.
+-- What the proofs need of a part's sizes, each a fact of its numbers, and that every row has it: a law is
+-- stated for a sound part.
 use Prim.Native.Nat.{ℕ, _+_, _-_, _*_, _/_, _^_, _<_, _≤_, _∣_}
 use mathlib.Core.Path.{_≡_, refl}
-use mathlib.Core.Bool.{Bool, false}
+use mathlib.Core.Bool.{Bool, true, false}
 use native.Mathlib.Nat.{dvd-mul-right}
 use native.Mathlib.Omega.{arith}
-use lib.Dec.{eqb, lit≤}
-use Rattle.codes.specs.Part.{Part, rowWith, m95512, partOf, pages, words}
+use lib.Dec.{lit≤}
+use Rattle.codes.specs.Part.{Part, rowWith, m95512, m95m01, partOf, pages, room}
+use Rattle.codes.proofs.Parts.{of-each}
 
 pub record Sound (P : Part) : Type 0 where
   -- there is a page, and a memory
@@ -16,8 +18,14 @@ pub record Sound (P : Part) : Type 0 where
   -- and each of its quarters, by which it is protected
   pub quarter : ℕ
   pub quarters : P .size ≡ 4 * (quarter * P .page)
-  -- the words of marks have a bit for each cell of a page, and no other
-  pub marks-whole : words P * 64 ≡ P .page
+  -- words of marks have a bit for each cell of a page, and no other; an array has room for it
+  pub marks-whole : P .page / 64 * 64 ≡ P .page
+  pub page-room : P .page ≤ room
+  -- page and memory are powers of two: a mask finds the place in each
+  pub page-bits : ℕ
+  pub page-power : 2 ^ page-bits ≡ P .page
+  pub size-bits : ℕ
+  pub size-power : 2 ^ size-bits ≡ P .size
   -- an address has a byte, and its bytes reach every cell
   pub bytes-some : 1 ≤ P .addressBytes
   pub reached : P .size ≤ 256 ^ P .addressBytes
@@ -31,7 +39,7 @@ pub record Sound (P : Part) : Type 0 where
   pub longest-some : 1 ≤ P .longest
   pub longest-read : P .longest < 2 ^ 32
 
--- the rows' sizes are the same, whether or not there is an identification page
+-- the two rows of the M95512 differ in no size
 row-sound : (d : Bool) → Sound (rowWith d)
 row-sound d =
     record {
@@ -41,6 +49,11 @@ row-sound d =
       quarter = 128;
       quarters = refl;
       marks-whole = refl;
+      page-room = lit≤ tt;
+      page-bits = 7;
+      page-power = refl;
+      size-bits = 16;
+      size-power = refl;
       bytes-some = omega arith;
       reached = lit≤ tt;
       placed = dvd-mul-right 256 256;
@@ -53,6 +66,29 @@ row-sound d =
 pub m95512-sound : Sound m95512
 m95512-sound = row-sound false
 
+pub m95m01-sound : Sound m95m01
+m95m01-sound =
+    record {
+      page-some = omega arith;
+      size-some = omega arith;
+      whole = refl;
+      quarter = 128;
+      quarters = refl;
+      marks-whole = refl;
+      page-room = lit≤ tt;
+      page-bits = 8;
+      page-power = refl;
+      size-bits = 17;
+      size-power = refl;
+      bytes-some = omega arith;
+      reached = lit≤ tt;
+      placed = dvd-mul-right 65536 2;
+      counted = omega arith;
+      alike = refl;
+      longest-some = omega arith;
+      longest-read = lit≤ tt;
+    }
+
 -- the row of any number is sound
 pub sound-of : (n : ℕ) → Sound (partOf n)
-sound-of n = row-sound (eqb n 1)
+sound-of n = of-each Sound n m95m01-sound (row-sound true) (row-sound false)

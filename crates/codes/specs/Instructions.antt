@@ -62,7 +62,15 @@ inHold r = record { count = r .count; idle = r .idle; wel = r .wel; guard = r .g
 -- counts, or sets the lock with exactly the bits of code, address and one data byte
 abbrev pub row : Part → Instruction → ℕ → ℕ → Row
 row P Wren a x = record { count = Exactly 8; idle = true; wel = false; guard = Nothing; hold = false; known = true }
-row P Wrdi a x = record { count = Exactly 8; idle = true; wel = false; guard = Nothing; hold = false; known = true }
+row P Wrdi a x =
+    record {
+      count = Exactly 8;
+      idle = not (P .wrdiInCycle);
+      wel = false;
+      guard = Nothing;
+      hold = false;
+      known = true;
+    }
 row P Rdsr a x = record { count = AnyBits; idle = false; wel = false; guard = Nothing; hold = false; known = true }
 row P Wrsr a x = record { count = Exactly 16; idle = true; wel = true; guard = StatusLock; hold = false; known = true }
 row P Read a x = record { count = AnyBits; idle = true; wel = false; guard = Nothing; hold = false; known = true }

@@ -1,7 +1,9 @@
 -- The table of parts, a row for each: sizes and abilities. The chip's rules and both models' are read over them.
 use Prim.Native.Nat.{ℕ, _/_}
 use mathlib.Core.Bool.{Bool, true, false}
+use mathlib.Core.List.{List, [], _∷_}
 use lib.Dec.{eqb, leb}
+use Rattle.laws.specs.Pick.{pick}
 
 pub record Part : Type 0 where
   -- cells of the memory
@@ -16,10 +18,24 @@ pub record Part : Type 0 where
   pub longest : ℕ
   -- it has an identification page and a lock
   pub identified : Bool
+  -- WRDI is executed in a cycle too
+  pub wrdiInCycle : Bool
+  -- the first bytes of the identification page as delivered; the others are FFh
+  pub identity : List ℕ
 
 -- 65,536 bytes, 512 pages of 128; 5 ms is the sheets' longest cycle; the -D part has the identification page besides
 abbrev pub rowWith : Bool → Part
-rowWith d = record { size = 65536; page = 128; addressBytes = 2; most = 5; longest = 5000; identified = d }
+rowWith d =
+    record {
+      size = 65536;
+      page = 128;
+      addressBytes = 2;
+      most = 5;
+      longest = 5000;
+      identified = d;
+      wrdiInCycle = false;
+      identity = [];
+    }
 
 abbrev pub m95512 : Part
 m95512 = rowWith false
@@ -27,18 +43,36 @@ m95512 = rowWith false
 abbrev pub m95512d : Part
 m95512d = rowWith true
 
--- the row of a part's number: 0 the M95512, 1 the M95512-D; a number that is none reads the M95512's row, so that
--- refusal 1 can be judged before 2
-abbrev pub partOf : ℕ → Part
-partOf n = rowWith (eqb n 1)
+-- 131,072 bytes, 512 pages of 256, three address bytes, cycles of at most 4 ms (001)
+abbrev pub m95m01 : Part
+m95m01 =
+    record {
+      size = 131072;
+      page = 256;
+      addressBytes = 3;
+      most = 6;
+      longest = 4000;
+      identified = true;
+      wrdiInCycle = true;
+      identity = 0x20 ∷ 0x00 ∷ 0x11 ∷ [];
+    }
+
+-- the row of a part's number: 0 the M95512, 1 the M95512-D, 2 the M95M01; a number that is none reads the M95512's row,
+-- so that refusal 1 can be judged before 2
+unfoldable pub partOf : ℕ → Part
+partOf n = pick (eqb n 2) m95m01 (pick (eqb n 1) m95512d m95512)
 
 -- the numbers that are parts
 abbrev pub isPart : ℕ → Bool
-isPart n = leb n 1
+isPart n = leb n 2
 
 abbrev pub pages : Part → ℕ
 pages P = P .size / P .page
 
--- words of marks, a bit for each cell of a page
-abbrev pub words : Part → ℕ
-words P = P .page / 64
+-- cells of the arrays in a record: the largest page; on a part with smaller pages those past the page stay empty
+abbrev pub room : ℕ
+room = 256
+
+-- words of marks, a bit for each of those cells
+abbrev pub roomWords : ℕ
+roomWords = room / 64

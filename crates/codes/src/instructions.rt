@@ -9,8 +9,9 @@ use crate::Count;
 use crate::Guard;
 use crate::Instruction;
 use crate::Row;
-use crate::sizes::M95512D;
-use crate::sizes::WRITE_BITS;
+use crate::sizes::identified;
+use crate::sizes::wrdi_in_cycle;
+use crate::sizes::write_bits_of;
 
 // Sets WEL, and clears it.
 pub const WREN: u8 = 0x06;
@@ -70,7 +71,7 @@ pub fn decode(part: u8, code: u8) -> Instruction
         WRSR => Instruction::Wrsr,
         READ => Instruction::Read,
         WRITE => Instruction::Write,
-        _ => decode_identified(part == M95512D, code),
+        _ => decode_identified(identified(part), code),
     }
 }
 
@@ -138,11 +139,11 @@ impl Row {
     }
 
     // 82h where its address picks the lock, as 1024 does: its data byte must set it.
-    fn lock(value: u8) -> Row
-        ensures { λ r. ⌜ r ≡ row m95512 Wrid 1024 value ⌝ }
+    fn lock(part: u8, value: u8) -> Row
+        ensures { λ r. ⌜ r ≡ row (partOf part) Wrid 1024 value ⌝ }
     {
         Row {
-            count: Count::Exactly(WRITE_BITS),
+            count: Count::Exactly(write_bits_of(part)),
             idle: true,
             wel: true,
             guard: Guard::CellLock,
@@ -166,18 +167,28 @@ fn table(part: u8, i: Instruction) -> Row
 {
     match i {
         Instruction::Wren => Row::known(Count::Exactly(8), true, false, Guard::Nothing),
-        Instruction::Wrdi => Row::known(Count::Exactly(8), true, false, Guard::Nothing),
+        Instruction::Wrdi => Row::known(
+            Count::Exactly(8),
+            !wrdi_in_cycle(part),
+            false,
+            Guard::Nothing,
+        ),
         Instruction::Rdsr => Row::known(Count::AnyBits, false, false, Guard::Nothing),
         Instruction::Wrsr => Row::known(Count::Exactly(16), true, true, Guard::StatusLock),
         Instruction::Read => Row::known(Count::AnyBits, true, false, Guard::Nothing),
         Instruction::Write => Row::known(
-            Count::WholeBytes(WRITE_BITS),
+            Count::WholeBytes(write_bits_of(part)),
             true,
             true,
             Guard::CellLock,
         ).in_hold(),
         Instruction::Rdid => Row::known(Count::AnyBits, true, false, Guard::Nothing),
-        Instruction::Wrid => Row::known(Count::WholeBytes(WRITE_BITS), true, true, Guard::CellLock),
+        Instruction::Wrid => Row::known(
+            Count::WholeBytes(write_bits_of(part)),
+            true,
+            true,
+            Guard::CellLock,
+        ),
         Instruction::Silence => Row::unknown(),
     }
 }
@@ -187,7 +198,7 @@ pub(crate) fn row(part: u8, i: Instruction, address: u32, value: u8) -> Row
     ensures { λ r. ⌜ r ≡ row (partOf part) i address value ⌝ }
 {
     if is_wrid(i) & picks_lock(address) {
-        return Row::lock(value);
+        return Row::lock(part, value);
     }
     table(part, i)
 }

@@ -1,5 +1,5 @@
-// What the data sheets of the M95512 and the M95512-D say with no record in hand: the parts' sizes, the instruction
-// codes, the verdict on a frame, the status byte, where protection starts, and the numbers of the refusals.
+// What the data sheets of the M95512, the M95512-D and the M95M01 say with no record in hand: the parts' sizes, the
+// instruction codes, the verdict on a frame, the status byte, where protection starts, and the numbers of the refusals.
 //
 // Every public function is an inner call of the models: total, and exactly its definition.
 mod answers;
@@ -22,18 +22,20 @@ pub use instructions::is_wrid;
 pub use instructions::is_write;
 pub use instructions::picks_lock;
 pub use protect::lowest_protected;
-pub use sizes::ADDRESS_BYTES;
-pub use sizes::HEAD;
-pub use sizes::HEAD_BITS;
-pub use sizes::LONGEST_CYCLE;
-pub use sizes::LONGEST_FRAME;
+pub use sizes::M95M01;
 pub use sizes::M95512;
 pub use sizes::M95512D;
-pub use sizes::MOST;
-pub use sizes::PAGE;
-pub use sizes::PAGES;
-pub use sizes::SIZE;
+pub use sizes::address_bytes_of;
+pub use sizes::head_of;
+pub use sizes::identified;
 pub use sizes::is_part;
+pub use sizes::longest_of;
+pub use sizes::most_of;
+pub use sizes::page_number;
+pub use sizes::page_of;
+pub use sizes::pages_of;
+pub use sizes::size_of;
+pub use sizes::wrdi_in_cycle;
 pub use status::bp0_of;
 pub use status::bp1_of;
 pub use status::srwd_of;

@@ -1,40 +1,134 @@
-// The sizes of both parts for the code, each once; specs/Part.antt has the rows.
+// The sizes of the parts for the code, each once; specs/Part.antt has the rows. A number that is no part reads the
+// M95512's row.
 ghost use mathlib.Core.Path.{_≡_};
-ghost use Rattle.codes.specs.Part.{isPart};
+ghost use Prim.Native.Nat.{_+_, _/_, _≤_};
+ghost use Rattle.codes.specs.Part.{isPart, pages, partOf};
+ghost use Rattle.codes.specs.Instructions.{writeBits};
 
-// The numbers of the parts: the M95512, and the M95512-D with its identification page and lock.
+// The numbers of the parts: the M95512, the M95512-D with its identification page and lock, and the M95M01 of twice the
+// size.
 pub const M95512: u8 = 0;
 
 pub const M95512D: u8 = 1;
 
+pub const M95M01: u8 = 2;
+
 pub fn is_part(part: u8) -> bool
     ensures { λ r. ⌜ r ≡ isPart part ⌝ }
 {
-    part <= M95512D
+    part <= M95M01
 }
 
-// Cells of the memory, cells of a page, and how many pages there are.
-pub const SIZE: usize = 65536;
+// Cells of the memory, and of a page: of the M95512 and the M95512-D, and of the M95M01.
+const SIZE: usize = 65536;
 
-pub const PAGE: usize = 128;
+const PAGE: usize = 128;
 
-pub const PAGES: u32 = (SIZE / PAGE) as u32;
+const LARGE_SIZE: usize = 131072;
 
-// Address bytes, and with the code before them what stands before the data of a READ or a WRITE.
-pub const ADDRESS_BYTES: usize = 2;
+const LARGE_PAGE: usize = 256;
 
-pub const HEAD: usize = 1 + ADDRESS_BYTES;
+// Cells of the memory.
+pub fn size_of(part: u8) -> usize
+    ensures { λ r. ⌜ r ≡ partOf part .size ⌝ }
+    ensures { λ r. ⌜ (1024 ≤ r) × (r ≤ 131072) ⌝ }
+{
+    if part == M95M01 {
+        return LARGE_SIZE;
+    }
+    SIZE
+}
 
-pub const HEAD_BITS: usize = 8 * HEAD;
+// Cells of a page, and of the identification page.
+pub fn page_of(part: u8) -> usize
+    ensures { λ r. ⌜ r ≡ partOf part .page ⌝ }
+    ensures { λ r. ⌜ (128 ≤ r) × (r ≤ 256) ⌝ }
+{
+    if part == M95M01 {
+        return LARGE_PAGE;
+    }
+    PAGE
+}
 
-// Where the count of whole bytes taken stays.
-pub const MOST: u8 = 5;
+// Pages of the memory.
+pub fn pages_of(part: u8) -> u32
+    ensures { λ r. ⌜ r ≡ pages (partOf part) ⌝ }
+{
+    if part == M95M01 {
+        return (LARGE_SIZE / LARGE_PAGE) as u32;
+    }
+    (SIZE / PAGE) as u32
+}
+
+// The page that an address is in. Each row divides by a constant.
+pub fn page_number(part: u8, address: usize) -> usize
+    ensures { λ r. ⌜ r ≡ address / partOf part .page ⌝ }
+    ensures { λ r. ⌜ r ≤ address ⌝ }
+{
+    if part == M95M01 {
+        return address / LARGE_PAGE;
+    }
+    address / PAGE
+}
+
+// Address bytes, which stand after the code.
+pub fn address_bytes_of(part: u8) -> u8
+    ensures { λ r. ⌜ r ≡ partOf part .addressBytes ⌝ }
+    ensures { λ r. ⌜ (2 ≤ r) × (r ≤ 3) ⌝ }
+{
+    if part == M95M01 {
+        return 3;
+    }
+    2
+}
+
+// The bytes before the data of a READ or a WRITE: the code and the address.
+pub fn head_of(part: u8) -> u8
+    ensures { λ r. ⌜ r ≡ partOf part .addressBytes + 1 ⌝ }
+    ensures { λ r. ⌜ (3 ≤ r) × (r ≤ 4) ⌝ }
+{
+    address_bytes_of(part) + 1
+}
 
 // Bits of a WRITE's code, address and first data byte.
-pub const WRITE_BITS: usize = HEAD_BITS + 8;
+pub(crate) fn write_bits_of(part: u8) -> usize
+    ensures { λ r. ⌜ r ≡ writeBits (partOf part) ⌝ }
+{
+    8 * (head_of(part) as usize + 1)
+}
 
-// Bytes of the longest frame: the memory, and four more.
-pub const LONGEST_FRAME: usize = SIZE + 4;
+// Where the count of whole bytes taken stays.
+pub fn most_of(part: u8) -> u8
+    ensures { λ r. ⌜ r ≡ partOf part .most ⌝ }
+    ensures { λ r. ⌜ (5 ≤ r) × (r ≤ 6) ⌝ }
+{
+    if part == M95M01 {
+        return 6;
+    }
+    5
+}
 
 // Microseconds of the longest write cycle.
-pub const LONGEST_CYCLE: u32 = 5000;
+pub fn longest_of(part: u8) -> u32
+    ensures { λ r. ⌜ r ≡ partOf part .longest ⌝ }
+    ensures { λ r. ⌜ (1 ≤ r) × (r ≤ 5000) ⌝ }
+{
+    if part == M95M01 {
+        return 4000;
+    }
+    5000
+}
+
+// It has an identification page and a lock.
+pub fn identified(part: u8) -> bool
+    ensures { λ r. ⌜ r ≡ partOf part .identified ⌝ }
+{
+    (part == M95512D) | (part == M95M01)
+}
+
+// WRDI is executed in a cycle too.
+pub fn wrdi_in_cycle(part: u8) -> bool
+    ensures { λ r. ⌜ r ≡ partOf part .wrdiInCycle ⌝ }
+{
+    part == M95M01
+}

@@ -1,6 +1,7 @@
 -- The facts that the functions' proofs share, and that two results are equal. The theorems on runs are in
 -- `driver_theorems`.
 pub mod Playing
+pub mod Heads
 pub mod Frames
 pub mod Ready
 pub mod Left

@@ -1,5 +1,5 @@
 -- A device that no call refuses, and that whatever is played on it leaves one, for any sound part.
-use mathlib.Core.Path.{_≡_, refl, ap, _∙_}
+use mathlib.Core.Path.{_≡_, refl, ap, sym, subst, _∙_}
 use mathlib.Core.Bool.{true}
 use mathlib.Core.List.{List, [], _∷_}
 use Prim.Native.Nat.{ℕ}
@@ -38,6 +38,10 @@ own-acted P acts d e = ap ownPart e ∙ ap partOf (acted-all-part P acts d)
 -- .. and inside the ranges of its own part
 pub own-ranges : {P : Part} {c x : Core} → ownPart c ≡ P → c ≡ x → inRanges P x ≡ true → inRanges (ownPart c) c ≡ true
 own-ranges {P} {c} {x} same e r = ap (λ (Q : Part). inRanges Q c) same ∙ ap (inRanges P) e ∙ r
+
+-- what holds of a part holds of the row that a record of it reads
+pub at-own : {P Q : Part} → Q ≡ P → (F : Part → Type 0) → F P → F Q
+at-own e F x = subst F (sym e) x
 
 module _ (P : Part) (sound : Sound P) where
   pub ready-acted-all : (acts : List Act) (d : FrameBench) → Ready P d → Ready P (actedAll P acts d)

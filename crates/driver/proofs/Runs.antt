@@ -7,8 +7,9 @@ use native.Mathlib.Decide.{decLe}
 use native.Mathlib.Omega.{arith}
 use lib.ListN.{length}
 use Rattle.laws.specs.Pick.{at-yes, at-no}
-use Rattle.codes.specs.Part.{Part, pages}
+use Rattle.codes.specs.Part.{Part, pages, partOf}
 use Rattle.chip.specs.Records.{ownPart, running}
+use Rattle.codes.proofs.Parts.{of-each}
 use Rattle.codes.proofs.Sound.{Sound}
 use Rattle.codes.proofs.Starts.{page-of-memory}
 use Rattle.split.specs.Split.{count, splitAddress}
@@ -147,6 +148,10 @@ part-left P sound i limit a bytes k d r m p same ready t =
     (subst (λ (Q : Part). Told Q (partActs Q i limit a bytes k d) d r m p) same t)
 
 -- a run has at most as many parts as the memory has pages
+-- each row has 512 pages
+pub pages-few : (n : ℕ) → pages (partOf n) ≡ 512
+pages-few n = of-each (λ (P : Part). pages P ≡ 512) n refl refl refl
+
 pub parts-few : (P : Part) (sound : Sound P) (a n : ℕ) → count (P .size) (P .page) a n ≤ pages P
 parts-few P sound a n = elim (decLe 1 (count (P .size) (P .page) a n)) [
   | yes h ↦

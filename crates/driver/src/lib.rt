@@ -99,7 +99,7 @@ fn drive(
             core: next,
         };
     }
-    if status::block_touched(first.status, address, bytes.len()) {
+    if status::block_touched(core.part, first.status, address, bytes.len()) {
         return Driven {
             answer: RunReply::Protected(Sent {
                 pages: 0,

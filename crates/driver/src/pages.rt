@@ -71,9 +71,9 @@ fn write_part(
         (now (identification .exit)) ⌝ }
 {
     let n = bytes.len() as u64;
-    let start = cartvesper_split_address(address, n, k);
+    let start = cartvesper_split_address(core.part, address, n, k);
     let from = (start - address) as usize;
-    let end = from + cartvesper_split_length(address, n, k) as usize;
+    let end = from + cartvesper_split_length(core.part, address, n, k) as usize;
     write_page(
         core,
         memory,
@@ -117,7 +117,7 @@ pub(crate) fn write_parts(
         (frameBench core (now (memory .entry)) (now (identification .entry))))
         core (now (memory .entry)) (now (identification .entry)) .identification ⌝ }
 {
-    let parts = cartvesper_split_parts(address, bytes.len() as u64, 0);
+    let parts = cartvesper_split_parts(core.part, address, bytes.len() as u64, 0);
     let mut next = core;
     let mut frames = sent;
     let mut k: u64 = 0;

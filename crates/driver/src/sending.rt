@@ -3,19 +3,20 @@
 ghost use mathlib.Core.Path.{_≡_};
 ghost use mathlib.Core.Bool.{true};
 ghost use Prim.Native.Nat.{_+_, _*_, _≤_, _<_};
-ghost use lib.ListN.{length};
-ghost use Rattle.codes.specs.Part.{m95512};
+ghost use lib.ListN.{drop, length};
+ghost use Rattle.codes.specs.Part.{partOf, room};
 ghost use Rattle.chip.specs.Ranges.{inRanges};
 ghost use Rattle.chip.specs.Records.{ownPart, running, status};
 ghost use Rattle.frames.specs.After.{after};
 ghost use Rattle.driver.specs.Sequence.{writeBytes};
 use chip::Core;
-use codes::HEAD;
-use codes::PAGE;
 use codes::WRITE;
+use codes::address_bytes_of;
+use codes::head_of;
+use latch::ROOM;
 
-// The longest frame sent: the code, the address and a page.
-const LONGEST: usize = HEAD + PAGE;
+// The longest frame sent: the code, the address and the largest page.
+const LONGEST: usize = 4 + ROOM;
 
 pub(crate) fn send(core: Core, memory: &[u8], identification: &[u8], bytes: &[u8]) -> Core
     requires { ⌜ length (now memory) ≡ ownPart core .size ⌝ }
@@ -49,9 +50,26 @@ pub(crate) fn poll(core: Core) -> u8
 
 // Room for the longest frame.
 fn room() -> [u8; LONGEST]
-    ensures { λ r. ⌜ length r ≡ m95512 .addressBytes + 1 + m95512 .page ⌝ }
+    ensures { λ r. ⌜ length r ≡ 4 + room ⌝ }
 {
     [0; LONGEST]
+}
+
+// The code and the address, high byte first, at the head of a frame.
+fn put_head(part: u8, address: usize, frame: &mut [u8; LONGEST])
+    requires { ⌜ (address < partOf part .size) × (length (now frame) ≡ 4 + room) ⌝ }
+    ensures { λ _. ⌜ now (frame .exit)
+        ≡ writeBytes (partOf part) address (drop (partOf part .addressBytes + 1) (now (frame .entry))) ⌝ }
+{
+    frame[0] = WRITE;
+    if address_bytes_of(part) == 2 {
+        frame[1] = (address / 256) as u8;
+        frame[2] = (address % 256) as u8;
+        return;
+    }
+    frame[1] = (address / 65536) as u8;
+    frame[2] = (address / 256 % 256) as u8;
+    frame[3] = (address % 256) as u8;
 }
 
 // WRITE of a page part: the code, the address, high byte first, and the bytes.
@@ -72,10 +90,9 @@ pub(crate) fn send_write(
         (8 * length (writeBytes (ownPart core) address (now (bytes .entry)))) ⌝ }
 {
     let mut frame = room();
-    let end = bytes.len() + HEAD;
-    frame[0] = WRITE;
-    frame[1] = (address / 256) as u8;
-    frame[2] = (address % 256) as u8;
-    bytes::copy(bytes, &mut frame[HEAD..end]);
+    let head = head_of(core.part) as usize;
+    let end = bytes.len() + head;
+    put_head(core.part, address, &mut frame);
+    bytes::copy(bytes, &mut frame[head..end]);
     send(core, memory, identification, &frame[0..end])
 }

@@ -2,7 +2,7 @@
 ghost use mathlib.Core.Path.{_≡_};
 ghost use Prim.Native.Nat.{_+_, _≤_};
 ghost use lib.Dec.{ltb};
-ghost use Rattle.codes.specs.Part.{m95512};
+ghost use Rattle.codes.specs.Part.{partOf};
 ghost use Rattle.codes.specs.Status.{on, bitOf};
 ghost use Rattle.driver.specs.Sequence.{lowestShown};
 use codes::bp0_of;
@@ -17,10 +17,10 @@ pub(crate) fn wip(status: u8) -> bool
 }
 
 // So many cells from an address on, some of them protected by BP1 and BP0.
-pub(crate) fn block_touched(status: u8, address: u64, len: usize) -> bool
-    requires { ⌜ address + len ≤ m95512 .size ⌝ }
-    ensures { λ r. ⌜ r ≡ ltb (lowestShown m95512 status) (address + len) ⌝ }
+pub(crate) fn block_touched(part: u8, status: u8, address: u64, len: usize) -> bool
+    requires { ⌜ address + len ≤ partOf part .size ⌝ }
+    ensures { λ r. ⌜ r ≡ ltb (lowestShown (partOf part) status) (address + len) ⌝ }
 {
-    let lowest = lowest_protected(bp1_of(status) == 1, bp0_of(status) == 1);
+    let lowest = lowest_protected(part, bp1_of(status) == 1, bp0_of(status) == 1);
     (lowest as u64) < address + len as u64
 }

@@ -10,6 +10,7 @@ use Rattle.laws.specs.Each.{each}
 use Rattle.laws.specs.Table.{from, table, table-of}
 use Rattle.laws.specs.Bits.{bitOn}
 use Rattle.latch.specs.Latches.{zeros}
+use Rattle.codes.specs.Part.{partOf}
 use Rattle.codes.specs.Instructions.{decode}
 use Rattle.codes.specs.Verdicts.{verdictBy}
 use Rattle.codes.specs.declared.Outcome.{Outcome}
@@ -48,13 +49,13 @@ record Computed (m i bytes : List ℕ) : Type 0 where
   polls-700 : pagePolls (runH m i bytes 700 .acts) ≡ 8 ∷ 8 ∷ 8 ∷ 8 ∷ []
 
 computed : (m i : List ℕ) (f : ℕ → ℕ) → Computed m i (table 300 f)
-unfolding table from run pagesFrom pageActs pageWait firstWait pollsOn pick decode verdictBy timed zeros latchedFrom pageParts count edge start end splitAddress splitLength piece
+unfolding partOf table from run pagesFrom pageActs pageWait firstWait pollsOn pick decode verdictBy timed zeros latchedFrom pageParts count edge start end splitAddress splitLength piece
 computed m i f = record { at-1000 = refl; at-700 = refl; polls-700 = refl }
 
 -- the run is not refused, so the answer is its own
 not-refused : (interval size cells len : ℕ) → size ≡ ownPart delivered .size → cells ≡ ownPart delivered .page → len ≡ 300
     → pollsFit (ownPart delivered) interval 5001 ≡ true → driveOutcome (ownPart delivered) delivered size cells 100 len interval 5001 ≡ outcome.Done
-unfolding pick inRanges each zeros bitOn
+unfolding partOf pick inRanges each zeros bitOn
 not-refused interval size cells len s q e p = rw (s, q, e, p) refl
 
 answers : (m i bytes : List ℕ) (interval : ℕ) → length m ≡ ownPart delivered .size → length i ≡ ownPart delivered .page → length bytes ≡ 300
@@ -64,6 +65,7 @@ answers m i bytes interval s q e p =
     ap (λ (o : Outcome). runReply o (runH m i bytes interval)) (not-refused interval (length m) (length i) (length bytes) s q e p)
 
 pub case-h : (m i bytes : List ℕ) → length m ≡ ownPart delivered .size → length i ≡ ownPart delivered .page → length bytes ≡ 300 → CaseH m i bytes
+unfolding partOf pick
 case-h m i bytes s q e =
     let tabled : bytes ≡ table 300 (λ j. getD bytes j 0) = table-of bytes 0 ∙ ap (λ (n : ℕ). table n (λ j. getD bytes j 0)) e in
     let x : Computed m i bytes = subst (Computed m i) (sym tabled) (computed m i (λ j. getD bytes j 0)) in

@@ -40,7 +40,7 @@ module _ (P : Part) where
   pub record Over (d y : FrameBench) : Type 0 where
     pub read : ℕ
     pub low : read < 2 ^ 32
-    pub core : y .core ≡ withTime read 0 (ended P (d .core))
+    pub core : y .core ≡ withTime read 0 (ended (d .core))
     pub memory : y .memory ≡ endedCells waitsPage P (d .core) (d .memory)
     pub identification : y .identification ≡ endedCells waitsIdentification P (d .core) (d .identification)
 
@@ -53,13 +53,13 @@ module _ (P : Part) where
     pub identification : y .identification ≡ d .identification
 
   -- the moves of time before the end do not matter to it
-  ended-timed : (t n r : ℕ) (c : Core) → withTime r 0 (ended P (withTime t n c)) ≡ withTime r 0 (ended P c)
+  ended-timed : (t n r : ℕ) (c : Core) → withTime r 0 (ended (withTime t n c)) ≡ withTime r 0 (ended c)
   unfolding pick
   ended-timed t n r c = elim (waitsStatus (c .waits))
-      as (λ b. waitsStatus (c .waits) ≡ b → withTime r 0 (ended P (withTime t n c)) ≡ withTime r 0 (ended P c)) [
+      as (λ b. waitsStatus (c .waits) ≡ b → withTime r 0 (ended (withTime t n c)) ≡ withTime r 0 (ended c)) [
         | true ↦ λ e. rw e refl
         | false ↦ λ e. elim (waitsLock (c .waits))
-            as (λ b. waitsLock (c .waits) ≡ b → withTime r 0 (ended P (withTime t n c)) ≡ withTime r 0 (ended P c)) [
+            as (λ b. waitsLock (c .waits) ≡ b → withTime r 0 (ended (withTime t n c)) ≡ withTime r 0 (ended c)) [
               | true ↦ λ k. rw (e, k) refl
               | false ↦ λ k. rw (e, k) refl
             ] refl
@@ -70,7 +70,7 @@ module _ (P : Part) where
       record {
         read = o .read;
         low = o .low;
-        core = o .core ∙ ap (λ (c : Core). withTime (o .read) 0 (ended P c)) (r .core) ∙ ended-timed (r .read) left (o .read) (d .core);
+        core = o .core ∙ ap (λ (c : Core). withTime (o .read) 0 (ended c)) (r .core) ∙ ended-timed (r .read) left (o .read) (d .core);
         memory = o .memory ∙ ap (λ (c : Core). endedCells waitsPage P c (x .memory)) (r .core) ∙ ap (endedCells waitsPage P (d .core)) (r .memory);
         identification =
             o .identification
@@ -111,7 +111,7 @@ module _ (P : Part) where
           record {
             read = read;
             low = read-low;
-            core = poll-leaves P (timed P read (d .core)) ∙ at-yes _ _ over;
+            core = poll-leaves P (timed read (d .core)) ∙ at-yes _ _ over;
             memory = at-yes _ _ over;
             identification = at-yes _ _ over;
           }
@@ -123,7 +123,7 @@ module _ (P : Part) where
             read = read;
             low = read-low;
             core =
-                poll-leaves P (timed P read (d .core))
+                poll-leaves P (timed read (d .core))
                 ∙ on-core P read (d .core) not-over
                 ∙ ap (λ (n : ℕ). withTime read (d .core .left - n) (d .core)) gone;
             memory = no-end waitsPage P read (d .core) (d .memory) not-over;

@@ -114,9 +114,9 @@ module _ (P : Part) (sound : Sound P) (i limit a : ℕ) (bytes : List ℕ) (d : 
       }
 
   -- the cycle of a record keeps its length when it ends
-  ended-cycle : (c : Core) → ended P c .cycle ≡ c .cycle
+  ended-cycle : (c : Core) → ended c .cycle ≡ c .cycle
   ended-cycle c =
-      let same : Core → Type 0 = λ x. withoutCycle P x .cycle ≡ c .cycle in
+      let same : Core → Type 0 = λ x. withoutCycle x .cycle ≡ c .cycle in
       pick-case same (waitsStatus (c .waits)) (λ s. refl) (λ s. pick-case same (waitsLock (c .waits)) (λ k. refl) (λ k. refl))
 
   -- one runs, and the polls suffice

@@ -15,7 +15,7 @@ use Rattle.laws.specs.Pick.{pick, at-yes, at-no, and-both, and-no-left, and-no-
 use Rattle.laws.specs.Spliced.{getD-past}
 use Rattle.laws.specs.Table.{table-length, table-at, table-cong, table-of}
 use Rattle.laws.specs.Marks.{mark-none, mark-set-same, mark-set-other}
-use Rattle.codes.specs.Part.{Part, words}
+use Rattle.codes.specs.Part.{Part, room, roomWords}
 use Rattle.latch.specs.Latches.{laidAt, zeros, noLatch, latched, inPage, storedAt, stored}
 use Rattle.latch.specs.declared.Latch.{Latch}
 use Rattle.codes.proofs.Sound.{Sound}
@@ -49,7 +49,7 @@ module _ (i v : ℕ) (l : Latch) (bytes : i < length (l .bytes)) (marks : i / 64
   laid-other : (j x : ℕ) → (j ≡ i → ⊥) → laidAt (latched i v l) j x ≡ laidAt l j x
   laid-other j x h = rw (mark-set-other (l .marks) i j h, getD-set-other (l .bytes) i j v 0 h)
 
-laid-run : (P : Part) → Sound P → (vs : List ℕ) (i : ℕ) (l : Latch) → length (l .bytes) ≡ P .page → length (l .marks) ≡ words P
+laid-run : (P : Part) → Sound P → (vs : List ℕ) (i : ℕ) (l : Latch) → length (l .bytes) ≡ room → length (l .marks) ≡ roomWords
     → i + length vs ≤ P .page → (j x : ℕ)
     → laidAt (latchedFrom P i vs l) j x ≡ pick (among i (length vs) j) (getD vs (j - i) 0) (laidAt l j x)
 unfolding latchedFrom
@@ -62,7 +62,7 @@ laid-run P sound (v ∷ vs) i l b m h j x =
     let next = latched (i % P .page) v l in
     let rest = laid-run P sound vs (suc i) next (length-set (l .bytes) (i % P .page) v ∙ b) (length-set (l .marks) (i % P .page / 64) _ ∙ m)
     (omega arith) j x in
-    let in-bytes : i % P .page < length (l .bytes) = omega arith in
+    let in-bytes : i % P .page < length (l .bytes) = omega (arith, sound .page-room) in
     let in-marks : i % P .page / 64 < length (l .marks) = rw m (cell-word P sound (i % P .page) (omega arith)) in
     elim (decLt j i) [
       | yes p ↦
@@ -100,9 +100,9 @@ laid-run P sound (v ∷ vs) i l b m h j x =
     ]
 
 -- an empty latch changes nothing
-laid-none : (P : Part) (j x : ℕ) → laidAt (noLatch P) j x ≡ x
+laid-none : (j x : ℕ) → laidAt noLatch j x ≡ x
 unfolding zeros
-laid-none P j x = at-no _ _ (mark-none (words P) j)
+laid-none j x = at-no _ _ (mark-none roomWords j)
 
 zeros-length : (n : ℕ) → length (zeros n) ≡ n
 unfolding zeros
@@ -122,11 +122,11 @@ module _ (P : Part) (sound : Sound P) (a : ℕ) (bytes m : List ℕ) (low : a < 
   laid-cell : (j : ℕ) → start ≤ j
       → laidAt latch (j - start) (getD m j 0) ≡ pick (among (a % P .page) (length bytes) (j - start)) (getD bytes (j - start - a % P .page) 0) (getD m j 0)
   laid-cell j h =
-      ap (λ (k : ℕ). laidAt (latchedFrom P (k % P .page) (payload P (writeBytes P a bytes)) (noLatch P)) (j - start) (getD m j 0))
+      ap (λ (k : ℕ). laidAt (latchedFrom P (k % P .page) (payload P (writeBytes P a bytes)) noLatch) (j - start) (getD m j 0))
       (write-address P sound a bytes low)
-      ∙ ap (λ (vs : List ℕ). laidAt (latchedFrom P (a % P .page) vs (noLatch P)) (j - start) (getD m j 0)) (write-payload P a bytes)
-      ∙ laid-run P sound bytes (a % P .page) (noLatch P) (zeros-length (P .page)) (zeros-length (words P)) one (j - start) (getD m j 0)
-      ∙ ap (pick (among (a % P .page) (length bytes) (j - start)) (getD bytes (j - start - a % P .page) 0)) (laid-none P (j - start) (getD m j 0))
+      ∙ ap (λ (vs : List ℕ). laidAt (latchedFrom P (a % P .page) vs noLatch) (j - start) (getD m j 0)) (write-payload P a bytes)
+      ∙ laid-run P sound bytes (a % P .page) noLatch (zeros-length room) (zeros-length roomWords) one (j - start) (getD m j 0)
+      ∙ ap (pick (among (a % P .page) (length bytes) (j - start)) (getD bytes (j - start - a % P .page) 0)) (laid-none (j - start) (getD m j 0))
 
   abbrev Cell : ℕ → Type 0
   Cell j = storedAt P (a / P .page) latch m j ≡ pick (among a (length bytes) j) (getD bytes (j - a) 0) (getD m j 0)

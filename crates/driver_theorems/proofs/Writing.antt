@@ -71,8 +71,8 @@ module _ (P : Part) (sound : Sound P) (c : Core) (a : ℕ) (bytes : List ℕ) (l
 -- ---- a page part sent to an idle device
 
 -- the cycle is over: WEL 0, nothing waits, the clock read t
-abbrev pub settled : Part → ℕ → Core → Core
-settled P t c = withTime t 0 (withoutCycle P c)
+abbrev pub settled : ℕ → Core → Core
+settled t c = withTime t 0 (withoutCycle c)
 
 -- a wait of a device in which a cycle runs is polls while it does
 wait-running : (P : Part) (i limit : ℕ) (d : FrameBench) → 1 ≤ limit → running (d .core) ≡ true → pageWait P i limit d ≡ pollsOn P i limit d
@@ -121,7 +121,7 @@ module _ (P : Part) (sound : Sound P) (i limit : ℕ) (some : 0 < i) (small : i 
     pub frames : sent acts ≡ 2 + roundedUp (d .core .cycle) i
     pub read : ℕ
     pub read-low : read < 2 ^ 32
-    pub core : left .core ≡ settled P read (d .core)
+    pub core : left .core ≡ settled read (d .core)
     pub memory : left .memory ≡ stored P (a / P .page) latch (d .memory)
     pub identification : left .identification ≡ d .identification
 
@@ -156,7 +156,7 @@ module _ (P : Part) (sound : Sound P) (i limit : ℕ) (some : 0 < i) (small : i 
         frames = counted _ (ap sent wait ∙ w .polls ∙ ap (λ (n : ℕ). roundedUp n i) total);
         read = w .over .read;
         read-low = w .over .low;
-        core = ap (λ (x : FrameBench). x .core) y ∙ w .over .core ∙ ap (λ (x : Core). withTime (w .over .read) 0 (ended P x)) c;
+        core = ap (λ (x : FrameBench). x .core) y ∙ w .over .core ∙ ap (λ (x : Core). withTime (w .over .read) 0 (ended x)) c;
         memory = ap (λ (x : FrameBench). x .memory) y ∙ w .over .memory ∙ ap (λ (x : Core). endedCells waitsPage P x (d .memory)) c;
         identification =
             ap (λ (x : FrameBench). x .identification) y

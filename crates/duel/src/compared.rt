@@ -70,6 +70,8 @@ fn latches(frame_side: Latch, pin_side: Latch, run: &mut Run) {
     }
     word(0, frame_side.marks[0], pin_side.marks[0], run);
     word(1, frame_side.marks[1], pin_side.marks[1], run);
+    word(2, frame_side.marks[2], pin_side.marks[2], run);
+    word(3, frame_side.marks[3], pin_side.marks[3], run);
 }
 
 fn word(i: usize, frame_side: u64, pin_side: u64, run: &mut Run) {

@@ -2,6 +2,7 @@
 // begin and end with C low, C free in a pause and between frames.
 use crate::cells::Memory;
 use crate::cells::Page;
+use crate::cells::first;
 use crate::chance::below;
 use crate::chance::percent;
 use crate::compared::bit_at;
@@ -12,6 +13,8 @@ use crate::run::PAUSES;
 use crate::run::Run;
 use crate::run::count;
 use crate::run::same;
+use codes::page_of;
+use codes::size_of;
 use pins::Device;
 use pins::Stepped;
 
@@ -31,12 +34,20 @@ pub struct PinSide {
     pub page: Page,
 }
 
+// C to a level, with as many cells lent as the part has.
+fn set_c(device: Device, high: bool, memory: &[u8], page: &[u8]) -> Stepped {
+    let part = device.core.part;
+    let m = first(size_of(part), memory.len());
+    let n = first(page_of(part), page.len());
+    device.set_c(high, &memory[..m], &page[..n])
+}
+
 fn changed(side: PinSide, pin: u64, high: bool, memory: &Memory) -> Stepped {
     let device = side.device;
     let page = side.page;
     match pin {
         S => device.set_s(high),
-        C => device.set_c(high, memory, &page),
+        C => set_c(device, high, memory, &page),
         D => device.set_d(high),
         W => device.set_w(high),
         _ => device.set_hold(high),

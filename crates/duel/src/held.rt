@@ -1,19 +1,20 @@
 // Frames that are deselected in Hold. The frame model knows no Hold, so it is asked for the frame as if unheld: a WRITE
 // must leave the same, any other frame nothing.
-use crate::cells::Memory;
+use crate::made::Bytes;
+use crate::made::address_in;
+use crate::made::one_byte;
 use crate::run::HELD;
-use crate::run::HELD_32;
-use crate::run::HELD_33;
-use crate::run::HELD_40;
 use crate::run::HELD_BEGUN;
 use crate::run::HELD_NO_WEL;
+use crate::run::HELD_ODD;
+use crate::run::HELD_ONE;
 use crate::run::HELD_PROTECTED;
+use crate::run::HELD_TWO;
 use crate::run::HELD_WRITES;
 use crate::run::Run;
 use crate::run::count;
 use chip::Core;
 use codes::WRITE;
-use codes::wide;
 use frames::Framed;
 
 // What the frame leaves: where it is dropped, the record from before.
@@ -28,12 +29,17 @@ pub fn left_by(framed: Framed, before: Core, dropped: bool) -> Framed {
     framed
 }
 
-fn count_bits(bits: usize, run: &mut Run) {
-    match bits {
-        32 => count(HELD_32, run),
-        33 => count(HELD_33, run),
-        40 => count(HELD_40, run),
-        _ => {}
+// A WRITE of one byte, of one and a bit more, and of two bytes.
+fn count_bits(part: u8, bits: usize, run: &mut Run) {
+    let one = one_byte(part);
+    if bits == one {
+        count(HELD_ONE, run);
+    }
+    if bits == one + 1 {
+        count(HELD_ODD, run);
+    }
+    if bits == one + 8 {
+        count(HELD_TWO, run);
     }
 }
 
@@ -47,14 +53,14 @@ fn count_conditions(before: Core, address: u32, run: &mut Run) {
 }
 
 // A frame deselected in Hold; what it begins is the frame model's.
-pub fn count_held(before: Core, after: Core, bytes: &Memory, bits: usize, run: &mut Run) {
+pub fn count_held(before: Core, after: Core, bytes: &Bytes, bits: usize, run: &mut Run) {
     count(HELD, run);
     if bytes[0] != WRITE {
         return;
     }
     count(HELD_WRITES, run);
-    count_bits(bits, run);
-    count_conditions(before, wide(bytes[1]) << 8 | wide(bytes[2]), run);
+    count_bits(before.part, bits, run);
+    count_conditions(before, address_in(before.part, bytes), run);
     if (before.left == 0) & (after.left > 0) {
         count(HELD_BEGUN, run);
     }

@@ -1,11 +1,9 @@
 // Random frames: mostly one of the eight instructions, with the count of bits that it asks.
 ghost use Prim.Native.Nat.{_≤_};
-use crate::cells::Memory;
 use crate::chance::below;
 use crate::chance::byte;
 use crate::chance::percent;
 use crate::run::Run;
-use codes::M95512D;
 use codes::RDID;
 use codes::RDSR;
 use codes::READ;
@@ -14,6 +12,26 @@ use codes::WREN;
 use codes::WRID;
 use codes::WRITE;
 use codes::WRSR;
+use codes::address_bytes_of;
+use codes::head_of;
+use codes::identified;
+use codes::page_of;
+use codes::wide;
+
+// The bytes of a frame, and of its output.
+pub type Bytes = [u8; 65536];
+
+// The bits of a WRITE of one byte, and of a lock.
+pub fn one_byte(part: u8) -> usize
+    ensures { λ r. ⌜ r ≤ 40 ⌝ }
+{
+    8 * (head_of(part) as usize + 1)
+}
+
+// The bits of a WRITE of a whole page.
+pub fn whole_page(part: u8) -> usize {
+    8 * (head_of(part) as usize + page_of(part))
+}
 
 // One of the eight, or sometimes any byte.
 fn any_code(run: &mut Run) -> u8 {
@@ -52,52 +70,56 @@ fn identification_code(wel: bool, run: &mut Run) -> u8 {
     if wel | (r == 2) { WRID } else { WREN }
 }
 
-// The part's code: of the M95512-D often one for its identification page.
-fn code(part: u8, wel: bool, run: &mut Run) -> u8 {
-    if (part == M95512D) & percent(50, run) {
+// The part's code: in a cycle here and there WRDI; of a part with an identification page often one for it.
+fn code(part: u8, running: bool, wel: bool, run: &mut Run) -> u8 {
+    if running & percent(10, run) {
+        return WRDI;
+    }
+    if identified(part) & percent(50, run) {
         return identification_code(wel, run);
     }
     memory_code(wel, run)
 }
 
-// Around the four bytes of a lock: these in most frames.
-fn around_four(run: &mut Run) -> u64
+// Around the bytes of a lock, four or five: these in most frames.
+fn around_lock(part: u8, run: &mut Run) -> u64
     ensures { λ r. ⌜ r ≤ 12 ⌝ }
 {
     let r = below(20, run);
+    let head = head_of(part) as u64;
     match r {
-        0 => 3,
-        1..=14 => 4,
-        15..=16 => 5,
+        0..=1 => head,
+        2..=13 => head + 1,
+        14..=15 => head + 2,
         _ => 6 + below(7, run),
     }
 }
 
 // As many bytes as the instruction asks.
-fn asked(code: u8, run: &mut Run) -> u64
+fn asked(part: u8, code: u8, run: &mut Run) -> u64
     ensures { λ r. ⌜ r ≤ 12 ⌝ }
 {
     match code {
         WREN => 1,
         WRDI => 1,
         WRSR => 2,
-        WRID => around_four(run),
+        WRID => around_lock(part, run),
         _ => 4 + below(9, run),
     }
 }
 
 // How many bytes: as asked, any few, a page and more, rarely many.
-fn length(code: u8, run: &mut Run) -> usize
+fn length(part: u8, code: u8, run: &mut Run) -> usize
     ensures { λ r. ⌜ r ≤ 65536 ⌝ }
 {
     let r = below(1000, run);
     if r < 820 {
-        return asked(code, run) as usize;
+        return asked(part, code, run) as usize;
     }
     let any = below(65536, run) as usize;
     match r {
         820..=929 => any % 13,
-        930..=996 => 120 + any % 40,
+        930..=996 => page_of(part) - 8 + any % 40,
         997..=998 => any % 2000,
         _ => any % 30000,
     }
@@ -117,35 +139,36 @@ pub fn bits(length: usize, run: &mut Run) -> usize
 }
 
 // The count of a frame that is deselected in Hold: often a WRITE's of one byte, one bit more, or two bytes.
-pub fn bits_in_hold(length: usize, run: &mut Run) -> usize
+pub fn bits_in_hold(part: u8, length: usize, run: &mut Run) -> usize
     requires { ⌜ length ≤ 65536 ⌝ }
 {
     let r = below(5, run);
     match r {
-        0 => 32,
-        1 => 33,
-        2 => 40,
+        0 => one_byte(part),
+        1 => one_byte(part) + 1,
+        2 => one_byte(part) + 8,
         _ => bits(length, run),
     }
 }
 
-// Often around the edge of a page, a quarter or the memory, or in one of a few pages, so that reads meet writes.
+// An address of the largest part, of which a smaller one takes the low 16 bits. Often around the edge of a page, a
+// quarter or the memory, or in one of a few pages, so that reads meet writes.
 fn address(run: &mut Run) -> u64
-    ensures { λ r. ⌜ r ≤ 65535 ⌝ }
+    ensures { λ r. ⌜ r ≤ 131071 ⌝ }
 {
     let r = below(10, run);
-    let near = 65532 + below(8, run);
-    let any = below(65536, run);
+    let near = 131068 + below(8, run);
+    let any = below(131072, run);
     match r {
-        0..=2 => (any / 16384 * 16384 + near) % 65536,
-        3..=5 => (any / 128 * 128 + near) % 65536,
-        6..=7 => any % 512,
+        0..=2 => (any / 16384 * 16384 + near) % 131072,
+        3..=5 => (any / 128 * 128 + near) % 131072,
+        6..=7 => any / 65536 * 65536 + any % 512,
         _ => any,
     }
 }
 
 // The first n cells get random bytes.
-fn scatter(bytes: &mut Memory, n: usize, run: &mut Run)
+fn scatter(bytes: &mut Bytes, n: usize, run: &mut Run)
     requires { ⌜ n ≤ 65536 ⌝ }
 {
     let mut i: usize = 0;
@@ -155,7 +178,7 @@ fn scatter(bytes: &mut Memory, n: usize, run: &mut Run)
     }
 }
 
-// An address's high byte. Its bit 2 picks page or lock: of 82h and 83h it is 0 or 1 by chance.
+// The second byte of an address, from the low end. Its bit 2 picks page or lock: of 82h and 83h it is 0 or 1 by chance.
 fn high_byte(code: u8, high: u8, run: &mut Run) -> u8 {
     if ((code == WRID) | (code == RDID)) & percent(50, run) {
         return high ^ 4;
@@ -163,17 +186,38 @@ fn high_byte(code: u8, high: u8, run: &mut Run) -> u8 {
     high
 }
 
+// An address after the code. The upper seven bits of the first of three bytes are any.
+fn put_address(part: u8, code: u8, bytes: &mut Bytes, run: &mut Run) {
+    let to = address(run);
+    let high = high_byte(code, (to / 256 % 256) as u8, run);
+    let low = (to % 256) as u8;
+    if address_bytes_of(part) == 3 {
+        bytes[1] = (to / 65536) as u8 | byte(run) & 0xfe;
+        bytes[2] = high;
+        bytes[3] = low;
+        return;
+    }
+    bytes[1] = high;
+    bytes[2] = low;
+}
+
+// The address after the code, as the part takes it.
+pub fn address_in(part: u8, bytes: &Bytes) -> u32 {
+    let two = wide(bytes[1]) << 8 | wide(bytes[2]);
+    if address_bytes_of(part) == 3 {
+        return (two & 0x1ff) << 8 | wide(bytes[3]);
+    }
+    two
+}
+
 // A frame's bytes, and how many: the instruction byte, an address, then any.
-pub fn compose(part: u8, wel: bool, bytes: &mut Memory, run: &mut Run) -> usize
+pub fn compose(part: u8, running: bool, wel: bool, bytes: &mut Bytes, run: &mut Run) -> usize
     ensures { λ r. ⌜ r ≤ 65536 ⌝ }
 {
-    let code = code(part, wel, run);
-    let n = length(code, run);
+    let code = code(part, running, wel, run);
+    let n = length(part, code, run);
     scatter(bytes, n, run);
-    let to = address(run);
-    let high = high_byte(code, (to / 256) as u8, run);
+    put_address(part, code, bytes, run);
     bytes[0] = code;
-    bytes[1] = high;
-    bytes[2] = (to % 256) as u8;
     n
 }

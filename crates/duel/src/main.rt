@@ -1,8 +1,9 @@
-// The two proved models against each other, as either part, on random lists of frames, clock readings and levels of
+// The two proved models against each other, as each part, on random lists of frames, clock readings and levels of
 // Write Protect: the frame model takes whole frames, the pin model the same frames drawn as single pin changes, some of
 // them deselected in Hold. The gate compares the summary with the file stdout; the first difference would stand before
 // it, with its round and act, and end the run.
 use crate::cells::Memory;
+use crate::cells::blank;
 use crate::cells::changed;
 use crate::cells::fill;
 use crate::chance::percent;
@@ -59,8 +60,8 @@ fn duel(frame_side: &mut Memory, pin_side: &mut Memory, run: &mut Run) {
 }
 
 fn main() {
-    let mut frame_side = io::large_buffer();
-    let mut pin_side = io::large_buffer();
+    let mut frame_side = blank();
+    let mut pin_side = blank();
     let mut run = run::begun();
     duel(&mut frame_side, &mut pin_side, &mut run);
     run::summary(&run);

@@ -2,6 +2,7 @@
 use crate::cells::Memory;
 use crate::cells::Page;
 use crate::cells::filled_page;
+use crate::cells::first;
 use crate::cells::memories;
 use crate::cells::pages;
 use crate::chance::below;
@@ -17,9 +18,12 @@ use crate::held::count_held;
 use crate::held::left_by;
 use crate::identified::count_identified;
 use crate::made;
+use crate::made::Bytes;
 use crate::run::ACTS;
+use crate::run::CLEARED;
 use crate::run::DIFFERENCES;
 use crate::run::ENDED;
+use crate::run::ENDED_NO_WEL;
 use crate::run::FRAMES;
 use crate::run::IDENTIFIED;
 use crate::run::LEVELS;
@@ -31,18 +35,26 @@ use crate::run::PAGES;
 use crate::run::PARTIAL;
 use crate::run::READINGS;
 use crate::run::ROUNDS_D;
+use crate::run::ROUNDS_M01;
 use crate::run::Run;
 use crate::run::STATUSES;
 use crate::run::UNDRIVEN;
+use crate::run::UPPER;
 use crate::run::count;
 use crate::run::same;
 use chip::Core;
-use codes::LONGEST_CYCLE;
+use chip::Timed;
+use codes::M95M01;
 use codes::M95512;
 use codes::M95512D;
 use codes::WRITE;
+use codes::longest_of;
+use codes::page_of;
+use codes::size_of;
 use frames::Framed;
 use frames::frame;
+use pins::Device;
+use pins::Stepped;
 
 // The frame model: its record and its identification page.
 pub struct FrameSide {
@@ -60,27 +72,33 @@ pub struct Pair {
 // ---- the start
 
 // A cycle length: any, often the shortest or the longest.
-fn cycle(run: &mut Run) -> u32 {
+fn cycle(part: u8, run: &mut Run) -> u32 {
     let r = below(10, run);
-    let any = 1 + below(LONGEST_CYCLE as u64, run);
+    let longest = longest_of(part);
+    let any = 1 + below(longest as u64, run);
     match r {
         0 => 1,
-        1 => LONGEST_CYCLE,
+        1 => longest,
         _ => any as u32,
     }
 }
 
-// Either part.
+// One of the three parts.
 fn part(run: &mut Run) -> u8 {
-    if percent(50, run) {
+    let r = below(3, run);
+    if r == 0 {
+        return M95512;
+    }
+    if r == 1 {
         count(ROUNDS_D, run);
         return M95512D;
     }
-    M95512
+    count(ROUNDS_M01, run);
+    M95M01
 }
 
 fn powered_as(part: u8, lock: bool, page: Page, run: &mut Run) -> Pair {
-    let cycle = cycle(run);
+    let cycle = cycle(part, run);
     let srwd = percent(30, run);
     let bp1 = percent(20, run);
     let bp0 = percent(30, run);
@@ -126,10 +144,25 @@ fn passing(cycle: u32, left: u32, run: &mut Run) -> u32 {
     }
 }
 
+// The frame model's reading, with as many cells lent as the part has.
+fn frames_timed(core: Core, reading: u32, memory: &mut [u8], page: &mut [u8]) -> Timed {
+    let m = first(size_of(core.part), memory.len());
+    let n = first(page_of(core.part), page.len());
+    chip::clock_reading(core, reading, &mut memory[..m], &mut page[..n])
+}
+
+// The pin model's.
+fn pins_timed(device: Device, reading: u32, memory: &mut [u8], page: &mut [u8]) -> Stepped {
+    let part = device.core.part;
+    let m = first(size_of(part), memory.len());
+    let n = first(page_of(part), page.len());
+    device.read_clock(reading, &mut memory[..m], &mut page[..n])
+}
+
 // The frame model's reading, which a record inside its ranges does not refuse.
 fn read_frames(side: FrameSide, reading: u32, memory: &mut Memory, run: &mut Run) -> FrameSide {
     let mut page = side.page;
-    let timed = chip::clock_reading(side.core, reading, memory, &mut page);
+    let timed = frames_timed(side.core, reading, memory, &mut page);
     let core = timed.core;
     let outcome = timed.outcome;
     same(b"number of a reading", outcome.number(), 0, run);
@@ -142,7 +175,7 @@ fn read_frames(side: FrameSide, reading: u32, memory: &mut Memory, run: &mut Run
 // The pin model's reading, which a device inside its ranges does not refuse.
 fn read_pins(side: PinSide, reading: u32, memory: &mut Memory, run: &mut Run) -> PinSide {
     let mut page = side.page;
-    let stepped = side.device.read_clock(reading, memory, &mut page);
+    let stepped = pins_timed(side.device, reading, memory, &mut page);
     let device = stepped.device;
     let outcome = stepped.outcome;
     same(b"number of a reading", 0, outcome.number(), run);
@@ -177,6 +210,14 @@ pub fn cells_alike(pair: Pair, frame_side: &mut Memory, pin_side: &mut Memory, r
     pages(frame_page, pin_page, run);
 }
 
+// A cycle's end; of the M95M01 WEL may be 0 by then.
+fn count_ended(before: Core, run: &mut Run) {
+    count(ENDED, run);
+    if before.wel == 0 {
+        count(ENDED_NO_WEL, run);
+    }
+}
+
 // A clock reading for both; where it ends a cycle the memories and the identification pages are compared whole.
 fn read(pair: Pair, frame_side: &mut Memory, pin_side: &mut Memory, run: &mut Run) -> Pair {
     let core = pair.frames.core;
@@ -184,7 +225,7 @@ fn read(pair: Pair, frame_side: &mut Memory, pin_side: &mut Memory, run: &mut Ru
     let next = pass(pair, reading, frame_side, pin_side, run);
     count(READINGS, run);
     if (core.left > 0) & (next.frames.core.left == 0) {
-        count(ENDED, run);
+        count_ended(core, run);
         cells_alike(next, frame_side, pin_side, run);
     }
     next
@@ -207,7 +248,7 @@ fn protect(pair: Pair, pin_side: &mut Memory, run: &mut Run) -> Pair {
 
 // ---- frames
 
-fn count_frame(bits: usize, mode3: bool, run: &mut Run) {
+fn count_frame(part: u8, bits: usize, mode3: bool, run: &mut Run) {
     count(FRAMES, run);
     if mode3 {
         count(MODE_3, run);
@@ -215,19 +256,34 @@ fn count_frame(bits: usize, mode3: bool, run: &mut Run) {
     if bits % 8 != 0 {
         count(PARTIAL, run);
     }
-    if bits > 1048 {
+    if bits > made::whole_page(part) {
         count(LONG, run);
+    }
+}
+
+// A cycle of a page; pages above FFFFh are the M95M01's.
+fn count_page(part: u8, page: u32, run: &mut Run) {
+    count(PAGES, run);
+    if (part == M95M01) & (page >= 256) {
+        count(UPPER, run);
+    }
+}
+
+// In a cycle a frame begins none; WRDI may clear WEL.
+fn count_in_cycle(before: Core, after: Core, run: &mut Run) {
+    if before.wel != after.wel {
+        count(CLEARED, run);
     }
 }
 
 fn count_begun(before: Core, after: Core, run: &mut Run) {
     let kind = after.waits.kind;
     if before.left > 0 {
-        return;
+        return count_in_cycle(before, after, run);
     }
     match kind {
         1 => count(STATUSES, run),
-        2 => count(PAGES, run),
+        2 => count_page(after.part, after.waits.page, run),
         3 => count(IDENTIFIED, run),
         4 => count(LOCKS, run),
         _ => {}
@@ -244,32 +300,50 @@ fn liveliness(bits: usize, run: &mut Run) -> u64 {
 }
 
 // The numbers of the frame in hand.
-fn begin(bits: usize, mode3: bool, undriven: usize, run: &mut Run) {
+fn begin(part: u8, bits: usize, mode3: bool, undriven: usize, run: &mut Run) {
     let lively = liveliness(bits, run);
     run[LIVELY] = lively;
     run[UNDRIVEN] = undriven as u64;
-    count_frame(bits, mode3, run);
+    count_frame(part, bits, mode3, run);
 }
 
-// The frame model's answer to the first n bytes; bytes or an output too few are refused.
+// The frame model's answer to some bytes, with as many cells lent as the part has.
 fn ask(
-    side: FrameSide,
+    core: Core,
+    memory: &[u8],
+    page: &[u8],
     w: bool,
-    frame_side: &Memory,
+    bytes: &[u8],
+    bits: usize,
+    out: &mut [u8],
+) -> Framed {
+    let m = first(size_of(core.part), memory.len());
+    let n = first(page_of(core.part), page.len());
+    frame(core, &memory[..m], &page[..n], w, bytes, bits, out)
+}
+
+// The answer to the first n bytes.
+fn ask_first(
+    core: Core,
+    memory: &[u8],
+    page: &[u8],
+    w: bool,
     bytes: &[u8],
     n: usize,
     bits: usize,
     out: &mut [u8],
 ) -> Framed {
-    let core = side.core;
-    let page = side.page;
-    if n > bytes.len() {
-        return frame(core, frame_side, &page, w, bytes, bits, out);
-    }
-    if n > out.len() {
-        return frame(core, frame_side, &page, w, bytes, bits, out);
-    }
-    frame(core, frame_side, &page, w, &bytes[..n], bits, &mut out[..n])
+    let sent = first(n, bytes.len());
+    let shown = first(n, out.len());
+    ask(
+        core,
+        memory,
+        page,
+        w,
+        &bytes[..sent],
+        bits,
+        &mut out[..shown],
+    )
 }
 
 // The pin model's frame, deselected in Hold or not, against the frame model's answer and output.
@@ -287,7 +361,7 @@ fn meet(
     let core = framed.core;
     let mode3 = percent(50, run);
     same(b"number of a frame", answer.number(), 0, run);
-    begin(bits, mode3, answer.undriven(), run);
+    begin(core.part, bits, mode3, answer.undriven(), run);
     padding(out, bits, run);
     let drawn = draw(pair.pins, bytes, out, bits, held, mode3, pin_side, run);
     records(core, drawn.device, run);
@@ -314,17 +388,19 @@ fn send_bits(
     held: bool,
     frame_side: &Memory,
     pin_side: &Memory,
-    bytes: &Memory,
+    bytes: &Bytes,
     bits: usize,
-    out: &mut Memory,
+    out: &mut Bytes,
     run: &mut Run,
 ) -> Pair {
     let frames = pair.frames;
     let core = frames.core;
-    let asked = ask(
-        frames,
-        pair.w,
+    let page = frames.page;
+    let asked = ask_first(
+        core,
         frame_side,
+        &page,
+        pair.w,
         bytes,
         bytes_for(bits),
         bits,
@@ -346,10 +422,10 @@ fn send(pair: Pair, frame_side: &mut Memory, pin_side: &mut Memory, run: &mut Ru
     let mut bytes = io::large_buffer();
     let mut out = io::large_buffer();
     let core = pair.frames.core;
-    let n = made::compose(core.part, core.wel == 1, &mut bytes, run);
+    let n = made::compose(core.part, core.left > 0, core.wel == 1, &mut bytes, run);
     let held = below(8, run) == 0;
     let bits = if held {
-        made::bits_in_hold(n, run)
+        made::bits_in_hold(core.part, n, run)
     } else {
         made::bits(n, run)
     };

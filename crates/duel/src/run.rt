@@ -7,74 +7,88 @@ pub const ROUNDS: usize = 0;
 
 pub const ROUNDS_D: usize = 1;
 
-pub const ACTS: usize = 2;
+pub const ROUNDS_M01: usize = 2;
 
-pub const FRAMES: usize = 3;
+pub const ACTS: usize = 3;
 
-pub const READINGS: usize = 4;
+pub const FRAMES: usize = 4;
 
-pub const LEVELS: usize = 5;
+pub const READINGS: usize = 5;
 
-pub const MODE_3: usize = 6;
+pub const LEVELS: usize = 6;
 
-pub const PARTIAL: usize = 7;
+pub const MODE_3: usize = 7;
 
-pub const LONG: usize = 8;
+pub const PARTIAL: usize = 8;
 
-pub const PAUSES: usize = 9;
+pub const LONG: usize = 9;
 
-pub const CHANGES: usize = 10;
+pub const PAUSES: usize = 10;
 
-pub const CLOCKS: usize = 11;
+pub const CHANGES: usize = 11;
 
-pub const DRIVEN: usize = 12;
+pub const CLOCKS: usize = 12;
 
-pub const SHOWN: usize = 13;
+pub const DRIVEN: usize = 13;
 
-pub const PAGES: usize = 14;
+pub const SHOWN: usize = 14;
 
-pub const STATUSES: usize = 15;
+pub const PAGES: usize = 15;
 
-pub const IDENTIFIED: usize = 16;
+pub const UPPER: usize = 16;
 
-pub const LOCKS: usize = 17;
+pub const STATUSES: usize = 17;
 
-pub const LOCKED: usize = 18;
+pub const IDENTIFIED: usize = 18;
 
-pub const ENDED: usize = 19;
+pub const LOCKS: usize = 19;
 
-pub const CELLS: usize = 20;
+pub const LOCK_32: usize = 20;
+
+pub const LOCK_40: usize = 21;
+
+pub const LOCK_48: usize = 22;
+
+pub const LOCKED: usize = 23;
+
+pub const CLEARED: usize = 24;
+
+pub const ENDED: usize = 25;
+
+pub const ENDED_NO_WEL: usize = 26;
+
+pub const CELLS: usize = 27;
 
 // deselects in Hold; of these the WRITEs, by their count, by what stops them, and those that begin a cycle
-pub const HELD: usize = 21;
+pub const HELD: usize = 28;
 
-pub const HELD_WRITES: usize = 22;
+pub const HELD_WRITES: usize = 29;
 
-pub const HELD_32: usize = 23;
+pub const HELD_ONE: usize = 30;
 
-pub const HELD_33: usize = 24;
+pub const HELD_ODD: usize = 31;
 
-pub const HELD_40: usize = 25;
+pub const HELD_TWO: usize = 32;
 
-pub const HELD_NO_WEL: usize = 26;
+pub const HELD_NO_WEL: usize = 33;
 
-pub const HELD_PROTECTED: usize = 27;
+pub const HELD_PROTECTED: usize = 34;
 
-pub const HELD_BEGUN: usize = 28;
+pub const HELD_BEGUN: usize = 35;
 
-pub const DIFFERENCES: usize = 29;
+pub const DIFFERENCES: usize = 36;
 
 // the generator's state
-pub const CHANCE: usize = 30;
+pub const CHANCE: usize = 37;
 
 // of the frame in hand: in how many of a hundred places pin changes stray, and how many leading bits the frame model
 // left undriven
-pub const LIVELY: usize = 31;
+pub const LIVELY: usize = 38;
 
-pub const UNDRIVEN: usize = 32;
+pub const UNDRIVEN: usize = 39;
 
 // how many numbers there are
-const NUMBERS: usize = 33;
+const NUMBERS: usize = 40;
 
 pub type Run = [u64; NUMBERS];
 
@@ -151,33 +165,39 @@ fn rows(labels: &[u8], first: usize, run: &Run) {
 
 pub fn summary(run: &Run) {
     rows(
-        b"rounds              rounds with M95512-Dacts                frames              clock readings      ",
+        b"rounds              rounds with M95512-Drounds with M95M01  acts                frames              ",
         ROUNDS,
         run,
     );
     rows(
-        b"levels of W         frames in mode 3    with part of a byte with over a page    pauses              ",
-        LEVELS,
+        b"clock readings      levels of W         frames in mode 3    with part of a byte with over a page    ",
+        READINGS,
         run,
     );
     rows(
-        b"pin changes         counted clocks      driven bits         83h that drove Q    page cycles begun   ",
-        CHANGES,
+        b"pauses              pin changes         counted clocks      driven bits         83h that drove Q    ",
+        PAUSES,
         run,
     );
     rows(
-        b"status cycles begun identification begunlock cycles begun   82h stopped by lock cycles ended        ",
-        STATUSES,
+        b"page cycles begun   begun above FFFFh   status cycles begun identification begunlock cycles begun   ",
+        PAGES,
         run,
     );
     rows(
-        b"cells changed       deselected in Hold  WRITEs among them   with 32 bits        with 33 bits        ",
-        CELLS,
+        b"82h to lock, 32 bits82h to lock, 40 bits82h to lock, 48 bits82h stopped by lock WEL cleared in cycle",
+        LOCK_32,
         run,
     );
     rows(
-        b"with 40 bits        without WEL         to a protected cell begun in Hold       differences         ",
-        HELD_40,
+        b"cycles ended        ended with WEL 0    cells changed       deselected in Hold  WRITEs among them   ",
+        ENDED,
         run,
     );
+    rows(
+        b"with one data byte  and one bit more    with two data bytes without WEL         to a protected cell ",
+        HELD_ONE,
+        run,
+    );
+    rows(b"begun in Hold       differences         ", HELD_BEGUN, run);
 }

@@ -1,2 +1,3 @@
 -- Each call allows one result.
+pub mod Nexts
 pub mod Ones

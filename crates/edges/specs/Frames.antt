@@ -8,8 +8,8 @@ use Rattle.latch.specs.Latches.{noLatch}
 use Rattle.latch.specs.declared.Latch.{Latch}
 use Rattle.edges.specs.declared.Frame.{Frame}
 
-abbrev pub noFrame : Part → Frame
-noFrame P =
+abbrev pub noFrame : Frame
+noFrame =
     record {
       taken = 0;
       bits = 0;
@@ -20,7 +20,7 @@ noFrame P =
       out = 0;
       shown = 0;
       address = 0;
-      latch = noLatch P;
+      latch = noLatch;
     }
 
 -- n bits of the current byte are in, with the values v

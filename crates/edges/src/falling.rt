@@ -2,7 +2,7 @@
 ghost use mathlib.Core.Path.{_≡_};
 ghost use Prim.Native.Nat.{_+_, _-_, _%_, _<_};
 ghost use lib.ListN.{getD};
-ghost use Rattle.codes.specs.Part.{m95512, partOf};
+ghost use Rattle.codes.specs.Part.{partOf};
 ghost use Rattle.chip.specs.Records.{ownPart, lockByte};
 ghost use Rattle.codes.specs.Status.{bitOf};
 ghost use Rattle.codes.specs.Output.{outputs};
@@ -11,14 +11,14 @@ ghost use Rattle.chip.specs.Lents.{lent};
 ghost use Rattle.edges.specs.Frames.{withOut, withAddress};
 ghost use Rattle.edges.specs.Falling.{loading, levelShown, levelNumber};
 use crate::Frame;
-use crate::HEAD;
 use crate::Level;
-use crate::PAGE;
-use crate::SIZE;
 use crate::rising::next_address;
 use chip::Core;
 use codes::Instruction;
+use codes::head_of;
 use codes::picks_lock;
+use codes::size_of;
+use latch::cell_of;
 
 // Data output: RDSR after its code; READ and 83h after their address, if no cycle ran at the eighth edge.
 pub fn outputs(part: u8, i: Instruction, taken: u8, ran: bool) -> bool
@@ -29,9 +29,9 @@ pub fn outputs(part: u8, i: Instruction, taken: u8, ran: bool) -> bool
         Instruction::Wrdi => false,
         Instruction::Rdsr => 1 <= taken,
         Instruction::Wrsr => false,
-        Instruction::Read => (HEAD <= taken) & !ran,
+        Instruction::Read => (head_of(part) <= taken) & !ran,
         Instruction::Write => false,
-        Instruction::Rdid => (HEAD <= taken) & !ran,
+        Instruction::Rdid => (head_of(part) <= taken) & !ran,
         Instruction::Wrid => false,
         Instruction::Silence => false,
     }
@@ -49,34 +49,36 @@ pub fn cell(memory: &[u8], address: u32) -> u8
 }
 
 // The next address, from the last one back to the first.
-pub fn one_up(address: u32) -> u32
-    ensures { λ r. ⌜ r ≡ (address + 1) % m95512 .size ⌝ }
+pub fn one_up(part: u8, address: u32) -> u32
+    ensures { λ r. ⌜ r ≡ (address + 1) % partOf part .size ⌝ }
 {
-    (address % SIZE + 1) % SIZE
+    let last = size_of(part) as u32 - 1;
+    ((address & last) + 1) & last
 }
 
 impl Frame {
     // A cell of the memory, and the address of the next.
-    fn load_cell(self, memory: &[u8]) -> Frame
-        ensures { λ r. ⌜ r ≡ withAddress ((self .address + 1) % m95512 .size)
+    fn load_cell(self, part: u8, memory: &[u8]) -> Frame
+        ensures { λ r. ⌜ r ≡ withAddress ((self .address + 1) % partOf part .size)
             (withOut (getD (now (memory .entry)) (self .address) 0) 1 self) ⌝ }
     {
         let address = self.address;
         self.with_out(cell(memory, address), 1)
-            .with_address(one_up(address))
+            .with_address(one_up(part, address))
     }
 
     // A cell of the identification page, and the address of the next; or the lock.
-    fn load_identification(self, lock: u8, identification: &[u8]) -> Frame
-        ensures { λ r. ⌜ r ≡ withAddress (identificationNext m95512 (self .address))
-            (withOut (identificationByte m95512 lock (now (identification .entry)) (self .address)) 1 self) ⌝ }
+    fn load_identification(self, part: u8, lock: u8, identification: &[u8]) -> Frame
+        ensures { λ r. ⌜ r ≡ withAddress (identificationNext (partOf part) (self .address))
+            (withOut (identificationByte (partOf part) lock (now (identification .entry)) (self .address)) 1 self) ⌝ }
     {
         let address = self.address;
         if picks_lock(address) {
             return self.with_out(lock, 1);
         }
-        self.with_out(cell(identification, address % PAGE), 1)
-            .with_address(next_address(address))
+        let at = cell_of(part, address as usize) as u32;
+        self.with_out(cell(identification, at), 1)
+            .with_address(next_address(part, address))
     }
 
     // The next data byte, of which bit 7 shows.
@@ -89,9 +91,13 @@ impl Frame {
             Instruction::Wrdi => self,
             Instruction::Rdsr => self.with_out(core.status(), 1),
             Instruction::Wrsr => self,
-            Instruction::Read => self.load_cell(memory),
+            Instruction::Read => self.load_cell(core.part, memory),
             Instruction::Write => self,
-            Instruction::Rdid => self.load_identification(core.lock_byte(), identification),
+            Instruction::Rdid => self.load_identification(
+                core.part,
+                core.lock_byte(),
+                identification,
+            ),
             Instruction::Wrid => self,
             Instruction::Silence => self,
         }

@@ -4,6 +4,7 @@
 use latch::Latch;
 
 mod falling;
+mod places;
 mod ranges;
 mod records;
 mod rising;
@@ -18,19 +19,10 @@ pub use rising::address_with;
 pub use rising::next_address;
 pub use rising::shifted_in;
 
-// Addresses are u32, the count of whole bytes is u8.
-const SIZE: u32 = codes::SIZE as u32;
-
-const PAGE: u32 = codes::PAGE as u32;
-
-const ADDRESS_BYTES: u8 = codes::ADDRESS_BYTES as u8;
-
-const HEAD: u8 = codes::HEAD as u8;
-
 // The frame in hand. Fields that it has not reached are 0.
 #[repr(C)]
 pub struct Frame {
-    // whole bytes taken, 0 to 5, staying at 5
+    // whole bytes taken, staying at 5, or at 6 of an M95M01
     pub taken: u8,
     // bits taken of the current byte, 0 to 7, and their values
     pub bits: u8,

@@ -3,17 +3,19 @@ ghost use mathlib.Core.Path.{_≡_};
 ghost use mathlib.Core.Bool.{_&&_};
 ghost use Prim.Native.Nat.{_+_, _-_, _%_, _^_, _<_};
 ghost use lib.Dec.{eqb, ltb};
-ghost use Rattle.codes.specs.Part.{m95512, partOf};
+ghost use Rattle.codes.specs.Part.{partOf};
 ghost use Rattle.codes.specs.Instructions.{decode};
 ghost use Rattle.edges.specs.Ranges.{partialFits, countsFit, codeFits, addressFits, valued, latches, outFits};
 ghost use Rattle.edges.specs.Ranges.{fieldsFit, frameFits};
 use crate::Frame;
-use crate::HEAD;
-use crate::SIZE;
 use crate::falling::outputs;
+use crate::places::less;
+use crate::places::place;
 use codes::Instruction;
-use codes::MOST;
+use codes::head_of;
+use codes::most_of;
 use codes::picks_lock;
+use codes::size_of;
 
 // 2 to the number of bits taken, for one byte.
 fn two_to(bits: u8) -> u32
@@ -33,30 +35,16 @@ fn partial_fits(bits: u8, partial: u8) -> bool
     false
 }
 
-// The place of the last address byte taken: what lies below it is 0.
-fn place(taken: u8) -> u32
-    ensures { λ r. ⌜ r ≡ 256 ^ (m95512 .addressBytes + 1 - taken) ⌝ }
-    ensures { λ r. ⌜ 0 < r ⌝ }
+// What lies below the last address byte taken is 0.
+fn taken_so_far(part: u8, taken: u8, address: u32) -> bool
+    ensures { λ r. ⌜ r
+        ≡ (ltb address (partOf part .size) && eqb (address % 256 ^ (partOf part .addressBytes + 1 - taken)) 0) ⌝ }
 {
-    if taken == 0 {
-        return 16777216;
-    }
-    if taken == 1 {
-        return 65536;
-    }
-    if taken == 2 {
-        return 256;
-    }
-    1
+    let place = place(less(head_of(part), taken));
+    ((address as usize) < size_of(part)) & (left_over(address as u64, place) == 0)
 }
 
-fn taken_so_far(taken: u8, address: u32) -> bool
-    ensures { λ r. ⌜ r ≡ (ltb address (m95512 .size) && eqb (address % 256 ^ (m95512 .addressBytes + 1 - taken)) 0) ⌝ }
-{
-    (address < SIZE) & (left_over(address, place(taken)) == 0)
-}
-
-fn left_over(address: u32, place: u32) -> u32
+fn left_over(address: u64, place: u64) -> u64
     requires { ⌜ 0 < place ⌝ }
     ensures { λ r. ⌜ r ≡ address % place ⌝ }
 {
@@ -71,10 +59,10 @@ fn address_fits(part: u8, i: Instruction, taken: u8, address: u32) -> bool
         Instruction::Wrdi => address == 0,
         Instruction::Rdsr => address == 0,
         Instruction::Wrsr => address == 0,
-        Instruction::Read => taken_so_far(taken, address),
-        Instruction::Write => taken_so_far(taken, address),
-        Instruction::Rdid => taken_so_far(taken, address),
-        Instruction::Wrid => taken_so_far(taken, address),
+        Instruction::Read => taken_so_far(part, taken, address),
+        Instruction::Write => taken_so_far(part, taken, address),
+        Instruction::Rdid => taken_so_far(part, taken, address),
+        Instruction::Wrid => taken_so_far(part, taken, address),
         Instruction::Silence => address == 0,
     }
 }
@@ -90,7 +78,7 @@ fn valued(part: u8, i: Instruction, address: u32, taken: u8) -> bool
         Instruction::Read => false,
         Instruction::Write => false,
         Instruction::Rdid => false,
-        Instruction::Wrid => picks_lock(address) & (HEAD < taken),
+        Instruction::Wrid => picks_lock(address) & (head_of(part) < taken),
         Instruction::Silence => false,
     }
 }
@@ -104,18 +92,18 @@ fn latches(part: u8, i: Instruction, address: u32, taken: u8) -> bool
         Instruction::Rdsr => false,
         Instruction::Wrsr => false,
         Instruction::Read => false,
-        Instruction::Write => HEAD < taken,
+        Instruction::Write => head_of(part) < taken,
         Instruction::Rdid => false,
-        Instruction::Wrid => !picks_lock(address) & (HEAD < taken),
+        Instruction::Wrid => !picks_lock(address) & (head_of(part) < taken),
         Instruction::Silence => false,
     }
 }
 
 impl Frame {
-    fn counts_fit(self) -> bool
-        ensures { λ r. ⌜ r ≡ countsFit m95512 self ⌝ }
+    fn counts_fit(self, part: u8) -> bool
+        ensures { λ r. ⌜ r ≡ countsFit (partOf part) self ⌝ }
     {
-        (self.taken <= MOST) & partial_fits(self.bits, self.partial)
+        (self.taken <= most_of(part)) & partial_fits(self.bits, self.partial)
     }
 
     fn code_fits(self) -> bool
@@ -143,13 +131,15 @@ impl Frame {
         let address = address_fits(part, i, self.taken, self.address);
         let value = valued(part, i, self.address, self.taken) | (self.value == 0);
         let marks = latches(part, i, self.address, self.taken);
-        address & value & self.out_fits(part, i) & latch.fits(marks)
+        address & value & self.out_fits(part, i) & latch.fits(part, marks)
     }
 
     // Is it inside its ranges, for every frame in hand.
     pub fn fits(self, part: u8) -> bool
         ensures { λ r. ⌜ r ≡ frameFits (partOf part) self ⌝ }
     {
-        self.counts_fit() & self.code_fits() & self.fields_fit(part, codes::decode(part, self.code))
+        self.counts_fit(part)
+            & self.code_fits()
+            & self.fields_fit(part, codes::decode(part, self.code))
     }
 }

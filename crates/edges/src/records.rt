@@ -1,17 +1,17 @@
 // The frame in hand, made of another.
 ghost use mathlib.Core.Path.{_≡_};
 ghost use Prim.Native.Nat.{_+_, min};
-ghost use Rattle.codes.specs.Part.{m95512};
+ghost use Rattle.codes.specs.Part.{partOf};
 ghost use Rattle.codes.specs.Status.{bit};
 ghost use Rattle.edges.specs.Frames.{noFrame, withByte, withCode, withValue, withOut, withAddress, withLatch};
 use crate::Frame;
-use codes::MOST;
+use codes::most_of;
 use latch::Latch;
 
 impl Frame {
     // No byte and no bit taken.
     pub fn none() -> Frame
-        ensures { λ r. ⌜ r ≡ noFrame m95512 ⌝ }
+        ensures { λ r. ⌜ r ≡ noFrame ⌝ }
     {
         Frame {
             taken: 0,
@@ -28,10 +28,10 @@ impl Frame {
     }
 
     // One whole byte more; the count stays at its most.
-    pub(crate) fn with_byte(mut self) -> Frame
-        ensures { λ r. ⌜ r ≡ withByte m95512 self ⌝ }
+    pub(crate) fn with_byte(mut self, part: u8) -> Frame
+        ensures { λ r. ⌜ r ≡ withByte (partOf part) self ⌝ }
     {
-        let taken = one_more(self.taken);
+        let taken = one_more(part, self.taken);
         self.taken = taken;
         self.bits = 0;
         self.partial = 0;
@@ -78,10 +78,11 @@ impl Frame {
 }
 
 // One whole byte more; the count stays at its most.
-pub fn one_more(taken: u8) -> u8
-    ensures { λ r. ⌜ r ≡ min (m95512 .most) (taken + 1) ⌝ }
+pub fn one_more(part: u8, taken: u8) -> u8
+    ensures { λ r. ⌜ r ≡ min (partOf part .most) (taken + 1) ⌝ }
 {
-    if taken < MOST { taken + 1 } else { MOST }
+    let most = most_of(part);
+    if taken < most { taken + 1 } else { most }
 }
 
 // A level as a number: 1 for high.

@@ -5,6 +5,8 @@ use Rattle.fields.proofs.fields.byte_at.Kinds as byte-at
 use Rattle.fields.proofs.fields.byte_at.Reads as byte-at-reads
 use Rattle.fields.proofs.fields.instruction_of.Kinds as instruction-of
 use Rattle.fields.proofs.fields.instruction_of.Reads as instruction-of-reads
+use Rattle.fields.proofs.counts.length_fits.Kinds as length-fits
+use Rattle.fields.proofs.counts.length_fits.Reads as length-fits-reads
 use Rattle.fields.proofs.fields.address_of.Kinds as address-of
 use Rattle.fields.proofs.fields.address_of.Reads as address-of-reads
 use Rattle.fields.proofs.fields.latch_of.Kinds as latch-of
@@ -22,8 +24,11 @@ byte-at-one κs a z z′ e e′ p q = same p q
 pub instruction-of-one : OneResult instruction-of.ps instruction-of.r instruction-of-reads.Post
 instruction-of-one κs a z z′ e e′ p q = same p q
 
+pub length-fits-one : OneResult length-fits.ps length-fits.r length-fits-reads.Post
+length-fits-one κs a z z′ e e′ p q = same p q
+
 pub address-of-one : OneResult address-of.ps address-of.r address-of-reads.Post
-address-of-one κs a z z′ e e′ p q = same p q
+address-of-one κs a z z′ e e′ p q = same (p .0) (q .0)
 
 pub latch-of-one : OneResult latch-of.ps latch-of.r latch-of-reads.Post
 latch-of-one κs a z z′ e e′ p q = same p q

@@ -29,4 +29,4 @@ latchedFrom P i [] l = l
 latchedFrom P i (v ∷ vs) l = latchedFrom P (suc i) vs (latched (i % P .page) v l)
 
 abbrev pub written : Part → List ℕ → Latch
-written P s = latchedFrom P (address P s % P .page) (payload P s) (noLatch P)
+written P s = latchedFrom P (address P s % P .page) (payload P s) noLatch

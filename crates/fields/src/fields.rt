@@ -1,15 +1,17 @@
 // The bytes of a frame: the code, the address, the data. A byte that the frame lacks reads 0.
 ghost use mathlib.Core.Path.{_≡_};
-ghost use Prim.Native.Nat.{_+_, _*_, _%_, _≤_};
+ghost use Prim.Native.Nat.{_+_, _*_, _%_, _≤_, _<_};
 ghost use lib.ListN.{length, getD};
 ghost use Rattle.laws.specs.Spliced.{spliced};
-ghost use Rattle.codes.specs.Part.{m95512, partOf};
+ghost use Rattle.codes.specs.Part.{partOf};
 ghost use Rattle.latch.specs.Latches.{noLatch};
 ghost use Rattle.fields.specs.Bytes.{instruction, address, latchedFrom, written};
 use crate::runs::at_most;
-use codes::HEAD;
 use codes::Instruction;
-use codes::PAGE;
+use codes::address_bytes_of;
+use codes::head_of;
+use codes::page_of;
+use codes::size_of;
 use latch::Latch;
 use latch::ROOM;
 use latch::cell_of;
@@ -37,10 +39,15 @@ fn joined(high: u8, low: u8) -> usize
 }
 
 // The address, high byte first.
-pub fn address_of(bytes: &[u8]) -> usize
-    ensures { λ r. ⌜ r ≡ address m95512 (now (bytes .entry)) ⌝ }
+pub fn address_of(part: u8, bytes: &[u8]) -> usize
+    ensures { λ r. ⌜ r ≡ address (partOf part) (now (bytes .entry)) ⌝ }
+    ensures { λ r. ⌜ (r < partOf part .size) × (r < 131072) ⌝ }
 {
-    joined(byte_at(bytes, 1), byte_at(bytes, 2))
+    let two = joined(byte_at(bytes, 1), byte_at(bytes, 2));
+    if address_bytes_of(part) == 2 {
+        return two;
+    }
+    (two * 256 + byte_at(bytes, 3) as usize) & (size_of(part) - 1)
 }
 
 // A run of bytes latched: into the cells from `start` on.
@@ -55,15 +62,17 @@ fn latch_run(cells: &mut [u8], start: usize, run: &[u8])
 
 // Bytes latched from an address up and round within its page. Only the last page of them stays, in at most two runs: up
 // to the page's end, and from its first cell.
-fn latch_all(address: usize, values: &[u8]) -> Latch
-    ensures { λ r. ⌜ r ≡ latchedFrom m95512 (address % m95512 .page) (now (values .entry)) (noLatch m95512) ⌝ }
+fn latch_all(part: u8, address: usize, values: &[u8]) -> Latch
+    ensures { λ r. ⌜ r
+        ≡ latchedFrom (partOf part) (address % partOf part .page) (now (values .entry)) noLatch ⌝ }
 {
     let mut cells = [0u8; ROOM];
+    let page = page_of(part);
     let n = values.len();
-    let kept = at_most(PAGE, n);
+    let kept = at_most(page, n);
     let skip = n - kept;
-    let start = cell_of(cell_of(address) + skip);
-    let first = at_most(PAGE - start, kept);
+    let start = cell_of(part, cell_of(part, address) + skip);
+    let first = at_most(page - start, kept);
     let turn = skip + first;
     latch_run(&mut cells, start, &values[skip..turn]);
     latch_run(&mut cells, 0, &values[turn..n]);
@@ -75,12 +84,13 @@ fn latch_all(address: usize, values: &[u8]) -> Latch
 
 // The page write of a WRITE or 82h frame: each data byte into its cell, from the start address up and round within the
 // page.
-pub fn latch_of(bytes: &[u8]) -> Latch
-    ensures { λ r. ⌜ r ≡ written m95512 (now (bytes .entry)) ⌝ }
+pub fn latch_of(part: u8, bytes: &[u8]) -> Latch
+    ensures { λ r. ⌜ r ≡ written (partOf part) (now (bytes .entry)) ⌝ }
 {
     let n = bytes.len();
-    if n < HEAD {
+    let head = head_of(part) as usize;
+    if n < head {
         return Latch::none();
     }
-    latch_all(address_of(bytes), &bytes[HEAD..n])
+    latch_all(part, address_of(part, bytes), &bytes[head..n])
 }

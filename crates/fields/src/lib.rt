@@ -6,6 +6,7 @@ mod fields;
 mod runs;
 
 pub use counts::bits_fit;
+pub use counts::length_fits;
 pub use fields::address_of;
 pub use fields::byte_at;
 pub use fields::instruction_of;

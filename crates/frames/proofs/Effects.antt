@@ -14,7 +14,7 @@ use Rattle.chip.specs.declared.Core.{Core}
 
 module _ (P : Part) (a v : ℕ) (l : Latch) (c : Core) where
   pub wrid-effect : (i : Instruction) → isWrid i ≡ true
-      → withCycle (pick (picksLock a) (lockWaits P) (identificationWaits l)) c ≡ effect P i a v l c
+      → withCycle (pick (picksLock a) lockWaits (identificationWaits l)) c ≡ effect P i a v l c
   wrid-effect Wren e = absurd (true≢false (sym e))
   wrid-effect Wrdi e = absurd (true≢false (sym e))
   wrid-effect Rdsr e = absurd (true≢false (sym e))

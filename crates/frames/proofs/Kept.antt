@@ -6,7 +6,7 @@ use Prim.Native.Nat.{ℕ, zero, suc, _+_, _*_, _-_, _/_, _%_, _^_, _<_}
 use native.Mathlib.Nat.{mod-lt}
 use lib.ListN.{length, getD, length-set, length-replicate}
 use Rattle.laws.specs.Pick.{pick-case}
-use Rattle.codes.specs.Part.{Part, pages, words}
+use Rattle.codes.specs.Part.{Part, pages, roomWords}
 use Rattle.codes.specs.Status.{on}
 use Rattle.latch.specs.Latches.{zeros, noLatch, latched, latchFits}
 use Rattle.chip.specs.Records.{running}
@@ -34,19 +34,20 @@ address-below P s h (suc k) = mod-lt (addressTo P s k + getD s (suc k) 0 * 256 ^
 pub page-below : (P : Part) (s : List ℕ) → Sound P → address P s / P .page < pages P
 page-below P s h = page-of-memory h (address P s) (address-below P s (h .size-some) (P .addressBytes))
 
-all-latched : (P : Part) → Sound P → (i : ℕ) (vs : List ℕ) (l : Latch) → length (l .marks) ≡ words P → latchFits P true l ≡ true
+all-latched : (P : Part) → Sound P → (i : ℕ) (vs : List ℕ) (l : Latch) → length (l .marks) ≡ roomWords → latchFits P true l ≡ true
     → latchFits P true (latchedFrom P i vs l) ≡ true
 unfolding latchedFrom
 all-latched P sound i [] l e fits = fits
 all-latched P sound i (v ∷ vs) l e fits =
-    let below : i % P .page / 64 < length (l .marks) = rw e (cell-word P sound (i % P .page) (mod-lt i (sound .page-some))) in
+    let cell = mod-lt i (sound .page-some) in
+    let below : i % P .page / 64 < length (l .marks) = rw e (cell-word P sound (i % P .page) cell) in
     all-latched P sound (suc i) vs (latched (i % P .page) v l) (length-set (l .marks) (i % P .page / 64) _ ∙ e)
-    (one-latched P (i % P .page) v l below fits)
+    (one-latched P (i % P .page) v l sound cell below fits)
 
 pub written-fits : (P : Part) (s : List ℕ) → Sound P → latchFits P true (written P s) ≡ true
 unfolding zeros
 written-fits P s sound =
-    all-latched P sound _ (payload P s) (noLatch P) (length-replicate {A = ℕ} (words P) 0) (none-latched P true)
+    all-latched P sound _ (payload P s) noLatch (length-replicate {A = ℕ} roomWords 0) (none-latched P true)
 
 module _ (P : Part) (sound : Sound P) (w : Bool) (c : Core) (s : List ℕ) (n : ℕ) where
   pub after-within : (ran : Bool) → (running c ≡ true → ran ≡ true) → Within P c → Within P (after P ran w c s n)

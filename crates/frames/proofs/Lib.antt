@@ -1,6 +1,7 @@
 -- Theorems on frames, and the facts that the functions' proofs share.
 pub mod Outcomes
 pub mod Polls
+pub mod Disabling
 pub mod Ones
 pub mod Effects
 pub mod Kept

@@ -31,7 +31,7 @@ frameBench c m i = record { core = c; memory = m; identification = i }
 abbrev pub acted : Part → Act → FrameBench → FrameBench
 acted P (frame w s n) d = frameBench (after P (running (d .core)) w (d .core) s n) (d .memory) (d .identification)
 acted P (reading t) d =
-    frameBench (timed P t (d .core)) (timedMemory P t (d .core) (d .memory))
+    frameBench (timed t (d .core)) (timedMemory P t (d .core) (d .memory))
     (timedIdentification P t (d .core) (d .identification))
 
 abbrev pub actedAll : Part → List Act → FrameBench → FrameBench

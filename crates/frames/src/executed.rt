@@ -9,13 +9,13 @@ ghost use Rattle.chip.specs.Effects.{effect};
 ghost use Rattle.fields.specs.Bytes.{address, written};
 ghost use Rattle.frames.specs.After.{judged, executed, after};
 use chip::Core;
-use codes::HEAD;
 use codes::Instruction;
-use codes::PAGE;
 use codes::Verdict;
+use codes::head_of;
 use codes::is_wrid;
 use codes::is_write;
 use codes::judge;
+use codes::page_number;
 use fields::address_of;
 use fields::byte_at;
 use fields::instruction_of;
@@ -27,13 +27,13 @@ fn verdict_of(core: Core, w: bool, bytes: &[u8], bits: usize) -> Verdict
 {
     let locked = (core.srwd == 1) & !w;
     let i = instruction_of(core.part, bytes);
-    let address = address_of(bytes) as u32;
+    let address = address_of(core.part, bytes) as u32;
     let barred = core.barred(i, address);
     judge(
         core.part,
         i,
         address,
-        byte_at(bytes, HEAD),
+        byte_at(bytes, head_of(core.part) as usize),
         bits,
         core.running(),
         core.wel == 1,
@@ -49,12 +49,12 @@ fn write_cells(core: Core, i: Instruction, bytes: &[u8]) -> Core
     ensures { λ r. ⌜ ((v : ℕ) → r ≡ effect (ownPart core) i (address (ownPart core) (now (bytes .entry))) v
         (written (ownPart core) (now (bytes .entry))) core) ⌝ }
 {
-    let address = address_of(bytes);
-    let latch = latch_of(bytes);
+    let address = address_of(core.part, bytes);
+    let latch = latch_of(core.part, bytes);
     if is_wrid(i) {
         return core.begin_identification(address as u32, latch);
     }
-    core.begin_page((address / PAGE) as u32, latch)
+    core.begin_page(page_number(core.part, address) as u32, latch)
 }
 
 // Any other instruction: its address and its latch are not looked at.

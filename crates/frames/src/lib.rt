@@ -1,4 +1,4 @@
-// The frame model of the M95512 and the M95512-D: it takes whole frames.
+// The frame model of the three parts: it takes whole frames.
 //
 // Public calls, each for every input: frame and poll, and chip's power_up and clock_reading, whose record this model
 // holds.

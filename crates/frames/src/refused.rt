@@ -4,10 +4,10 @@ ghost use Rattle.chip.specs.Records.{ownPart};
 ghost use Rattle.frames.specs.Answers.{frameOutcome};
 use chip::Core;
 use chip::lent_fits;
-use codes::LONGEST_FRAME;
 use codes::Outcome;
 use codes::Refusal;
 use fields::bits_fit;
+use fields::length_fits;
 
 pub(crate) fn outcome(
     core: Core,
@@ -19,9 +19,9 @@ pub(crate) fn outcome(
 ) -> Outcome
     ensures { λ r. ⌜ r ≡ frameOutcome (ownPart core) core size cells len bits room ⌝ }
 {
-    if lent_fits(size, cells) {
+    if lent_fits(core.part, size, cells) {
         if core.in_ranges() {
-            if len <= LONGEST_FRAME {
+            if length_fits(core.part, len) {
                 if bits_fit(len, bits) {
                     if room == len {
                         return Outcome::Done;

@@ -1,5 +1,5 @@
 -- Export and import: the refusals in their order, what is answered, and what is left of what is lent. P is the part
--- whose image a text is; memory and record are judged by the record's own part.
+-- whose image a text is; memory and record are judged by the record's own part, and 12 is for a part of another size.
 use Prim.Native.Nat.{ℕ}
 use mathlib.Core.Bool.{Bool, not, _&&_}
 use mathlib.Core.List.{List}
@@ -13,7 +13,7 @@ use Rattle.chip.specs.declared.Core.{Core}
 use Rattle.chip.specs.Records.{ownPart, running}
 use Rattle.chip.specs.Ranges.{inRanges}
 use Rattle.hex.specs.declared.HexReply.{HexReply}
-use Rattle.hex.specs.declared.HexReply.the-variants.{Done, NotImported, Refused}
+use Rattle.hex.specs.declared.HexReply.the-variants.{Done, NotTaken, Refused}
 use Rattle.hex.specs.declared.Imported.{Imported}
 use Rattle.hex.specs.Writing.{imageText, imageRoom}
 use Rattle.hex.specs.Reading.{parted, isGood, laidRecords}
@@ -21,34 +21,39 @@ use Rattle.hex.specs.Reading.{parted, isGood, laidRecords}
 -- document 02's number of an answer
 abbrev pub hexNumber : HexReply → ℕ
 hexNumber Done = 0
-hexNumber NotImported = 12
+hexNumber NotTaken = 12
 hexNumber (Refused r) = refusalNumber r
 
--- ---- export, with a lent output of so many bytes: 1, 2, and 5 for an output of another length
+-- the record's part has such images: those of P's size
+abbrev pub imaged : Part → Core → Bool
+imaged P c = eqb (ownPart c .size) (P .size)
 
-abbrev pub exportChoice : {A : Type 0} → Part → Core → List ℕ → ℕ → A → A → A → A → A
-exportChoice P c m room one two five done =
+-- ---- export, with a lent output of so many bytes: 1, 2, 12 for a part without such images, and 5 for an output of
+-- another length
+
+abbrev pub exportChoice : {A : Type 0} → Part → Core → List ℕ → ℕ → A → A → A → A → A → A
+exportChoice P c m room one two twelve five done =
     pick (eqb (length m) (ownPart c .size))
-    (pick (inRanges (ownPart c) c) (pick (eqb room (imageRoom P)) done five) two) one
+    (pick (inRanges (ownPart c) c) (pick (imaged P c) (pick (eqb room (imageRoom P)) done five) twelve) two) one
 
 abbrev pub exportReply : Part → Core → List ℕ → ℕ → HexReply
 exportReply P c m room =
-    exportChoice P c m room (Refused MemoryLength) (Refused RecordRange) (Refused OutputLength) Done
+    exportChoice P c m room (Refused MemoryLength) (Refused RecordRange) NotTaken (Refused OutputLength) Done
 
 abbrev pub exportNumber : Part → Core → List ℕ → ℕ → ℕ
-exportNumber P c m room = exportChoice P c m room 1 2 5 0
+exportNumber P c m room = exportChoice P c m room 1 2 12 5 0
 
 -- the cells as stored, in a cycle too
 abbrev pub exportOutput : Part → Core → List ℕ → List ℕ → List ℕ
-exportOutput P c m d = exportChoice P c m (length d) d d d (imageText P m)
+exportOutput P c m d = exportChoice P c m (length d) d d d d (imageText P m)
 
--- ---- import: 1, 2, and 12 for a text that is not good or while a cycle runs
+-- ---- import: 1, 2, and 12 for a part without such images, for a text that is not good or while a cycle runs
 
 abbrev pub takes : Part → Core → List ℕ → Bool
-takes P c t = not (running c) && isGood P t
+takes P c t = imaged P c && (not (running c) && isGood P t)
 
 abbrev pub takenReply : Bool → HexReply
-takenReply t = pick t Done NotImported
+takenReply t = pick t Done NotTaken
 
 abbrev pub importChoice : {A : Type 0} → Part → Core → List ℕ → List ℕ → A → A → A → A → A
 importChoice P c m t one two twelve done =
@@ -61,7 +66,7 @@ importedTo a c = record { answer = a; core = c }
 abbrev pub importAnswer : Part → Core → List ℕ → List ℕ → Imported
 importAnswer P c m t =
     importChoice P c m t (importedTo (Refused MemoryLength) c) (importedTo (Refused RecordRange) c)
-    (importedTo NotImported c) (importedTo Done c)
+    (importedTo NotTaken c) (importedTo Done c)
 
 abbrev pub importNumber : Part → Core → List ℕ → List ℕ → ℕ
 importNumber P c m t = importChoice P c m t 1 2 12 0

@@ -2,9 +2,10 @@
 ghost use mathlib.Core.Path.{_≡_};
 ghost use mathlib.Core.Bool.{not, _&&_};
 ghost use Prim.Native.Nat.{_≤_};
+ghost use lib.Dec.{eqb};
 ghost use lib.ListN.{length, take};
 ghost use Rattle.laws.specs.Pick.{pick};
-ghost use Rattle.codes.specs.Part.{m95512};
+ghost use Rattle.codes.specs.Part.{m95512, partOf};
 ghost use Rattle.hex.specs.Writing.{endLine};
 ghost use Rattle.hex.specs.Reading.{parted, sameBytes, isGood, firstBad, laidRecords};
 ghost use Rattle.hex.specs.Answers.{hexNumber, takenReply, exportReply, exportNumber, exportOutput, importAnswer};
@@ -18,8 +19,9 @@ use crate::reading::is_end;
 use crate::storing::store;
 use crate::writing::put_image;
 use chip::Core;
+use codes::M95512;
 use codes::Refusal;
-use codes::SIZE;
+use codes::size_of;
 
 impl HexReply {
     // Document 02's number: 0, 12 for what is not taken, 1, 2 and 5.
@@ -28,26 +30,37 @@ impl HexReply {
     {
         match self {
             HexReply::Done => 0,
-            HexReply::NotImported => 12,
+            HexReply::NotTaken => 12,
             HexReply::Refused(refusal) => refusal.number(),
         }
     }
 }
 
-// All cells as a text, as stored, in a cycle too. Refusals 1 for a memory of another length, 2 for a record outside its
-// ranges, 5 for an output that is not of 180,236 bytes, each with the output as it was.
+// The part's memory has an image's cells.
+fn imaged(part: u8) -> bool
+    ensures { λ r. ⌜ r ≡ eqb (partOf part .size) (m95512 .size) ⌝ }
+{
+    size_of(part) == size_of(M95512)
+}
+
+// All cells as a text, as stored, in a cycle too. Refusals 1 for a memory of another length than the part's, 2 for a
+// record outside its ranges, 12 for a record of an M95M01, 5 for an output that is not of 180,236 bytes, each with the
+// output as it was.
 pub fn export(core: Core, memory: &[u8], out: &mut [u8]) -> HexReply
     ensures { λ r. ⌜ r ≡ exportReply m95512 core (now (memory .entry)) (length (now (out .entry))) ⌝ }
     ensures { λ r. ⌜ hexNumber r ≡ exportNumber m95512 core (now (memory .entry)) (length (now (out .entry))) ⌝ }
     ensures { λ _. ⌜ now (out .exit) ≡ exportOutput m95512 core (now (memory .entry)) (now (out .entry)) ⌝ }
 {
-    if memory.len() == SIZE {
+    if memory.len() == size_of(core.part) {
         if core.in_ranges() {
-            if out.len() == TEXT_SIZE {
-                put_image(out, memory);
-                return HexReply::Done;
+            if imaged(core.part) {
+                if out.len() == TEXT_SIZE {
+                    put_image(out, memory);
+                    return HexReply::Done;
+                }
+                return HexReply::Refused(Refusal::OutputLength);
             }
-            return HexReply::Refused(Refusal::OutputLength);
+            return HexReply::NotTaken;
         }
         return HexReply::Refused(Refusal::RecordRange);
     }
@@ -62,7 +75,7 @@ fn take_text(running: bool, memory: &mut [u8], text: &[u8]) -> HexReply
         (laidRecords (parted m95512 (now (text .entry)) .records) (now (memory .entry))) (now (memory .entry)) ⌝ }
 {
     if running {
-        return HexReply::NotImported;
+        return HexReply::NotTaken;
     }
     let values = digit_values();
     let checked = check(text, &values);
@@ -71,22 +84,28 @@ fn take_text(running: bool, memory: &mut [u8], text: &[u8]) -> HexReply
         store(memory, text, at, &values);
         return HexReply::Done;
     }
-    HexReply::NotImported
+    HexReply::NotTaken
 }
 
-// The cells that a text names, a later record over an earlier one. Refusals 1 for a memory of another length, 2 for a
-// record outside its ranges, 12 for a text that is not good or while a cycle runs, each with the memory as it was. The
-// record comes back as it was given.
+// The cells that a text names, a later record over an earlier one. Refusals 1 for a memory of another length than the
+// part's, 2 for a record outside its ranges, 12 for a record of an M95M01, for a text that is not good or while a cycle
+// runs, each with the memory as it was. The record comes back as it was given.
 pub fn import(core: Core, memory: &mut [u8], text: &[u8]) -> Imported
     ensures { λ r. ⌜ r ≡ importAnswer m95512 core (now (memory .entry)) (now (text .entry)) ⌝ }
     ensures { λ r. ⌜ hexNumber (r .answer) ≡ importNumber m95512 core (now (memory .entry)) (now (text .entry)) ⌝ }
     ensures { λ _. ⌜ now (memory .exit) ≡ importMemory m95512 core (now (memory .entry)) (now (text .entry)) ⌝ }
 {
-    if memory.len() == SIZE {
+    if memory.len() == size_of(core.part) {
         if core.in_ranges() {
-            let answer = take_text(core.running(), memory, text);
+            if imaged(core.part) {
+                let answer = take_text(core.running(), memory, text);
+                return Imported {
+                    answer: answer,
+                    core: core,
+                };
+            }
             return Imported {
-                answer: answer,
+                answer: HexReply::NotTaken,
                 core: core,
             };
         }

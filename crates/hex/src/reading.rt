@@ -9,7 +9,7 @@ ghost use Rattle.codes.specs.Part.{m95512};
 ghost use Rattle.hex.specs.Writing.{endLine};
 ghost use Rattle.hex.specs.Reading.{digit, lineByte, dataLength, addressAt, isFramed, isPlaced, sumsUp};
 ghost use Rattle.hex.specs.Reading.{saysRecord, lineLength, parted, sameBytes};
-use codes::SIZE;
+use crate::IMAGE_SIZE;
 
 fn choose(test: bool, yes: u32, no: u32) -> u32
     ensures { λ r. ⌜ r ≡ pick test yes no ⌝ }
@@ -75,7 +75,7 @@ fn is_placed(text: &[u8], n: usize, values: &[u32; 256]) -> bool
         × (now values ≡ table 256 digit) ⌝ }
     ensures { λ r. ⌜ r ≡ isPlaced m95512 (now (text .entry)) ⌝ }
 {
-    (line_byte(text, 3, values) == 0) & (address_at(text, values) as usize + n <= SIZE)
+    (line_byte(text, 3, values) == 0) & (address_at(text, values) as usize + n <= IMAGE_SIZE)
 }
 
 // Whether the first bytes of the line, so many, are all in digits and sum to 0.

@@ -7,7 +7,7 @@ ghost use Rattle.codes.specs.Part.{m95512};
 ghost use Rattle.printing.specs.Put.{put};
 ghost use Rattle.hex.specs.Writing.{digitText, byteText, bytesText, total, sumByte, lineOf, recordLine};
 ghost use Rattle.hex.specs.Writing.{recordsText, imageRecords, imageRoom, imageText};
-use codes::SIZE;
+use crate::IMAGE_SIZE;
 use printing::put_bytes;
 
 // Cells of a record of an image, bytes of its line, and how many there are.
@@ -15,7 +15,7 @@ const CELLS: usize = 16;
 
 const LINE: usize = 44;
 
-const LINES: usize = SIZE / CELLS;
+const LINES: usize = IMAGE_SIZE / CELLS;
 
 // Where the closing line stands.
 const LAST: usize = LINE * LINES;

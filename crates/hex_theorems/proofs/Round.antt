@@ -1,12 +1,13 @@
--- An exported image: its text is good and says the image, and importing it over any memory gives the image.
+-- An exported image: its text is good and says the image, and importing it over any memory of its size gives the image.
 use mathlib.Core.Path.{_≡_, refl, ap, sym, _∙_}
-use mathlib.Core.Bool.{Bool, true, false, not, _&&_}
-use mathlib.Core.List.{List, [], _∷_, _++_, append-nil}
-use Prim.Native.Nat.{ℕ, zero, suc, _+_, _-_, _*_, _/_, _<_, _≤_}
+use mathlib.Core.Bool.{true, false, not, _&&_}
+use mathlib.Core.List.{List, [], _∷_, _++_}
+use Prim.Native.Nat.{ℕ, zero, suc, _+_, _*_, _≤_}
 use native.Mathlib.Decide.{decLt}
 use native.Mathlib.Omega.{arith}
-use lib.ListN.{length, getD, take, drop, length-append, length-drop, List·getD-eq-default}
-use lib.Seq.{take-all, take-add, drop-length, length-take-le, getD-take, getD-drop}
+use lib.ListN.{length, take, drop, length-append, List·getD-eq-default}
+use lib.Seq.{take-all, take-add, length-take-le, getD-take, getD-drop}
+use borrow.Author.Tests.{eqb-true}
 use Rattle.laws.specs.Pick.{yes-so, eq-so, and-both}
 use Rattle.laws.specs.Table.{table, from}
 use Rattle.codes.specs.Part.{Part, m95512}
@@ -15,9 +16,9 @@ use Rattle.chip.specs.Records.{ownPart, running}
 use Rattle.chip.specs.Ranges.{inRanges}
 use Rattle.printing.specs.Put.{put}
 use Rattle.printing.proofs.Puts.{put-nil}
-use Rattle.hex.specs.Writing.{HexRecord, recordsText, endLine, hexText, recordOf, imageRecords, imageText, imageRoom}
+use Rattle.hex.specs.Writing.{HexRecord, recordsText, endLine, recordOf, imageRecords, imageText, imageRoom}
 use Rattle.hex.specs.Reading.{Parted, parted, isGood, laidRecord, laidRecords}
-use Rattle.hex.specs.Answers.{takes, importNumber, importMemory}
+use Rattle.hex.specs.Answers.{imaged, takes, importNumber, importMemory}
 use Rattle.hex.proofs.Sums.{table-more}
 use Rattle.hex.proofs.Writes.{put-then, put-all, lines-length, sixteen}
 use Rattle.hex_theorems.specs.Fitting.{Bytes, Fits, AllFit, Says}
@@ -105,13 +106,16 @@ module _ (x : List ℕ) (long : length x ≡ m95512 .size) (small : Bytes x) whe
       ap (λ (p : Parted). laidRecords (p .records) m) (says-parted m95512 (imageText m95512 x) (imageRecords m95512 x) image-says)
       ∙ laid-lines m95512 x long (omega arith) small m 4096 e (omega arith) ∙ ap (put m 0) (take-all 65536 x (omega arith)) ∙ put-all m x (long ∙ sym e)
 
-  -- export and then import, with no cycle running, over any memory
-  module _ (c : Core) (m : List ℕ) (fits : length m ≡ m95512 .size) (within : inRanges (ownPart c) c ≡ true) (still : running c ≡ false) where
+  -- export and then import of a record whose part has such images, with no cycle running, over any memory
+  module _ (c : Core) (m : List ℕ) (fits : length m ≡ ownPart c .size) (within : inRanges (ownPart c) c ≡ true)
+      (image : imaged m95512 c ≡ true) (still : running c ≡ false) where
     taken : takes m95512 c (imageText m95512 x) ≡ true
-    taken = and-both (not (running c)) (isGood m95512 (imageText m95512 x)) (ap not still) image-good
+    taken =
+        and-both (imaged m95512 c) (not (running c) && isGood m95512 (imageText m95512 x)) image
+        (and-both (not (running c)) (isGood m95512 (imageText m95512 x)) (ap not still) image-good)
 
     pub export-import : importMemory m95512 c m (imageText m95512 x) ≡ x
-    export-import = sym (eq-so _ fits (yes-so _ within (yes-so _ taken (sym (image-laid m fits)))))
+    export-import = sym (eq-so _ fits (yes-so _ within (yes-so _ taken (sym (image-laid m (fits ∙ eqb-true _ _ image))))))
 
     pub export-import-number : importNumber m95512 c m (imageText m95512 x) ≡ 0
     export-import-number = sym (eq-so _ fits (yes-so _ within (yes-so _ taken refl)))

@@ -5,7 +5,7 @@ ghost use mathlib.Core.Path.{_≡_};
 ghost use Prim.Native.Nat.{_≤_};
 ghost use lib.ListN.{length};
 use chip::Core;
-use codes::SIZE;
+use hex::IMAGE_SIZE;
 use hex::TEXT_SIZE;
 use libc::STDERR_FILENO;
 use libc::STDOUT_FILENO;
@@ -26,10 +26,10 @@ fn exported_room() -> [u8; TEXT_SIZE]
 }
 
 // An image with every byte FFh.
-fn blank() -> [u8; SIZE]
+fn blank() -> [u8; IMAGE_SIZE]
     ensures { λ r. ⌜ 65536 ≡ length r ⌝ }
 {
-    [255; SIZE]
+    [255; IMAGE_SIZE]
 }
 
 // ---- messages
@@ -118,7 +118,7 @@ fn read_image(name: &[u8], image: &mut [u8]) -> bool {
     if MOST < n {
         return false;
     }
-    if n != SIZE {
+    if n != IMAGE_SIZE {
         complain(name, b": an image has 65,536 bytes\n");
         return false;
     }

@@ -32,20 +32,20 @@ latch-touched-one κs a z z′ e e′ p q = same (p .0) (q .0)
 pub latch-fits-one : OneResult latch-fits.ps latch-fits.r latch-fits-reads.Post
 latch-fits-one κs a z z′ e e′ p q = same p q
 
-pub latch-store-memory : OneExit latch-store.ps latch-store.r latch-store-reads.Post (λ κs e. now (e .1 .1 .0))
+pub latch-store-memory : OneExit latch-store.ps latch-store.r latch-store-reads.Post (λ κs e. now (e .1 .1 .1 .0))
 latch-store-memory κs a z z′ e e′ p q = same p q
 
 pub cell-of-one : OneResult cell-of.ps cell-of.r cell-of-reads.Post
-cell-of-one κs a z z′ e e′ p q = same p q
+cell-of-one κs a z z′ e e′ p q = same (p .0) (q .0)
 
-pub latch-byte-bytes : OneExit latch-byte.ps latch-byte.r latch-byte-reads.Post (λ κs e. now (e .0))
+pub latch-byte-bytes : OneExit latch-byte.ps latch-byte.r latch-byte-reads.Post (λ κs e. now (e .1 .0))
 latch-byte-bytes κs a z z′ e e′ p q = same (p .0) (q .0)
 
-pub latch-byte-marks : OneExit latch-byte.ps latch-byte.r latch-byte-reads.Post (λ κs e. now (e .1 .0))
+pub latch-byte-marks : OneExit latch-byte.ps latch-byte.r latch-byte-reads.Post (λ κs e. now (e .1 .1 .0))
 latch-byte-marks κs a z z′ e e′ p q = same (p .1) (q .1)
 
 pub next-cell-one : OneResult next-cell.ps next-cell.r next-cell-reads.Post
-next-cell-one κs a z z′ e e′ p q = same p q
+next-cell-one κs a z z′ e e′ p q = same (p .0) (q .0)
 
 pub run-marks-one : OneResult run-marks.ps run-marks.r run-marks-reads.Post
 run-marks-one κs a z z′ e e′ p q = same p q

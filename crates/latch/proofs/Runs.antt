@@ -12,7 +12,7 @@ use Rattle.laws.specs.And.{or-left, or-right, or-none-in}
 use Rattle.laws.specs.Table.{table-length, table-at}
 use Rattle.laws.specs.Bits.{bitOn, bit-or, bit-run-in, bit-run-before, bit-run-after}
 use Rattle.laws.specs.Marks.{mark, Wide}
-use Rattle.codes.specs.Part.{Part, words}
+use Rattle.codes.specs.Part.{room, roomWords}
 use Rattle.latch.specs.Words.{runWord, runMarks}
 
 -- ---- one word
@@ -40,23 +40,23 @@ run-word-below first start end =
 
 -- ---- all words of a page
 
-module _ (P : Part) (start end rest : ℕ) where
+module _ (start end rest : ℕ) where
   abbrev run : List ℕ
-  run = runMarks P start end rest
+  run = runMarks start end rest
 
-  pub run-marks-length : length run ≡ words P
+  pub run-marks-length : length run ≡ roomWords
   unfolding runMarks
-  run-marks-length = table-length _ (words P)
+  run-marks-length = table-length _ (roomWords)
 
-  run-marks-at : (k : ℕ) → k < words P → getD run k 0 ≡ bitOr (runWord (k * 64) start end) (runWord (k * 64) 0 rest)
+  run-marks-at : (k : ℕ) → k < roomWords → getD run k 0 ≡ bitOr (runWord (k * 64) start end) (runWord (k * 64) 0 rest)
   unfolding runMarks
-  run-marks-at k h = table-at _ (words P) k 0 h
+  run-marks-at k h = table-at _ (roomWords) k 0 h
 
-  pub run-marks-wide : Wide (words P) run
+  pub run-marks-wide : Wide (roomWords) run
   run-marks-wide k h =
       rw (run-marks-at k h) (or-lt 64 _ _ (run-word-below (k * 64) start end) (run-word-below (k * 64) 0 rest))
 
-  module _ (j : ℕ) (inside : j < words P * 64) where
+  module _ (j : ℕ) (inside : j < room) where
     run-marked : mark run j ≡ (inWord start end j || inWord 0 rest j)
     run-marked =
         ap (λ (w : ℕ). bitOn w (j % 64)) (run-marks-at (j / 64) (omega arith))

@@ -5,27 +5,27 @@ use mathlib.Core.Bool.{true, false}
 use Prim.Native.Nat.{ℕ, _+_, _-_, _*_, _<_, _≤_}
 use native.Mathlib.Decide.{decLt}
 use native.Mathlib.Omega.{arith}
-use lib.ListN.{length, take, drop, getD}
-use lib.Seq.{getD-take, getD-drop}
+use lib.ListN.{length, take, drop, getD, length-drop}
+use lib.Seq.{length-take-le, getD-take, getD-drop}
 use lib.Dec.{leb, ltb}
 use borrow.Author.Tests.{le-leb, lt-leb, lt-ltb, le-ltb}
 use Rattle.laws.specs.Pick.{pick-case, yes-so, no-so, at-yes, and-both, and-no-left, and-no-right}
 use Rattle.laws.specs.Table.{table-length, table-at, table-is}
 use Rattle.laws.specs.Spliced.{spliced, spliced-length, spliced-before, spliced-in, spliced-after}
-use Rattle.codes.specs.Part.{Part, m95512, partOf}
+use Rattle.codes.specs.Part.{Part}
 use Rattle.latch.specs.Latches.{laid, laidAt, inPage, stored, storedAt}
 use Rattle.latch.specs.declared.Latch.{Latch}
 
 -- ---- a page with a write laid over it
 
-module _ (P : Part) (l : Latch) (page : List ℕ) where
-  pub laid-length : length (laid P l page) ≡ P .page
+module _ (n : ℕ) (l : Latch) (page : List ℕ) where
+  pub laid-length : length (laid n l page) ≡ n
   unfolding laid
-  laid-length = table-length _ (P .page)
+  laid-length = table-length _ n
 
-  pub laid-at : (i : ℕ) → i < P .page → getD (laid P l page) i 0 ≡ laidAt l i (getD page i 0)
+  pub laid-at : (i : ℕ) → i < n → getD (laid n l page) i 0 ≡ laidAt l i (getD page i 0)
   unfolding laid
-  laid-at i h = table-at _ (P .page) i 0 h
+  laid-at i h = table-at _ n i 0 h
 
 -- ---- the memory with a page stored
 
@@ -46,15 +46,15 @@ module _ (P : Part) (p : ℕ) (l : Latch) (m : List ℕ) (fits : p * P .page + P
   stored-at i h = ap (λ (s : List ℕ). getD s i 0) (at-yes _ _ (le-leb _ _ fits)) ∙ table-at (storedAt P p l m) (length m) i 0 h
 
   part : List ℕ
-  part = laid P l (take (P .page) (drop (p * P .page) m))
+  part = laid (P .page) l (take (P .page) (drop (p * P .page) m))
 
   part-length : length part ≡ P .page
   unfolding part
-  part-length = laid-length P l _
+  part-length = laid-length (P .page) l _
 
   part-at : (k : ℕ) → k < P .page → getD part k 0 ≡ laidAt l k (getD m (p * P .page + k) 0)
   unfolding part
-  part-at k h = laid-at P l _ k h ∙ ap (laidAt l k) (getD-take (P .page) (drop (p * P .page) m) k 0 h ∙ getD-drop (p * P .page) m k 0)
+  part-at k h = laid-at (P .page) l _ k h ∙ ap (laidAt l k) (getD-take (P .page) (drop (p * P .page) m) k 0 h ∙ getD-drop (p * P .page) m k 0)
 
   cell : (i : ℕ) → i < length m → getD (spliced m part (p * P .page) (P .page)) i 0 ≡ storedAt P p l m i
   cell i h = elim (decLt i (p * P .page)) [
@@ -70,8 +70,12 @@ module _ (P : Part) (p : ℕ) (l : Latch) (m : List ℕ) (fits : p * P .page + P
     ]
   ]
 
+  -- the page that is lent on is a page long
+  pub page-long : length (take (P .page) (drop (p * P .page) m)) ≡ P .page
+  page-long = length-take-le (P .page) (drop (p * P .page) m) (simp length-drop (omega arith))
+
   -- the memory whose page p was lent on and came back with the write laid over it
-  pub lent-page : spliced m (laid P l (take (P .page) (drop (p * P .page) m))) (p * P .page) (P .page) ≡ stored P p l m
+  pub lent-page : spliced m (laid (P .page) l (take (P .page) (drop (p * P .page) m))) (p * P .page) (P .page) ≡ stored P p l m
   unfolding part stored
   lent-page =
       yes-so _ (le-leb _ _ fits)
@@ -86,8 +90,3 @@ pub stored-length : (P : Part) (p : ℕ) (l : Latch) (m : List ℕ) → length (
 unfolding stored
 stored-length P p l m =
     pick-case (λ (s : List ℕ). length s ≡ length m) (leb (p * P .page + P .page) (length m)) (λ e. table-length (storedAt P p l m) (length m)) (λ e. refl)
-
--- the rows' pages are the same: what the code stores is stored for every row
-pub stored-row : (n p : ℕ) (l : Latch) (m : List ℕ) → stored m95512 p l m ≡ stored (partOf n) p l m
-unfolding stored
-stored-row n p l m = refl

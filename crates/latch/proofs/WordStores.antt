@@ -1,25 +1,23 @@
--- A page with the marked bytes of one word laid over it: none of them yet, one cell more; the two words of a page; and
--- a page every cell of which is marked.
-use Prim.Native.Nat.{ℕ, _+_, _-_, _^_, _<_, _≤_}
-use mathlib.Core.Bool.{Bool, true, false, _&&_, and-false, false-and, true-and}
+-- A page with the marked bytes of one word laid over it: none of them yet, one cell more; and the words of a page, one
+-- after the other.
+use Prim.Native.Nat.{ℕ, _+_, _-_, _*_, _<_, _≤_}
+use mathlib.Core.Bool.{Bool, false, _&&_, and-false, false-and, true-and}
 use mathlib.Core.List.{List}
 use mathlib.Core.Path.{_≡_, refl, sym, ap, ap₂, _∙_}
-use native.Mathlib.Nat.{add-sub-cancel-left, zero-add, sub-zero}
+use native.Mathlib.Nat.{add-sub-cancel-left}
 use native.Mathlib.Decide.{ℕ-discrete, decLt}
 use native.Mathlib.Omega.{arith}
 use lib.Dec.{leb, ltb}
 use lib.ListN.{length, getD, set, length-set}
 use lib.Seq.{getD-set-same, getD-set-other}
 use borrow.Author.Tests.{le-leb, lt-leb, lt-ltb, le-ltb}
-use Rattle.laws.specs.Pick.{pick, at-yes, at-no}
-use Rattle.laws.specs.Table.{table-length, table-at, table-cong, table-is}
+use Rattle.laws.specs.Pick.{pick, at-no, and-no-left}
+use Rattle.laws.specs.Table.{table, table-length, table-at, table-cong, table-is}
 use Rattle.laws.specs.Bits.{bitOn}
 use Rattle.laws.specs.Marks.{mark, mark-at}
-use Rattle.codes.specs.Part.{m95512}
 use Rattle.latch.specs.Latches.{laid}
 use Rattle.latch.specs.declared.Latch.{Latch}
-use Rattle.latch.specs.Words.{wordMarked, wordLaid, copiedPage}
-use Rattle.latch.proofs.WordRanges.{all-in}
+use Rattle.latch.specs.Words.{wordMarked, wordLaid}
 
 -- ---- which cells are marked
 
@@ -101,49 +99,84 @@ module _ (bytes : List ℕ) (start word : ℕ) (page : List ℕ) where
             ])
       ])
 
--- ---- both halves of a page
+-- ---- the words of a page, one after the other
 
-pub both-laid : (bytes marks page : List ℕ) → length page ≡ m95512 .page
-    → wordLaid bytes 64 (getD marks 1 0) 64 (wordLaid bytes 0 (getD marks 0 0) 64 page) ≡ laid m95512 (record { bytes = bytes; marks = marks }) page
-unfolding laid
-both-laid bytes marks page e =
-    table-is _ (wordLaid bytes 64 b 64 first) 128 0 (word-laid-length bytes 64 b first 64 ∙ word-laid-length bytes 0 a page 64 ∙ e)
-    (λ i h. elim (decLt i 64) [
-      | yes k ↦
-          word-laid-at bytes 64 b first 64 i (rw (word-laid-length bytes 0 a page 64, e) h)
-          ∙ at-no _ _ (before-part 64 b 64 i k)
-          ∙ word-laid-at bytes 0 a page 64 i (rw e h)
-          ∙ ap (λ t. pick t (getD bytes i 0) (getD page i 0))
-          (in-part 0 a 64 i (omega arith) (omega arith) ∙ ap (bitOn a) (sub-zero i) ∙ sym (mark-at marks 0 i k) ∙ ap (mark marks) (zero-add i))
-      | no k ↦
-          let there : 64 + (i - 64) ≡ i = omega arith in
-          word-laid-at bytes 64 b first 64 i (rw (word-laid-length bytes 0 a page 64, e) h)
-          ∙ ap₂ (λ t (x : ℕ). pick t (getD bytes i 0) x)
-          (in-part 64 b 64 i (omega arith) (omega arith) ∙ sym (mark-at marks 1 (i - 64) (omega arith)) ∙ ap (mark marks) there)
-          (word-laid-at bytes 0 a page 64 i (rw e h) ∙ at-no _ _ (after-part 0 a 64 i (omega arith)))
-    ])
-  where
-    a : ℕ
-    a = getD marks 0 0
+-- the first k words are laid
+pub wordsLaid : List ℕ → List ℕ → ℕ → List ℕ → List ℕ
+wordsLaid bytes marks k page = table (length page) (λ i. pick (ltb i (k * 64) && mark marks i) (getD bytes i 0) (getD page i 0))
 
-    b : ℕ
-    b = getD marks 1 0
+module _ (bytes marks page : List ℕ) where
+  abbrev pub laidWords : ℕ → List ℕ
+  laidWords k = wordsLaid bytes marks k page
 
-    first : List ℕ
-    first = wordLaid bytes 0 a 64 page
+  pub words-laid-length : (k : ℕ) → length (laidWords k) ≡ length page
+  unfolding wordsLaid
+  words-laid-length k = table-length _ (length page)
 
--- ---- every cell is marked
+  words-laid-at : (k i : ℕ) → i < length page
+      → getD (laidWords k) i 0 ≡ pick (ltb i (k * 64) && mark marks i) (getD bytes i 0) (getD page i 0)
+  unfolding wordsLaid
+  words-laid-at k i h = table-at _ (length page) i 0 h
 
-pub all-copied : (bytes marks page : List ℕ) → getD marks 0 0 ≡ 2 ^ 64 - 1 → getD marks 1 0 ≡ 2 ^ 64 - 1
-    → copiedPage m95512 bytes ≡ laid m95512 (record { bytes = bytes; marks = marks }) page
-unfolding copiedPage laid
-all-copied bytes marks page e f =
-    table-cong _ _ 128 0 (λ i h. sym (at-yes (getD bytes i 0) (getD page i 0) (all-in true bytes marks e f i h)))
+  pub words-laid-none : page ≡ laidWords 0
+  unfolding wordsLaid
+  words-laid-none =
+      table-is _ page (length page) 0 refl
+      (λ i h. sym (at-no _ _ (and-no-left (ltb i (0 * 64)) (mark marks i) (le-ltb i (0 * 64) (omega arith)))))
 
-pub copied-length : (bytes : List ℕ) → length (copiedPage m95512 bytes) ≡ 128
-unfolding copiedPage
-copied-length bytes = table-length _ 128
+  -- one word more
+  module _ (k : ℕ) (inside : k * 64 + 64 ≤ length page) where
+    word : ℕ
+    word = getD marks k 0
 
-pub copied-at : (bytes : List ℕ) (i : ℕ) → i < 128 → getD (copiedPage m95512 bytes) i 0 ≡ getD bytes i 0
-unfolding copiedPage
-copied-at bytes i h = table-at _ 128 i 0 h
+    -- whether a cell is laid by now
+    abbrev laidBy : ℕ → ℕ → Bool
+    laidBy n i = ltb i (n * 64) && mark marks i
+
+    later : (i : ℕ) → k * 64 ≤ i → laidBy k i ≡ false
+    later i h = and-no-left (ltb i (k * 64)) (mark marks i) (le-ltb i (k * 64) h)
+
+    -- below the word, in it, and past it
+    cell-more : (i : ℕ) → i < length page
+        → pick (wordMarked (k * 64) word 64 i) (getD bytes i 0) (getD (laidWords k) i 0)
+        ≡ pick (laidBy (k + 1) i) (getD bytes i 0) (getD page i 0)
+    unfolding word
+    cell-more i b = elim (decLt i (k * 64)) [
+      | yes h ↦
+          at-no _ _ (before-part (k * 64) word 64 i h)
+          ∙ words-laid-at k i b
+          ∙ ap (λ t. pick (t && mark marks i) (getD bytes i 0) (getD page i 0))
+          (lt-ltb i (k * 64) h ∙ sym (lt-ltb i ((k + 1) * 64) (omega arith)))
+      | no h ↦
+          let kept : getD (laidWords k) i 0 ≡ getD page i 0 = words-laid-at k i b ∙ at-no _ _ (later i (omega arith)) in
+          elim (decLt i (k * 64 + 64)) [
+            | yes p ↦
+                let there : k * 64 + (i - k * 64) ≡ i = omega arith in
+                ap₂ (λ t (x : ℕ). pick t (getD bytes i 0) x)
+                (in-part (k * 64) word 64 i (omega arith) p
+                ∙ sym (mark-at marks k (i - k * 64) (omega arith))
+                ∙ ap (mark marks) there
+                ∙ sym (ap (λ t. t && mark marks i) (lt-ltb i ((k + 1) * 64) (omega arith)) ∙ true-and (mark marks i)))
+                kept
+            | no p ↦
+                at-no _ _ (after-part (k * 64) word 64 i (omega arith))
+                ∙ kept
+                ∙ sym (at-no _ _ (and-no-left (ltb i ((k + 1) * 64)) (mark marks i) (le-ltb i ((k + 1) * 64) (omega arith))))
+          ]
+    ]
+
+    pub words-laid-more : wordLaid bytes (k * 64) (getD marks k 0) 64 (laidWords k) ≡ laidWords (k + 1)
+    unfolding wordsLaid word
+    words-laid-more =
+        table-is _ _ (length page) 0 (word-laid-length bytes (k * 64) word (laidWords k) 64 ∙ words-laid-length k)
+        (λ i h.
+        word-laid-at bytes (k * 64) word (laidWords k) 64 i (rw (words-laid-length k) h) ∙ cell-more i h)
+
+  -- all of them
+  pub words-laid-all : (k : ℕ) → length page ≤ k * 64 → laidWords k ≡ laid (length page) (record { bytes = bytes; marks = marks }) page
+  unfolding wordsLaid laid
+  words-laid-all k h =
+      table-cong _ _ (length page) 0
+      (λ i b.
+      ap (λ t. pick t (getD bytes i 0) (getD page i 0))
+      (ap (λ t. t && mark marks i) (lt-ltb i (k * 64) (omega arith)) ∙ true-and (mark marks i)))

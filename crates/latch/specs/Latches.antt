@@ -9,7 +9,7 @@ use Rattle.laws.specs.Pick.{pick}
 use Rattle.laws.specs.Each.{each}
 use Rattle.laws.specs.Marks.{mark, markSet, onesOf}
 use Rattle.laws.specs.Table.{table}
-use Rattle.codes.specs.Part.{Part, words}
+use Rattle.codes.specs.Part.{Part, room, roomWords}
 use Rattle.latch.specs.declared.Latch.{Latch}
 
 abbrev pub marked : Latch → ℕ → Bool
@@ -26,8 +26,8 @@ unfoldable pub zeros : ℕ → List ℕ
 zeros n = replicate n 0
 
 -- no byte latched: what does not wait reads 0
-abbrev pub noLatch : Part → Latch
-noLatch P = record { bytes = zeros (P .page); marks = zeros (words P) }
+abbrev pub noLatch : Latch
+noLatch = record { bytes = zeros room; marks = zeros roomWords }
 
 -- one more byte latched, for cell i of its page; the latest byte for a cell wins
 abbrev pub latched : ℕ → ℕ → Latch → Latch
@@ -41,9 +41,9 @@ nextCell P i = (i % P .page + 1) % P .page
 abbrev pub nextInPage : Part → ℕ → ℕ
 nextInPage P a = a / P .page * P .page + nextCell P a
 
--- the page with the write laid over it
-unfoldable pub laid : Part → Latch → List ℕ → List ℕ
-laid P l page = table (P .page) (λ i. laidAt l i (getD page i 0))
+-- n cells with the write laid over them
+unfoldable pub laid : ℕ → Latch → List ℕ → List ℕ
+laid n l cells = table n (λ i. laidAt l i (getD cells i 0))
 
 -- ---- its ranges
 
@@ -51,15 +51,15 @@ laid P l page = table (P .page) (λ i. laidAt l i (getD page i 0))
 abbrev pub cellFits : Bool → Latch → ℕ → Bool
 cellFits may l i = pick (marked l i) may (eqb (byteAt l i) 0)
 
--- every cell; `may` says whether anything may be marked
+-- every cell; `may` says whether anything may be marked, and past the part's page nothing may
 abbrev pub latchFits : Part → Bool → Latch → Bool
-latchFits P may l = each (cellFits may l) (P .page)
+latchFits P may l = each (λ i. cellFits (may && ltb i (P .page)) l i) room
 
 -- ---- the cells that it touches
 
 -- the ones of its words
-abbrev pub touched : Part → Latch → ℕ
-touched P l = onesOf (words P) (l .marks)
+abbrev pub touched : Latch → ℕ
+touched l = onesOf roomWords (l .marks)
 
 -- ---- storing it
 

@@ -12,11 +12,12 @@ pub use pages::latch_byte;
 pub use pages::next_cell;
 pub use words::run_marks;
 
-// Cells that a latch has room for: a page.
-pub const ROOM: usize = 128;
+// Cells that a latch has room for: the largest page. On a part with smaller pages the cells past its page stay unmarked
+// and read 0.
+pub const ROOM: usize = 256;
 
 // Words of marks, a bit for each cell.
-pub const WORDS: usize = 2;
+pub const WORDS: usize = ROOM / WORD;
 
 // Cells to a word, and the word with every mark.
 pub(crate) const WORD: usize = 64;

@@ -5,7 +5,6 @@ ghost use lib.Bits.{bitOr};
 ghost use lib.Count.{ones};
 ghost use Rattle.laws.specs.Bits.{bitOn};
 ghost use Rattle.laws.specs.Count.{count};
-ghost use Rattle.codes.specs.Part.{m95512};
 ghost use Rattle.latch.specs.Words.{runMarks, runWord};
 use crate::FULL;
 use crate::WORD;
@@ -60,10 +59,12 @@ fn run_word(first: usize, start: usize, end: usize) -> u64
 
 // The marks of a run of cells from `start` up to `end`, and of the cells up to `rest`.
 pub fn run_marks(start: usize, end: usize, rest: usize) -> [u64; WORDS]
-    ensures { λ r. ⌜ r ≡ runMarks m95512 start end rest ⌝ }
+    ensures { λ r. ⌜ r ≡ runMarks start end rest ⌝ }
 {
     [
         run_word(0, start, end) | run_word(0, 0, rest),
         run_word(WORD, start, end) | run_word(WORD, 0, rest),
+        run_word(2 * WORD, start, end) | run_word(2 * WORD, 0, rest),
+        run_word(3 * WORD, start, end) | run_word(3 * WORD, 0, rest),
     ]
 }

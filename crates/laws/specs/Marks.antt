@@ -3,8 +3,8 @@
 use Prim.Native.Nat.{ℕ, zero, suc, _+_, _*_, _/_, _%_, _^_, _<_, _≤_}
 use mathlib.Core.Bool.{Bool, true, false, _||_, or-false}
 use mathlib.Core.List.{List}
-use mathlib.Core.Path.{_≡_, refl, sym, ap, ap₂, _∙_}
-use native.Mathlib.Nat.{suc-mul}
+use mathlib.Core.Path.{_≡_, refl, sym, ap, ap₂, _∙_, subst}
+use native.Mathlib.Nat.{suc-mul, zero-add}
 use native.Mathlib.Decide.{decLt, ℕ-discrete}
 use native.Mathlib.Omega.{arith}
 use lib.Dec.{eqb}
@@ -179,19 +179,24 @@ Counted w a = (a ≡ ones w) × (a ≡ count (bitOn w) 64)
 pub counted-small : (w a : ℕ) → Counted w a → a ≤ 64
 counted-small w a p = omega (arith, p .1, count-le (bitOn w) 64)
 
--- the ones of two words
-module _ (ws : List ℕ) (a b : ℕ) (p : Counted (getD ws 0 0) a) (q : Counted (getD ws 1 0) b) where
-  each-counted : (j : ℕ) → j < 2 → ones (getD ws j 0) ≡ count (bitOn (getD ws j 0)) 64
-  each-counted zero h = sym (p .0) ∙ p .1
-  each-counted (suc zero) h = sym (q .0) ∙ q .1
-  each-counted (suc (suc j)) h = absurd (omega arith)
+-- the ones of the first n words of a row, added up: the marks of those words, counted
+abbrev pub CountedRow : ℕ → List ℕ → ℕ → Type 0
+CountedRow n ws a = (a ≡ onesOf n ws) × (a ≡ count (mark ws) (n * 64))
 
-  sum-two : a + b ≡ onesOf 2 ws
-  unfolding onesOf
-  sum-two = omega (arith, p .0, q .0)
+-- one word more
+pub counted-more : (n : ℕ) (ws : List ℕ) (a b : ℕ) → CountedRow n ws a → Counted (getD ws n 0) b
+    → CountedRow (suc n) ws (a + b)
+unfolding onesOf
+counted-more n ws a b p q = (
+  ap₂ _+_ (p .0) (q .0),
+  ap₂ _+_ (p .1)
+      (q .1 ∙ count-cong (bitOn (getD ws n 0)) (λ i. mark ws (n * 64 + i)) 64 (λ i h. sym (mark-at ws n i h)))
+      ∙ sym (ap (count (mark ws)) (suc-mul n 64) ∙ count-add (mark ws) (n * 64) 64),
+)
 
-  pub counted-two : (a + b ≡ onesOf 2 ws) × (a + b ≡ count (mark ws) 128)
-  counted-two = (sum-two, sum-two ∙ ones-marks 2 ws each-counted)
+pub counted-first : (ws : List ℕ) (a : ℕ) → Counted (getD ws 0 0) a → CountedRow 1 ws a
+unfolding onesOf count
+counted-first ws a p = subst (CountedRow 1 ws) (zero-add a) (counted-more 0 ws 0 a (refl, refl) p)
 
 -- ---- a byte for each mark, 1 or 0
 

@@ -92,9 +92,9 @@ module _ (P : Part) (m : Lent) (x : Device) where
 
 module _ (P : Part) (x : Device) (moves : x .pins .s ≡ 1 → ⊥) where
   -- a deselect that leaves the core c
-  deselected : (c : Core) → c ≡ decided P x → withoutFrame P 1 0 (withCore c x) ≡ onS P true x
+  deselected : (c : Core) → c ≡ decided P x → withoutFrame 1 0 (withCore c x) ≡ onS P true x
   unfolding onS
-  deselected c e = ne-so _ moves (yes-so _ refl (ap (λ (k : Core). withoutFrame P 1 0 (withCore k x)) e))
+  deselected c e = ne-so _ moves (yes-so _ refl (ap (λ (k : Core). withoutFrame 1 0 (withCore k x)) e))
 
   -- what the instruction i does, if it is executed
   abbrev does : Instruction → Core
@@ -102,13 +102,13 @@ module _ (P : Part) (x : Device) (moves : x .pins .s ≡ 1 → ⊥) where
 
   -- an instruction that leaves the core alone, executed or not
   pub dropped : (i : Instruction) → decode P (x .frame .code) ≡ i → does i ≡ x .core
-      → withoutFrame P 1 0 (withCore (withWel (x .core .wel) (x .core)) x) ≡ onS P true x
+      → withoutFrame 1 0 (withCore (withWel (x .core .wel) (x .core)) x) ≡ onS P true x
   dropped i e same =
       deselected (x .core) (sym (ap (λ (k : Core). pick (isExecuted (judgedNow P x)) k (x .core)) (ap does e ∙ same) ∙ pick-same _ _))
 
   -- an instruction that sets WEL to v, if it is executed
   pub enabled : (i : Instruction) (v w : ℕ) → decode P (x .frame .code) ≡ i → does i ≡ withWel v (x .core)
-      → w ≡ pick (isExecuted (judgedNow P x)) v (x .core .wel) → withoutFrame P 1 0 (withCore (withWel w (x .core)) x) ≡ onS P true x
+      → w ≡ pick (isExecuted (judgedNow P x)) v (x .core .wel) → withoutFrame 1 0 (withCore (withWel w (x .core)) x) ≡ onS P true x
   enabled i v w e sets h =
       deselected (withWel w (x .core))
       (ap (λ (n : ℕ). withWel n (x .core)) h ∙ pick-ap (λ (n : ℕ). withWel n (x .core)) (isExecuted (judgedNow P x)) v (x .core .wel)

@@ -91,8 +91,8 @@ abbrev pub byteTaken : ℕ → Frame → Frame
 byteTaken n f = withTaken n (withBits 0 0 f)
 
 -- S at a level, held or not, and no frame in hand
-abbrev pub withoutFrame : Part → ℕ → ℕ → Device → Device
-withoutFrame P s held x = withPins (withS s (x .pins)) (withHeldAt held (withFrame (noFrame P) x))
+abbrev pub withoutFrame : ℕ → ℕ → Device → Device
+withoutFrame s held x = withPins (withS s (x .pins)) (withHeldAt held (withFrame noFrame x))
 
 abbrev pub isWhole : Way → Bool
 isWhole (Data d) = false
@@ -119,8 +119,8 @@ afterWay P m e (Latched n v a) x =
     (withLatch (latched (x .frame .address % P .page) v (x .frame .latch)) (byteTaken n (x .frame)))) x
 afterWay P m e (Fall held v n a) x =
     withHeldAt held (withPins (withC 0 (x .pins)) (withFrame (withAddress a (withOut v n (x .frame))) x))
-afterWay P m e (Select held) x = withoutFrame P 0 held x
-afterWay P m e (Drop wel) x = withoutFrame P 1 0 (withCore (withWel wel (x .core)) x)
+afterWay P m e (Select held) x = withoutFrame 0 held x
+afterWay P m e (Drop wel) x = withoutFrame 1 0 (withCore (withWel wel (x .core)) x)
 afterWay P m e (Pass t n) x = withCore (withTime t n (x .core)) x
 afterWay P m e Whole x = stepped P m e x
 

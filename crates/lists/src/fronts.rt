@@ -1,7 +1,6 @@
 // The front of a device: all of it but the bytes it latches and its core. A list of events holds the front apart, and
-// most events move a few numbers of it where they stand; the record of 344 bytes is put together only for the others.
+// most events move a few numbers of it where they stand; the record of 632 bytes is put together only for the others.
 ghost use mathlib.Core.Path.{_≡_};
-ghost use Rattle.codes.specs.Part.{m95512};
 ghost use Rattle.latch.specs.declared.Latch.{Latch};
 ghost use Rattle.latch.specs.Latches.{noLatch};
 ghost use Rattle.chip.specs.declared.Core.{Core};
@@ -73,8 +72,8 @@ impl Front {
 impl Front {
     // S at a level, held or not, and no frame in hand.
     pub(crate) fn without_frame(mut self, s: u8, held: u8) -> Front
-        ensures { λ r. ⌜ ((k : Core) → whole r (noLatch m95512) k
-            ≡ withoutFrame m95512 s held (whole self (noLatch m95512) k)) ⌝ }
+        ensures { λ r. ⌜ ((k : Core) → whole r noLatch k
+            ≡ withoutFrame s held (whole self noLatch k)) ⌝ }
     {
         self.s = s;
         self.held = held;

@@ -98,7 +98,13 @@ fn play_all(
                 byte,
                 address,
             } => {
-                latch_byte(&mut bytes, &mut marks, front.address as usize, byte);
+                latch_byte(
+                    core.part,
+                    &mut bytes,
+                    &mut marks,
+                    front.address as usize,
+                    byte,
+                );
                 front.c = 1;
                 front.taken = taken;
                 front.bits = 0;
@@ -183,7 +189,7 @@ pub fn play(
     ensures { λ _. ⌜ now (out .exit) ≡ playOutput (devicePart device) device
         (lent (now (memory .entry)) (now (identification .entry))) (now (events .entry)) (now (out .entry)) ⌝ }
 {
-    if lent_fits(memory.len(), identification.len()) {
+    if lent_fits(device.core.part, memory.len(), identification.len()) {
         if device.in_ranges() {
             if are_events(events) {
                 if out.len() == events.len() {

@@ -27,6 +27,8 @@ use chip::Core;
 use chip::elapsed;
 use chip::left_after;
 use codes::Instruction;
+use codes::address_bytes_of;
+use codes::head_of;
 use codes::picks_lock;
 use edges::address_with;
 use edges::bit;
@@ -38,11 +40,6 @@ use edges::outputs;
 use edges::shifted_in;
 use pins::Event;
 
-// The count of whole bytes is u8.
-const ADDRESS_BYTES: u8 = codes::ADDRESS_BYTES as u8;
-
-const HEAD: u8 = codes::HEAD as u8;
-
 // ---- C rises
 
 impl Front {
@@ -51,7 +48,7 @@ impl Front {
         ensures { λ r. ⌜ ((m : Lent) (l : Latch) (k : Core) → afterWay (partOf part) m (C true) r (whole self l k)
             ≡ risenTo (withByte (partOf part) (whole self l k .frame)) (whole self l k)) ⌝ }
     {
-        let taken = one_more(self.taken);
+        let taken = one_more(part, self.taken);
         Way::Rise {
             taken: taken,
             bits: 0,
@@ -64,8 +61,8 @@ impl Front {
             ≡ risenTo (addressByte (partOf part) (self .taken) byte (withByte (partOf part) (whole self l k .frame)))
             (whole self l k)) ⌝ }
     {
-        let taken = one_more(self.taken);
-        let address = address_with(self.address, self.taken, byte);
+        let taken = one_more(part, self.taken);
+        let address = address_with(part, self.address, self.taken, byte);
         Way::Byte {
             taken: taken,
             value: self.value,
@@ -78,8 +75,8 @@ impl Front {
             ≡ risenTo (latchByte (partOf part) byte (withByte (partOf part) (whole self l k .frame)))
             (whole self l k)) ⌝ }
     {
-        let taken = one_more(self.taken);
-        let address = next_address(self.address);
+        let taken = one_more(part, self.taken);
+        let address = next_address(part, self.address);
         Way::Latched {
             taken: taken,
             byte: byte,
@@ -91,7 +88,7 @@ impl Front {
         ensures { λ r. ⌜ ((m : Lent) (l : Latch) (k : Core) → afterWay (partOf part) m (C true) r (whole self l k)
             ≡ risenTo (withValue byte (withByte (partOf part) (whole self l k .frame))) (whole self l k)) ⌝ }
     {
-        let taken = one_more(self.taken);
+        let taken = one_more(part, self.taken);
         Way::Byte {
             taken: taken,
             value: byte,
@@ -106,7 +103,7 @@ impl Front {
             (withByte (partOf part) (whole self l k .frame))) (whole self l k)) ⌝ }
     {
         if picks_lock(self.address) {
-            if self.taken == HEAD {
+            if self.taken == head_of(part) {
                 return self.value_byte(part, byte);
             }
             return self.unkept(part);
@@ -129,25 +126,25 @@ impl Front {
                 self.unkept(part)
             }
             Instruction::Read => {
-                if before <= ADDRESS_BYTES {
+                if before <= address_bytes_of(part) {
                     return self.address_byte(part, byte);
                 }
                 self.unkept(part)
             }
             Instruction::Write => {
-                if before <= ADDRESS_BYTES {
+                if before <= address_bytes_of(part) {
                     return self.address_byte(part, byte);
                 }
                 self.latch_byte(part, byte)
             }
             Instruction::Rdid => {
-                if before <= ADDRESS_BYTES {
+                if before <= address_bytes_of(part) {
                     return self.address_byte(part, byte);
                 }
                 self.unkept(part)
             }
             Instruction::Wrid => {
-                if before <= ADDRESS_BYTES {
+                if before <= address_bytes_of(part) {
                     return self.address_byte(part, byte);
                 }
                 self.identification_data(part, byte)
@@ -165,7 +162,7 @@ impl Front {
             ≡ risenTo (wholeByte (partOf part) (running k) byte (whole self l k .frame)) (whole self l k)) ⌝ }
     {
         if self.taken == 0 {
-            let taken = one_more(self.taken);
+            let taken = one_more(part, self.taken);
             return Way::Code {
                 taken: taken,
                 code: byte,
@@ -248,7 +245,7 @@ impl Front {
             }
             if reads(i) {
                 let byte = cell(memory, self.address);
-                let up = one_up(self.address);
+                let up = one_up(core.part, self.address);
                 return Way::Fall {
                     held: held,
                     out: byte,
@@ -383,7 +380,7 @@ impl Front {
 // A reading that ends no cycle moves the clock alone.
 fn passing(reading: u32, core: Core) -> Way
     ensures { λ r. ⌜ ((m : Lent) (f : Front) (l : Latch) → afterWay (ownPart core) m (Time reading) r (whole f l core)
-        ≡ onTime (ownPart core) reading (whole f l core)) ⌝ }
+        ≡ onTime reading (whole f l core)) ⌝ }
     ensures { λ r. ⌜ ((theirs : Waiting → Bool) (m : List ℕ) (f : Front) (l : Latch)
         → afterWayCells theirs (ownPart core) (Time reading) r (whole f l core) m
         ≡ timedCells theirs (ownPart core) reading core m) ⌝ }

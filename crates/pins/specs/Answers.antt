@@ -6,7 +6,7 @@ use lib.ListN.{length}
 use Rattle.laws.specs.Pick.{pick}
 use Rattle.codes.specs.Part.{Part}
 use Rattle.chip.specs.Lents.{Lent, lent}
-use Rattle.chip.specs.Records.{ownPart, status}
+use Rattle.chip.specs.Records.{status}
 use Rattle.chip.specs.Time.{lentFits}
 use Rattle.chip.specs.Power.{poweredUp}
 use Rattle.chip.specs.declared.PoweredUp.{PoweredUp}
@@ -95,7 +95,7 @@ statusAsked P x = recordChoice P x 0 (status (x .core))
 -- ---- power-up: the pins at rest around chip's record
 
 abbrev pub poweredDevice : PoweredUp → Stepped
-poweredDevice p = steppedTo (p .outcome) (resting (ownPart (p .core)) (p .core))
+poweredDevice p = steppedTo (p .outcome) (resting (p .core))
 
 abbrev pub powered : ℕ → Bool → ℕ → Bool → Bool → Bool → ℕ → Stepped
 powered part k n s b a t = poweredDevice (poweredUp part k n s b a t)

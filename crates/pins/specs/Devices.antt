@@ -61,8 +61,8 @@ abbrev pub withCore : Core → Device → Device
 withCore c x = record { pins = x .pins; held = x .held; frame = x .frame; core = c }
 
 -- not selected, not held, an empty frame
-abbrev pub resting : Part → Core → Device
-resting P c = record { pins = restingPins; held = 0; frame = noFrame P; core = c }
+abbrev pub resting : Core → Device
+resting c = record { pins = restingPins; held = 0; frame = noFrame; core = c }
 
 -- selected means S low; an edge is counted when the device is selected and not held
 abbrev pub selected : Device → Bool

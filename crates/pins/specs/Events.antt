@@ -29,10 +29,10 @@ use Rattle.edges.specs.Falling.{fallen}
 -- ---- S
 
 -- S falling selects and starts an empty frame; with C low and HOLD low it starts held
-abbrev pub selecting : Part → Device → Device
-selecting P x =
+abbrev pub selecting : Device → Device
+selecting x =
     withPins (withS 0 (x .pins))
-    (withHeld (not (on (x .pins .c)) && not (on (x .pins .hold))) (withFrame (noFrame P) x))
+    (withHeld (not (on (x .pins .c)) && not (on (x .pins .hold))) (withFrame noFrame x))
 
 -- what deselect decides, of the frame as it stands: the count of its bits, "no cycle" at the eighth edge, and WEL, W
 -- and held as they are now
@@ -53,10 +53,10 @@ decided P x = pick (isExecuted (judgedNow P x)) (executedNow P x) (x .core)
 -- S rising ends the frame and decides execution
 abbrev pub deselecting : Part → Device → Device
 deselecting P x =
-    withPins (withS 1 (x .pins)) (withHeld false (withFrame (noFrame P) (withCore (decided P x) x)))
+    withPins (withS 1 (x .pins)) (withHeld false (withFrame noFrame (withCore (decided P x) x)))
 
 unfoldable pub onS : Part → Bool → Device → Device
-onS P level x = pick (eqb (x .pins .s) (bit level)) x (pick level (deselecting P x) (selecting P x))
+onS P level x = pick (eqb (x .pins .s) (bit level)) x (pick level (deselecting P x) (selecting x))
 
 -- ---- C
 
@@ -92,8 +92,8 @@ onHold level x =
     pick (on (x .pins .c)) y (renewed y)
 
 -- time passes always: selected, held or not
-unfoldable pub onTime : Part → ℕ → Device → Device
-onTime P t x = withCore (timed P t (x .core)) x
+unfoldable pub onTime : ℕ → Device → Device
+onTime t x = withCore (timed t (x .core)) x
 
 -- ---- one event, and what it leaves of what is lent: only a clock reading changes it
 
@@ -103,7 +103,7 @@ stepped P m (C level) x = onC P level m x
 stepped P m (D level) x = onD level x
 stepped P m (W level) x = onW level x
 stepped P m (Hold level) x = onHold level x
-stepped P m (Time t) x = onTime P t x
+stepped P m (Time t) x = onTime t x
 
 -- lent cells: `its` says whether what waits is for them
 abbrev pub steppedCells : (Waiting → Bool) → Part → Event → Device → List ℕ → List ℕ

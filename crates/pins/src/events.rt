@@ -14,18 +14,16 @@ use chip::Core;
 use codes::Instruction;
 use codes::Verdict;
 use codes::judge;
+use codes::page_number;
 use edges::Frame;
 use edges::bit;
 use edges::outputs;
 use edges::shifted_in;
 
-// Addresses are u32.
-const PAGE: u32 = codes::PAGE as u32;
-
 impl Device {
     // S falling selects and starts an empty frame; with C low and HOLD low it starts held.
     fn selecting(mut self) -> Device
-        ensures { λ r. ⌜ r ≡ selecting (devicePart self) self ⌝ }
+        ensures { λ r. ⌜ r ≡ selecting self ⌝ }
     {
         let held = bit(!(self.pins.c == 1) & !(self.pins.hold == 1));
         let empty = Frame::none();
@@ -68,7 +66,10 @@ impl Device {
             Instruction::Rdsr => core,
             Instruction::Wrsr => core.begin_status(self.frame.value),
             Instruction::Read => core,
-            Instruction::Write => core.begin_page(self.frame.address / PAGE, latch),
+            Instruction::Write => core.begin_page(
+                page_number(self.core.part, self.frame.address as usize) as u32,
+                latch,
+            ),
             Instruction::Rdid => core,
             Instruction::Wrid => core.begin_identification(self.frame.address, latch),
             Instruction::Silence => core,
@@ -216,7 +217,7 @@ impl Device {
         memory: &mut [u8],
         identification: &mut [u8],
     ) -> Device
-        ensures { λ r. ⌜ r ≡ onTime (devicePart self) reading self ⌝ }
+        ensures { λ r. ⌜ r ≡ onTime reading self ⌝ }
         ensures { λ _. ⌜ now (memory .exit)
             ≡ timedMemory (devicePart self) reading (self .core) (now (memory .entry)) ⌝ }
         ensures { λ _. ⌜ now (identification .exit)

@@ -1,4 +1,4 @@
-// The pin model of the M95512 and the M95512-D: one pin change or clock reading at a time.
+// The pin model of the three parts: one pin change or clock reading at a time.
 //
 // Public calls, each for every input: power_up; the methods of Device set_s, set_c, set_d, set_w, set_hold and
 // read_clock, one for each kind of event; q and status, what the device shows; cells_touched and in_ranges.

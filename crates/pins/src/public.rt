@@ -117,7 +117,7 @@ impl Device {
         ensures { λ r. ⌜ number (r .outcome) ≡ memoryNumber (devicePart self) self
             (lent (now (memory .entry)) (now (identification .entry))) ⌝ }
     {
-        if lent_fits(memory.len(), identification.len()) {
+        if lent_fits(self.core.part, memory.len(), identification.len()) {
             if self.in_ranges() {
                 return self.on_c(level, memory, identification).done();
             }
@@ -130,7 +130,7 @@ impl Device {
     pub fn read_clock(self, reading: u32, memory: &mut [u8], identification: &mut [u8]) -> Stepped
         ensures { λ r. ⌜ r
             ≡ answer (memoryOutcome (devicePart self) self (lent (now (memory .entry)) (now (identification .entry))))
-            (onTime (devicePart self) reading self) self ⌝ }
+            (onTime reading self) self ⌝ }
         ensures { λ r. ⌜ number (r .outcome) ≡ memoryNumber (devicePart self) self
             (lent (now (memory .entry)) (now (identification .entry))) ⌝ }
         ensures { λ _. ⌜ now (memory .exit)
@@ -143,7 +143,7 @@ impl Device {
             (timedIdentification (devicePart self) reading (self .core) (now (identification .entry)))
             (now (identification .entry)) ⌝ }
     {
-        if lent_fits(memory.len(), identification.len()) {
+        if lent_fits(self.core.part, memory.len(), identification.len()) {
             if self.in_ranges() {
                 return self.on_time(reading, memory, identification).done();
             }
@@ -179,7 +179,7 @@ impl Device {
 
     // How many cells the running cycle will touch, 0 where no latched bytes wait. 2 for a device outside its ranges.
     pub fn cells_touched(self) -> Touched
-        ensures { λ r. ⌜ r ≡ touchedAnswer (devicePart self) (deviceFits (devicePart self) self) (self .core) ⌝ }
+        ensures { λ r. ⌜ r ≡ touchedAnswer (deviceFits (devicePart self) self) (self .core) ⌝ }
         ensures { λ r. ⌜ touchedNumber r ≡ touchedChoice (deviceFits (devicePart self) self) 2 0 ⌝ }
         ensures { λ r. ⌜ touchedValue r
             ≡ touchedChoice (deviceFits (devicePart self) self) 0 (cellsMarked (devicePart self) (self .core)) ⌝ }

@@ -1,7 +1,6 @@
 // The device record, made of another.
 ghost use mathlib.Core.Path.{_≡_};
 ghost use mathlib.Core.Bool.{not};
-ghost use Rattle.chip.specs.Records.{ownPart};
 ghost use Rattle.codes.specs.Status.{bit};
 ghost use Rattle.pins.specs.Devices.{resting, withHeld, q};
 use crate::Device;
@@ -15,7 +14,7 @@ use edges::level_of;
 impl Device {
     // Not selected, not held, an empty frame; S, W and HOLD high, C and D low.
     pub fn resting(core: Core) -> Device
-        ensures { λ r. ⌜ r ≡ resting (ownPart core) core ⌝ }
+        ensures { λ r. ⌜ r ≡ resting core ⌝ }
     {
         Device {
             pins: Pins {

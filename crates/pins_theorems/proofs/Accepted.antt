@@ -196,7 +196,7 @@ module _ (k : Cells) (P : Part) (sound : Sound P) (i : ℕ) where
         code = eqb-true _ _ (and-left (eqb (f .code) 0) (eqb (f .ran) 0) (sym (at-yes _ _ (eq-eqb _ _ n)) ∙ t .code));
         address = λ w. none ∙ sym (early-address P sound k [] (omega arith) ∙ next-start P sound [] (omega arith));
         value = λ w. eqb-true _ _ (s .value) ∙ sym (early-value P sound k [] (omega arith));
-        marks = λ e. unmarked-as P i k (decode P (f .code)) f (s .latch);
+        marks = λ e. unmarked-as P i sound k (decode P (f .code)) f (s .latch);
       }
 
   -- ---- a whole byte
@@ -219,7 +219,7 @@ module _ (k : Cells) (P : Part) (sound : Sound P) (i : ℕ) where
               ∙ sym (early-address P sound k (v ∷ h .bytes) (omega (arith, first)) ∙ next-start P sound (v ∷ h .bytes) (omega (arith, first))
               ∙ code-start P v (h .bytes) first);
           value = λ w. eqb-true _ _ (silent P f z t .value) ∙ sym (early-value P sound k (v ∷ h .bytes) (omega (arith, first)));
-          marks = λ e. unmarked-as P i k (decode P v) (withCode v run (withByte P f)) (silent P f z t .latch);
+          marks = λ e. unmarked-as P i sound k (decode P v) (withCode v run (withByte P f)) (silent P f z t .latch);
         }
 
     -- an address byte, or a data byte
@@ -475,7 +475,7 @@ module _ (k : Cells) (P : Part) (sound : Sound P) (i : ℕ) where
     s-clocked : (level : Bool) → Clocked k P i (handAfter (S level) x h) (onS P level x .frame)
     unfolding onS
     s-clocked level =
-        let empty : Clocked k P i noHand (noFrame P) = empty-clocked (noFrame P) (empty-frame P) refl refl in
+        let empty : Clocked k P i noHand noFrame = empty-clocked noFrame (empty-frame P) refl refl in
         pick-both (λ (g : Hand) (y : Device). Clocked k P i g (y .frame)) (eqb (x .pins .s) (bit level)) (λ e. c)
         (λ e. pick-case (λ (y : Device). Clocked k P i noHand (y .frame)) level (λ l. empty) (λ l. empty))
 
@@ -545,7 +545,7 @@ module _ (k : Cells) (P : Part) (sound : Sound P) (i : ℕ) where
 -- ---- any list of events
 
 module _ (k : Cells) (P : Part) (sound : Sound P) (i : ℕ) where
-  pub list-clocked : (es : List ℕ) (b : PinBench) (h : Hand) → Sized P (b .device) → deviceFits P (b .device) ≡ true → Clocked k P i h (b .device .frame)
+  pub list-clocked : (es : List ℕ) (b : PinBench) (h : Hand) → Sized (b .device) → deviceFits P (b .device) ≡ true → Clocked k P i h (b .device .frame)
       → Clocked k P i (clockedIn P es b h) (played P es b .device .frame)
   unfolding clockedIn played
   list-clocked [] b h sized fits c = c
@@ -554,7 +554,7 @@ module _ (k : Cells) (P : Part) (sound : Sound P) (i : ℕ) where
       list-clocked es (afterEvent P e b) (handAfter (eventOf e) x h) (stepped-sized P x sized (lentTo b) (eventOf e))
       (stepped-fits P sound x sized fits (lentTo b) (eventOf e)) (event-clocked k P sound i x h (parts P x fits) c (lentTo b) (eventOf e))
 
-  list-accepted : (es : List ℕ) (b : PinBench) (h : Hand) → Sized P (b .device) → deviceFits P (b .device) ≡ true → Clocked k P i h (b .device .frame)
+  list-accepted : (es : List ℕ) (b : PinBench) (h : Hand) → Sized (b .device) → deviceFits P (b .device) ≡ true → Clocked k P i h (b .device .frame)
       → acceptedCell k P i es b h ≡ false → writesAny k P i es b ≡ false
   unfolding acceptedCell writesAny
   list-accepted [] b h sized fits c none = refl
@@ -569,12 +569,12 @@ module _ (k : Cells) (P : Part) (sound : Sound P) (i : ℕ) where
 
   -- ---- from any device with what is clocked in of its frame
 
-  pub marked-addressed-from : (es : List ℕ) (b : PinBench) (h : Hand) → Sized P (b .device) → deviceFits P (b .device) ≡ true
+  pub marked-addressed-from : (es : List ℕ) (b : PinBench) (h : Hand) → Sized (b .device) → deviceFits P (b .device) ≡ true
       → Clocked k P i h (b .device .frame)
       → inFrame k P (played P es b .device .frame) i ≡ true → addressedBy k P i (clockedIn P es b h .bytes) ≡ true
   marked-addressed-from es b h sized fits c m = must (addressedBy k P i (clockedIn P es b h .bytes)) m (list-clocked es b h sized fits c .marks)
 
-  pub accepted-cell-from : (es : List ℕ) (b : PinBench) (h : Hand) → i < cellCount k P → length (cellsOf k b) ≡ cellCount k P → Sized P (b .device)
+  pub accepted-cell-from : (es : List ℕ) (b : PinBench) (h : Hand) → i < cellCount k P → length (cellsOf k b) ≡ cellCount k P → Sized (b .device)
       → deviceFits P (b .device) ≡ true → Clocked k P i h (b .device .frame)
       → awaitedIn k P (b .device .core) i ≡ false → acceptedCell k P i es b h ≡ false → getD (cellsOf k (played P es b)) i 0 ≡ getD (cellsOf k b) i 0
   accepted-cell-from es b h below size sized fits c a none =
@@ -590,12 +590,12 @@ module _ (k : Cells) (P : Part) (sound : Sound P) (i : ℕ) where
       (eqb-true _ _ (and-right (eqb (x .frame .taken) 0) _ empty))
 
   -- a cell marked in the frame in hand is addressed by the bytes clocked in since its select
-  pub marked-addressed : (es : List ℕ) (b : PinBench) → Sized P (b .device) → deviceFits P (b .device) ≡ true → selected (b .device) ≡ false
+  pub marked-addressed : (es : List ℕ) (b : PinBench) → Sized (b .device) → deviceFits P (b .device) ≡ true → selected (b .device) ≡ false
       → inFrame k P (played P es b .device .frame) i ≡ true → addressedBy k P i (clockedIn P es b noHand .bytes) ≡ true
   marked-addressed es b sized fits s m = marked-addressed-from es b noHand sized fits (unselected-clocked (b .device) fits s) m
 
   -- a cell that does not wait, and that no frame accepted in the list addressed by the bytes since its own select, is as it was
-  pub accepted-cell : (es : List ℕ) (b : PinBench) → i < cellCount k P → length (cellsOf k b) ≡ cellCount k P → Sized P (b .device) → deviceFits P (b .device) ≡ true
+  pub accepted-cell : (es : List ℕ) (b : PinBench) → i < cellCount k P → length (cellsOf k b) ≡ cellCount k P → Sized (b .device) → deviceFits P (b .device) ≡ true
       → selected (b .device) ≡ false → awaitedIn k P (b .device .core) i ≡ false → acceptedCell k P i es b noHand ≡ false
       → getD (cellsOf k (played P es b)) i 0 ≡ getD (cellsOf k b) i 0
   accepted-cell es b below size sized fits s a none =

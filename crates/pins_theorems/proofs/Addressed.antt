@@ -4,7 +4,7 @@ use mathlib.Core.Path.{_≡_, refl, ap, sym, subst, _∙_}
 use mathlib.Core.List.{List, [], _∷_}
 use mathlib.Core.Bool.{Bool, true, false, not, _&&_, _||_}
 use Prim.Native.Nat.{ℕ, _+_, _-_, _*_, _/_, _%_, _<_, _≤_}
-use native.Mathlib.Nat.{add-zero, mod-lt, mod-eq-of-lt}
+use native.Mathlib.Nat.{add-zero, lt-of-lt-of-le, mod-lt, mod-eq-of-lt}
 use native.Mathlib.Omega.{arith}
 use lib.ListN.{length, getD}
 use lib.Dec.{eqb, leb, ltb}
@@ -56,11 +56,11 @@ in-offset P p i e =
     (omega arith, from)
 
 module _ (P : Part) (i : ℕ) where
-  pub unmarked-frame : (l : Latch) (p : ℕ) → latchFits P false l ≡ true → (inPage P p i && marked l (i - p * P .page)) ≡ false
-  unmarked-frame l p e = go (inPage P p i) refl
+  pub unmarked-frame : Sound P → (l : Latch) (p : ℕ) → latchFits P false l ≡ true → (inPage P p i && marked l (i - p * P .page)) ≡ false
+  unmarked-frame sound l p e = go (inPage P p i) refl
     where
       go : (b : Bool) → inPage P p i ≡ b → (inPage P p i && marked l (i - p * P .page)) ≡ false
-      go true q = and-no-right (inPage P p i) (marked l (i - p * P .page)) (unmarked P l (i - p * P .page) e (in-offset P p i q .0))
+      go true q = and-no-right (inPage P p i) (marked l (i - p * P .page)) (unmarked P l (i - p * P .page) e (lt-of-lt-of-le (in-offset P p i q .0) (sound .page-room)))
       go false q = and-no-left (inPage P p i) (marked l (i - p * P .page)) q
 
   -- ---- a data byte for another cell
@@ -112,8 +112,8 @@ module _ (P : Part) (i : ℕ) where
   -- ---- the frame after each edge
 
   -- nothing is marked where nothing may be
-  pub unmarked-as : (k : Cells) (j : Instruction) (f : Frame) → latchFits P false (f .latch) ≡ true → inFrameAs k P j f i ≡ false
-  unmarked-as k j f fits = and-no-right (writesTo k j (f .address)) _ (unmarked-frame (f .latch) (pageIn k P (f .address)) fits)
+  pub unmarked-as : Sound P → (k : Cells) (j : Instruction) (f : Frame) → latchFits P false (f .latch) ≡ true → inFrameAs k P j f i ≡ false
+  unmarked-as sound k j f fits = and-no-right (writesTo k j (f .address)) _ (unmarked-frame sound (f .latch) (pageIn k P (f .address)) fits)
 
   -- and none before the first data byte
   early : (t : Bool) (n : ℕ) (l : Latch) → leb n (P .addressBytes) ≡ true → latchFits P (t && leb (P .addressBytes + 2) n) l ≡ true → latchFits P false l ≡ true
@@ -147,12 +147,12 @@ module _ (P : Part) (i : ℕ) where
     taking-frame Read f n v fits none h = read-none k (taking P Read n v f) .0
     taking-frame Write f n v fits none h =
         pick-case (λ (g : Frame). inFrameAs k P Write g i ≡ false) (leb n (P .addressBytes))
-        (λ e. unmarked-as k Write (addressByte P n v f) (early true n (f .latch) e fits))
+        (λ e. unmarked-as sound k Write (addressByte P n v f) (early true n (f .latch) e fits))
         (λ e. other-byte k sound Write f v (writes-next k sound Write (f .address)) (not-for k Write n f e none) h)
     taking-frame Rdid f n v fits none h = read-none k (taking P Rdid n v f) .1
     taking-frame Wrid f n v fits none h =
         pick-case (λ (g : Frame). inFrameAs k P Wrid g i ≡ false) (leb n (P .addressBytes))
-        (λ e. unmarked-as k Wrid (addressByte P n v f) (early (not (picksLock (f .address))) n (f .latch) e fits))
+        (λ e. unmarked-as sound k Wrid (addressByte P n v f) (early (not (picksLock (f .address))) n (f .latch) e fits))
         (λ e. pick-case (λ (g : Frame). inFrameAs k P Wrid g i ≡ false) (picksLock (f .address))
         (λ p. pick-case (λ (g : Frame). inFrameAs k P Wrid g i ≡ false) (eqb n (P .addressBytes + 1)) (λ o. h) (λ o. h))
         (λ p. other-byte k sound Wrid f v (writes-next k sound Wrid (f .address)) (not-for k Wrid n f e none) h))
@@ -168,7 +168,7 @@ module _ (P : Part) (i : ℕ) where
         let code : f .code ≡ taking P j (f .taken) v (withByte P f) .code =
         ap (λ (g : Frame). g .code) (sym (taking-same P (f .taken) v (withByte P f) j)) in
         pick-case kept (ltb (f .bits) 7) (λ e. h)
-        (λ e. pick-case kept (eqb (f .taken) 0) (λ z. unmarked-as k (decode P v) (withCode v run (withByte P f)) (silent P f (eqb-true _ _ z) t .latch))
+        (λ e. pick-case kept (eqb (f .taken) 0) (λ z. unmarked-as sound k (decode P v) (withCode v run (withByte P f)) (silent P f (eqb-true _ _ z) t .latch))
         (λ z. subst (λ (n : ℕ). inFrameAs k P (decode P n) (taking P j (f .taken) v (withByte P f)) i ≡ false) code
         (taking-frame j (withByte P f) (f .taken) v (t .fields .latch) (and-other (not (ltb (f .bits) 7)) (dataFor k P i f) none (ap not e)) h)))
 
@@ -202,8 +202,8 @@ module _ (k : Cells) (P : Part) (sound : Sound P) (i : ℕ) (x : Device) (t : Fi
   s-frame level =
       let kept : Device → Type 0 = λ y. inFrame k P (y .frame) i ≡ false in
       pick-case kept (eqb (x .pins .s) (bit level)) (λ e. h)
-      (λ e. pick-case kept level (λ l. unmarked-as P i k (decode P 0) (noFrame P) (no-latch-fits P))
-      (λ l. unmarked-as P i k (decode P 0) (noFrame P) (no-latch-fits P)))
+      (λ e. pick-case kept level (λ l. unmarked-as P i sound k (decode P 0) noFrame (no-latch-fits P))
+      (λ l. unmarked-as P i sound k (decode P 0) noFrame (no-latch-fits P)))
 
   c-frame : (m : Lent) (level : Bool) → takes k P i (C level) x ≡ false → inFrame k P (onC P level m x .frame) i ≡ false
   unfolding onC pick
@@ -247,7 +247,7 @@ module _ (k : Cells) (P : Part) (sound : Sound P) (i : ℕ) (x : Device) (t : Fi
 -- ---- any list of events
 
 module _ (k : Cells) (P : Part) (sound : Sound P) (i : ℕ) where
-  unaddressed : (es : List ℕ) (b : PinBench) → Sized P (b .device) → deviceFits P (b .device) ≡ true → inFrame k P (b .device .frame) i ≡ false
+  unaddressed : (es : List ℕ) (b : PinBench) → Sized (b .device) → deviceFits P (b .device) ≡ true → inFrame k P (b .device .frame) i ≡ false
       → byteTaken k P i es b ≡ false → writesAny k P i es b ≡ false
   unfolding byteTaken writesAny
   unaddressed [] b sized fits h none = refl
@@ -259,7 +259,7 @@ module _ (k : Cells) (P : Part) (sound : Sound P) (i : ℕ) where
       (unaddressed es (afterEvent P e b) (stepped-sized P x sized (lentTo b) (eventOf e)) (stepped-fits P sound x sized fits (lentTo b) (eventOf e))
       (event-frame k P sound i x t h (lentTo b) (eventOf e) (two .0)) (two .1))
 
-  pub unaddressed-cell : (es : List ℕ) (b : PinBench) → i < cellCount k P → length (cellsOf k b) ≡ cellCount k P → Sized P (b .device)
+  pub unaddressed-cell : (es : List ℕ) (b : PinBench) → i < cellCount k P → length (cellsOf k b) ≡ cellCount k P → Sized (b .device)
       → deviceFits P (b .device) ≡ true → awaitedIn k P (b .device .core) i ≡ false → inFrame k P (b .device .frame) i ≡ false
       → byteTaken k P i es b ≡ false → getD (cellsOf k (played P es b)) i 0 ≡ getD (cellsOf k b) i 0
   unaddressed-cell es b below size sized fits a h none = untouched-cell k P sound i below es b size sized fits a (unaddressed es b sized fits h none)

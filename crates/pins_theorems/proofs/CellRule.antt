@@ -107,7 +107,7 @@ module _ (k : Cells) (P : Part) (x : Device) (i : ℕ) (a : awaitedIn k P (x .co
 -- ---- any list of events: a cell that does not wait at its start, and that no write executed in it has marked, is as it was
 
 module _ (k : Cells) (P : Part) (sound : Sound P) (i : ℕ) (h : i < cellCount k P) where
-  pub untouched-cell : (es : List ℕ) (b : PinBench) → length (cellsOf k b) ≡ cellCount k P → Sized P (b .device) → deviceFits P (b .device) ≡ true
+  pub untouched-cell : (es : List ℕ) (b : PinBench) → length (cellsOf k b) ≡ cellCount k P → Sized (b .device) → deviceFits P (b .device) ≡ true
       → awaitedIn k P (b .device .core) i ≡ false → writesAny k P i es b ≡ false → getD (cellsOf k (played P es b)) i 0 ≡ getD (cellsOf k b) i 0
   unfolding played writesAny
   untouched-cell [] b size sized fits a t = refl

@@ -11,7 +11,7 @@ use lib.Dec.{eqb, leb, ltb}
 use borrow.Author.Tests.{le-leb, leb-true, ltb-true, eq-eqb, eqb-true, eqb-false, ne-eqb}
 use Rattle.laws.specs.Pick.{pick, at-yes, at-no, pick-case, and-left, and-right, and-both}
 use Rattle.laws.specs.And.{or-right}
-use Rattle.codes.specs.Part.{Part, words}
+use Rattle.codes.specs.Part.{Part, roomWords}
 use Rattle.codes.specs.Status.{bit, on}
 use Rattle.chip.specs.Lents.{Lent}
 use Rattle.chip.specs.Records.{status, lockByte}
@@ -40,10 +40,10 @@ no-code : (P : Part) → decode P 0 ≡ Silence
 unfolding decode pick
 no-code P = refl
 
-pub no-latch-fits : (P : Part) → latchFits P false (noLatch P) ≡ true
+pub no-latch-fits : (P : Part) → latchFits P false noLatch ≡ true
 no-latch-fits P = none-latched P false
 
-pub empty-frame : (P : Part) → FrameFits P (noFrame P)
+pub empty-frame : (P : Part) → FrameFits P noFrame
 unfolding pick
 empty-frame P =
     record {
@@ -52,7 +52,7 @@ empty-frame P =
       partial = omega arith;
       code = refl;
       fields =
-          subst (λ (i : Instruction). FieldsFit P i (noFrame P)) (sym (no-code P))
+          subst (λ (i : Instruction). FieldsFit P i noFrame) (sym (no-code P))
           (record { address = refl; value = refl; out = refl; latch = no-latch-fits P });
     }
 
@@ -92,7 +92,7 @@ module _ (P : Part) (sound : Sound P) (f : Frame) (v : ℕ) (byte : v < 256) (t 
             };
       }
 
-  later-fits : length (f .latch .marks) ≡ words P → (f .taken ≡ 0 → ⊥) → FrameFits P (taking P (decode P (f .code)) (f .taken) v (withByte P f))
+  later-fits : length (f .latch .marks) ≡ roomWords → (f .taken ≡ 0 → ⊥) → FrameFits P (taking P (decode P (f .code)) (f .taken) v (withByte P f))
   later-fits sized z =
       let most : P .addressBytes + 3 ≤ P .most = sound .counted in
       let i = decode P (f .code) in
@@ -112,14 +112,14 @@ module _ (P : Part) (sound : Sound P) (f : Frame) (v : ℕ) (byte : v < 256) (t 
         fields = subst (λ (j : Instruction). FieldsFit P j g) (ap (decode P) (sym c)) (taking-fits P sound f v (omega arith) (t .taken) sized i (t .fields));
       }
 
-  byte-fits : (run : Bool) → length (f .latch .marks) ≡ words P → FrameFits P (wholeByte P run v f)
+  byte-fits : (run : Bool) → length (f .latch .marks) ≡ roomWords → FrameFits P (wholeByte P run v f)
   unfolding wholeByte
   byte-fits run sized =
       pick-case (FrameFits P) (eqb (f .taken) 0) (λ e. first-fits run (eqb-true _ _ e)) (λ e. later-fits sized (eqb-false _ _ e))
 
 -- ---- the rising edge
 
-module _ (P : Part) (sound : Sound P) (run : Bool) (d : ℕ) (f : Frame) (sized : length (f .latch .marks) ≡ words P) (t : FrameFits P f) where
+module _ (P : Part) (sound : Sound P) (run : Bool) (d : ℕ) (f : Frame) (sized : length (f .latch .marks) ≡ roomWords) (t : FrameFits P f) where
   bit-fits : f .bits < 7 → FrameFits P (withBits (f .bits + 1) (shiftedIn (f .partial) d) f)
   bit-fits h =
       let old : f .partial < 2 ^ f .bits = t .partial in

@@ -10,7 +10,7 @@ use lib.Dec.{eqb, leb, ltb}
 use borrow.Author.Tests.{le-leb, leb-true, leb-false, lt-ltb, ltb-true, eq-eqb, eqb-true}
 use Rattle.laws.specs.Pick.{pick, pick-case, and-left, and-right, and-both}
 use Rattle.laws.specs.And.{or-left, or-right, or-more}
-use Rattle.codes.specs.Part.{Part, words}
+use Rattle.codes.specs.Part.{Part, roomWords}
 use Rattle.codes.specs.Status.{on}
 use Rattle.codes.specs.Instructions.{picksLock}
 use Rattle.latch.specs.Latches.{latched, nextCell, nextInPage, latchFits}
@@ -208,7 +208,7 @@ module _ (P : Part) (sound : Sound P) (f : Frame) (v : ℕ) (one : 1 ≤ f .take
       }
 
   -- a data byte that is latched
-  latch-fits : (i : Instruction) → length (f .latch .marks) ≡ words P → (valued P i (nextInPage P (f .address)) next || eqb (f .value) 0) ≡ true
+  latch-fits : (i : Instruction) → length (f .latch .marks) ≡ roomWords → (valued P i (nextInPage P (f .address)) next || eqb (f .value) 0) ≡ true
       → latches P i (nextInPage P (f .address)) next ≡ true → addressFits P i next (nextInPage P (f .address)) ≡ true
       → FieldsFit P i f → FieldsFit P i (latchByte P v (withByte P f))
   latch-fits i sized value there address t =
@@ -219,7 +219,7 @@ module _ (P : Part) (sound : Sound P) (f : Frame) (v : ℕ) (one : 1 ≤ f .take
         out = up-out i t;
         latch =
             ap (λ (may : Bool). latchFits P may (latched (f .address % P .page) v (f .latch))) there
-            ∙ one-latched P (f .address % P .page) v (f .latch) (rw sized (cell-word P sound (f .address % P .page) cell))
+            ∙ one-latched P (f .address % P .page) v (f .latch) sound cell (rw sized (cell-word P sound (f .address % P .page) cell))
             (more-fits P (latches P i (f .address) (f .taken)) (f .latch) (t .latch));
       }
 
@@ -236,7 +236,7 @@ module _ (P : Part) (sound : Sound P) (f : Frame) (v : ℕ) (one : 1 ≤ f .take
       let h : P .addressBytes + 2 ≤ f .taken = leb-true _ _ (and-right t (leb (P .addressBytes + 2) (f .taken)) e) in
       omega arith
 
-  wrid-data : length (f .latch .marks) ≡ words P → P .addressBytes < f .taken → FieldsFit P Wrid f
+  wrid-data : length (f .latch .marks) ≡ roomWords → P .addressBytes < f .taken → FieldsFit P Wrid f
       → FieldsFit P Wrid (identificationData P (f .taken) v (withByte P f))
   wrid-data sized k t =
       pick-case (FieldsFit P Wrid) (picksLock (f .address))
@@ -254,7 +254,7 @@ module _ (P : Part) (sound : Sound P) (f : Frame) (v : ℕ) (one : 1 ≤ f .take
       latch-fits Wrid sized (or-right (valued P Wrid (nextInPage P (f .address)) next) (eqb (f .value) 0) none)
       (and-both (not (picksLock (nextInPage P (f .address)))) _ (ap not still) (data-next k)) (next-bounded k (t .address)) t)
 
-  pub taking-fits : length (f .latch .marks) ≡ words P → (i : Instruction) → FieldsFit P i f → FieldsFit P i (taking P i (f .taken) v (withByte P f))
+  pub taking-fits : length (f .latch .marks) ≡ roomWords → (i : Instruction) → FieldsFit P i f → FieldsFit P i (taking P i (f .taken) v (withByte P f))
   taking-fits sized Wren t = same-address Wren (t .address) t
   taking-fits sized Wrdi t = same-address Wrdi (t .address) t
   taking-fits sized Rdsr t = same-address Rdsr (t .address) t

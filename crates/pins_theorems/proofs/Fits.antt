@@ -9,7 +9,7 @@ use lib.Dec.{eqb, leb, ltb}
 use borrow.Author.Tests.{le-leb, lt-ltb, ltb-true, eq-eqb}
 use Rattle.laws.specs.Pick.{pick, at-yes, pick-case, and-left}
 use Rattle.laws.specs.And.{and-5-out, and-5-in, or-left}
-use Rattle.codes.specs.Part.{Part, words}
+use Rattle.codes.specs.Part.{Part, roomWords}
 use Rattle.codes.specs.Status.{bit, on}
 use Rattle.latch.specs.Latches.{zeros}
 use Rattle.chip.specs.Lents.{Lent}
@@ -77,7 +77,7 @@ module _ (p : Pins) (v : ℕ) (small : v ≤ 1) (fits : pinsFit p ≡ true) wher
       (le-leb _ _ small)
 
 -- a cycle that runs after a reading ran before it
-ran-before : (P : Part) (r : ℕ) (c : Core) → running (timed P r c) ≡ true → running c ≡ true
+ran-before : (P : Part) (r : ℕ) (c : Core) → running (timed r c) ≡ true → running c ≡ true
 unfolding timed
 ran-before P r c =
     pick-case (λ (d : Core). running d ≡ true → running c ≡ true) (ends r c) (λ e h. absurd (true≢false (sym h)))
@@ -147,7 +147,7 @@ module _ (P : Part) (sound : Sound P) (x : Device) (t : Fits P x) where
       let one : bit (not (on (x .pins .c)) && not (on (x .pins .hold))) + x .pins .hold ≡ 1 = rw c (low-or-high (x .pins .hold) low) in
       eq-eqb _ _ one)
 
-  select-fits : Fits P (selecting P x)
+  select-fits : Fits P (selecting x)
   select-fits =
       record {
         pins = s-set (x .pins) 0 (omega arith) (t .pins);
@@ -207,7 +207,7 @@ module _ (P : Part) (sound : Sound P) (x : Device) (t : Fits P x) where
       (λ e. ap (λ (g : Frame). ranFits (withFrame g x)) (loading-same P m (x .core) f (decode P (f .code))) ∙ t .ran))
       (λ o. t .ran)
 
-  up-fits : length (x .frame .latch .marks) ≡ words P → Fits P (raising P x)
+  up-fits : length (x .frame .latch .marks) ≡ roomWords → Fits P (raising P x)
   up-fits sized =
       let p = c-set (x .pins) 1 (omega arith) (t .pins) in
       pick-case (λ (y : Device). Fits P (withPins (withC 1 (x .pins)) y)) (counting x)
@@ -236,14 +236,14 @@ module _ (P : Part) (sound : Sound P) (x : Device) (t : Fits P x) where
       })
       (λ k. record { pins = p; held = h; frame = t .frame; empty = t .empty; ran = t .ran; core = t .core })
 
-  c-fits : (m : Lent) (level : Bool) → length (x .frame .latch .marks) ≡ words P → Fits P (onC P level m x)
+  c-fits : (m : Lent) (level : Bool) → length (x .frame .latch .marks) ≡ roomWords → Fits P (onC P level m x)
   unfolding onC
   c-fits m level sized =
       pick-case (Fits P) (eqb (x .pins .c) (bit level)) (λ e. t) (λ e. pick-case (Fits P) level (λ l. up-fits sized) (λ l. down-fits m))
 
   -- ---- time
 
-  time-fits : (r : ℕ) → Fits P (onTime P r x)
+  time-fits : (r : ℕ) → Fits P (onTime r x)
   unfolding onTime
   time-fits r =
       let f = x .frame in
@@ -253,12 +253,12 @@ module _ (P : Part) (sound : Sound P) (x : Device) (t : Fits P x) where
         frame = t .frame;
         empty = t .empty;
         ran =
-            tie-in (eqb (f .taken) 0) (running (timed P r (x .core))) (on (f .ran))
+            tie-in (eqb (f .taken) 0) (running (timed r (x .core))) (on (f .ran))
             (λ z h. tie-out (eqb (f .taken) 0) (running (x .core)) (on (f .ran)) (t .ran) z (ran-before P r (x .core) h));
         core = timed-within P r (x .core) (t .core);
       }
 
-  event-fits : (m : Lent) → length (x .frame .latch .marks) ≡ words P → (e : Event) → Fits P (stepped P m e x)
+  event-fits : (m : Lent) → length (x .frame .latch .marks) ≡ roomWords → (e : Event) → Fits P (stepped P m e x)
   event-fits m sized (S level) = s-fits level
   event-fits m sized (C level) = c-fits m level sized
   event-fits m sized (D level) = d-fits level
@@ -268,15 +268,15 @@ module _ (P : Part) (sound : Sound P) (x : Device) (t : Fits P x) where
 
 -- ---- the length of the latch, which a record of lists does not carry
 
-abbrev pub Sized : Part → Device → Type 0
-Sized P x = length (x .frame .latch .marks) ≡ words P
+abbrev pub Sized : Device → Type 0
+Sized x = length (x .frame .latch .marks) ≡ roomWords
 
 abbrev marks : Frame → ℕ
 marks f = length (f .latch .marks)
 
-empty-sized : (P : Part) → marks (noFrame P) ≡ words P
+empty-sized : (P : Part) → marks noFrame ≡ roomWords
 unfolding zeros
-empty-sized P = length-replicate {A = ℕ} (words P) 0
+empty-sized P = length-replicate {A = ℕ} roomWords 0
 
 taking-sized : (P : Part) (n v : ℕ) (f : Frame) (i : Instruction) → marks (taking P i n v f) ≡ marks f
 taking-sized P n v f Wren = refl
@@ -309,27 +309,27 @@ fallen-sized P m c f =
     (λ o. pick-case same (leb 1 (f .shown) && ltb (f .shown) 8) (λ e. refl) (λ e. ap marks (loading-same P m c f (decode P (f .code)))))
     (λ o. refl)
 
-module _ (P : Part) (x : Device) (sized : Sized P x) where
-  s-sized : (level : Bool) → Sized P (onS P level x)
+module _ (P : Part) (x : Device) (sized : Sized x) where
+  s-sized : (level : Bool) → Sized (onS P level x)
   unfolding onS
   s-sized level =
-      pick-case (Sized P) (eqb (x .pins .s) (bit level)) (λ e. sized) (λ e. pick-case (Sized P) level (λ l. empty-sized P) (λ l. empty-sized P))
+      pick-case Sized (eqb (x .pins .s) (bit level)) (λ e. sized) (λ e. pick-case Sized level (λ l. empty-sized P) (λ l. empty-sized P))
 
-  c-sized : (m : Lent) (level : Bool) → Sized P (onC P level m x)
+  c-sized : (m : Lent) (level : Bool) → Sized (onC P level m x)
   unfolding onC
   c-sized m level =
-      pick-case (Sized P) (eqb (x .pins .c) (bit level)) (λ e. sized)
-      (λ e. pick-case (Sized P) level
-      (λ l. pick-case (λ (y : Device). Sized P (withPins (withC 1 (x .pins)) y)) (counting x)
+      pick-case Sized (eqb (x .pins .c) (bit level)) (λ e. sized)
+      (λ e. pick-case Sized level
+      (λ l. pick-case (λ (y : Device). Sized (withPins (withC 1 (x .pins)) y)) (counting x)
       (λ k. risen-sized P (running (x .core)) (x .pins .d) (x .frame) ∙ sized) (λ k. sized))
-      (λ l. pick-case (λ (y : Device). Sized P (renewed (withPins (withC 0 (x .pins)) y))) (counting x)
+      (λ l. pick-case (λ (y : Device). Sized (renewed (withPins (withC 0 (x .pins)) y))) (counting x)
       (λ k. fallen-sized P m (x .core) (x .frame) ∙ sized) (λ k. sized)))
 
-  hold-sized : (level : Bool) → Sized P (onHold level x)
+  hold-sized : (level : Bool) → Sized (onHold level x)
   unfolding onHold
-  hold-sized level = pick-case (Sized P) (on (x .pins .c)) (λ c. sized) (λ c. sized)
+  hold-sized level = pick-case Sized (on (x .pins .c)) (λ c. sized) (λ c. sized)
 
-  pub stepped-sized : (m : Lent) (e : Event) → Sized P (stepped P m e x)
+  pub stepped-sized : (m : Lent) (e : Event) → Sized (stepped P m e x)
   unfolding onD onW onTime
   stepped-sized m (S level) = s-sized level
   stepped-sized m (C level) = c-sized m level
@@ -342,23 +342,23 @@ module _ (P : Part) (x : Device) (sized : Sized P x) where
 
 module _ (P : Part) (sound : Sound P) where
   -- by each event ..
-  pub stepped-fits : (x : Device) → Sized P x → deviceFits P x ≡ true → (m : Lent) (e : Event) → deviceFits P (stepped P m e x) ≡ true
+  pub stepped-fits : (x : Device) → Sized x → deviceFits P x ≡ true → (m : Lent) (e : Event) → deviceFits P (stepped P m e x) ≡ true
   stepped-fits x sized h m e = device-fits P (stepped P m e x) (event-fits P sound x (parts P x h) m sized e)
 
   -- .. by any list of them ..
-  pub played-sized : (es : List ℕ) (b : PinBench) → Sized P (b .device) → Sized P (played P es b .device)
+  pub played-sized : (es : List ℕ) (b : PinBench) → Sized (b .device) → Sized (played P es b .device)
   unfolding played
   played-sized [] b sized = sized
   played-sized (e ∷ es) b sized = played-sized es (afterEvent P e b) (stepped-sized P (b .device) sized (lentTo b) (eventOf e))
 
-  pub played-fits : (es : List ℕ) (b : PinBench) → Sized P (b .device) → deviceFits P (b .device) ≡ true → deviceFits P (played P es b .device) ≡ true
+  pub played-fits : (es : List ℕ) (b : PinBench) → Sized (b .device) → deviceFits P (b .device) ≡ true → deviceFits P (played P es b .device) ≡ true
   unfolding played
   played-fits [] b sized h = h
   played-fits (e ∷ es) b sized h =
       played-fits es (afterEvent P e b) (stepped-sized P (b .device) sized (lentTo b) (eventOf e)) (stepped-fits (b .device) sized h (lentTo b) (eventOf e))
 
   -- .. and a device starts inside them, whatever power-up is given
-  resting-fits : (c : Core) → Within P c → Fits P (resting P c)
+  resting-fits : (c : Core) → Within P c → Fits P (resting c)
   unfolding pick
   resting-fits c w = record { pins = refl; held = refl; frame = empty-frame P; empty = refl; ran = refl; core = w }
 
@@ -376,5 +376,5 @@ module _ (part : ℕ) (k : Bool) (n : ℕ) (s b a : Bool) (r : ℕ) where
       device-fits (devicePart poweredOne) poweredOne
       (resting-fits (devicePart poweredOne) (sound-of (poweredOne .core .part)) (poweredOne .core) (powered-within part k n s b a r))
 
-  pub powered-sized : Sized (devicePart poweredOne) poweredOne
+  pub powered-sized : Sized poweredOne
   powered-sized = empty-sized (devicePart poweredOne)

@@ -35,9 +35,9 @@ module _ (P : Part) (x : Device) where
 
   -- only S, held and the emptied frame move
   pub held-drop : isWrite (decode P (x .frame .code)) ≡ false → on (x .held) ≡ true
-      → deselecting P x ≡ withPins (withS 1 (x .pins)) (withHeld false (withFrame (noFrame P) x))
+      → deselecting P x ≡ withPins (withS 1 (x .pins)) (withHeld false (withFrame noFrame x))
   held-drop w h =
-      ap (λ c. withPins (withS 1 (x .pins)) (withHeld false (withFrame (noFrame P) (withCore c x)))) (held-decides w h)
+      ap (λ c. withPins (withS 1 (x .pins)) (withHeld false (withFrame noFrame (withCore c x)))) (held-decides w h)
 
   -- so the core record stays, whatever S was
   pub held-core : isWrite (decode P (x .frame .code)) ≡ false → on (x .held) ≡ true → onS P true x .core ≡ x .core
@@ -54,4 +54,4 @@ module _ (P : Part) (x : Device) where
       let same : judgedNow P (withHeldAt n x) ≡ judgedNow P x =
       verdict-held P (decode P (x .frame .code)) (x .frame .address) (x .frame .value) (8 * x .frame .taken + x .frame .bits) (on (x .frame .ran)) (on (x .core .wel))
       (on (x .core .srwd) && not (on (x .pins .w))) (barred P (x .core) (decode P (x .frame .code)) (x .frame .address)) (on n) (on (x .held)) w in
-      ap (λ v. withPins (withS 1 (x .pins)) (withHeld false (withFrame (noFrame P) (withCore (pick (isExecuted v) (executedNow P x) (x .core)) x)))) same
+      ap (λ v. withPins (withS 1 (x .pins)) (withHeld false (withFrame noFrame (withCore (pick (isExecuted v) (executedNow P x) (x .core)) x)))) same

@@ -65,7 +65,7 @@ not-over c = go (running c) refl
     go false e = and-no-left (running c) (leb (c .left) (elapsed (c .last) (c .last))) e
 
 module _ (P : Part) (x : Device) where
-  pub same-reading : onTime P (x .core .last) x ≡ x
+  pub same-reading : onTime (x .core .last) x ≡ x
   unfolding onTime
   same-reading =
       let same : x .core .left - elapsed (x .core .last) (x .core .last) ≡ x .core .left = omega (arith, none-elapsed (x .core .last)) in

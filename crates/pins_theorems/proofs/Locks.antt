@@ -67,7 +67,7 @@ module _ (P : Part) (x : Device) where
   on-hold-core Q stays level = pick-case (λ (y : Device). Q (y .core)) (on (x .pins .c)) (λ e. stays) (λ e. stays)
 
   pub stepped-core : (Q : Event → Core → Type 0) → ((e : Event) → endsCycle e (x .core) ≡ false → Q e (x .core))
-      → (on (x .pins .s) ≡ false → isExecuted (judgedNow P x) ≡ true → Q (S true) (executedNow P x)) → ((t : ℕ) → Q (Time t) (timed P t (x .core)))
+      → (on (x .pins .s) ≡ false → isExecuted (judgedNow P x) ≡ true → Q (S true) (executedNow P x)) → ((t : ℕ) → Q (Time t) (timed t (x .core)))
       → (m : Lent) (e : Event) → Q e (stepped P m e x .core)
   unfolding onD onW onTime
   stepped-core Q stays does passes m (S true) = on-s-core (Q (S true)) (stays (S true) refl) does
@@ -229,7 +229,7 @@ module _ (P : Part) (sound : Sound P) where
   unaccepted-lock x h c (Hold level) none = refl
   unaccepted-lock x h c (Time t) none = refl
 
-  unaccepted-locks : (es : List ℕ) (b : PinBench) (h : Hand) → Sized P (b .device) → deviceFits P (b .device) ≡ true
+  unaccepted-locks : (es : List ℕ) (b : PinBench) (h : Hand) → Sized (b .device) → deviceFits P (b .device) ≡ true
       → Clocked identificationCells P 0 h (b .device .frame) → acceptedLock P es b h ≡ false → locksAny P es b ≡ false
   unfolding acceptedLock locksAny
   unaccepted-locks [] b h sized fits c none = refl
@@ -243,13 +243,13 @@ module _ (P : Part) (sound : Sound P) where
       (event-clocked identificationCells P sound 0 x h (parts P x fits) c (lentTo b) (eventOf e)) (two .1))
 
   -- from any device with what is clocked in of its frame
-  pub accepted-lock-from : (es : List ℕ) (b : PinBench) (h : Hand) → Sized P (b .device) → deviceFits P (b .device) ≡ true
+  pub accepted-lock-from : (es : List ℕ) (b : PinBench) (h : Hand) → Sized (b .device) → deviceFits P (b .device) ≡ true
       → Clocked identificationCells P 0 h (b .device .frame) → waitsLock (b .device .core .waits) ≡ false → acceptedLock P es b h ≡ false
       → played P es b .device .core .lock ≡ b .device .core .lock
   accepted-lock-from es b h sized fits c a none = untouched-lock P es b a (unaccepted-locks es b h sized fits c none)
 
   -- a lock that does not wait, and that no frame accepted in the list sets by the bytes since its own select, is as it was
-  pub accepted-lock : (es : List ℕ) (b : PinBench) → Sized P (b .device) → deviceFits P (b .device) ≡ true → selected (b .device) ≡ false
+  pub accepted-lock : (es : List ℕ) (b : PinBench) → Sized (b .device) → deviceFits P (b .device) ≡ true → selected (b .device) ≡ false
       → waitsLock (b .device .core .waits) ≡ false → acceptedLock P es b noHand ≡ false → played P es b .device .core .lock ≡ b .device .core .lock
   accepted-lock es b sized fits s a none =
       accepted-lock-from es b noHand sized fits (unselected-clocked identificationCells P sound 0 (b .device) fits s) a none

@@ -5,8 +5,11 @@
 ghost use mathlib.Core.Path.{_≡_};
 ghost use Prim.Native.Nat.{_≤_};
 ghost use lib.ListN.{length};
+use codes::M95M01;
 use codes::M95512;
 use codes::M95512D;
+use codes::page_of;
+use codes::size_of;
 use libc::STDERR_FILENO;
 use libc::STDIN_FILENO;
 use libc::STDOUT_FILENO;
@@ -98,17 +101,20 @@ fn turns(
     }
 }
 
+// As many cells are lent as the part has.
 fn play(part: u8, fd: i32, name: &[u8]) {
+    let size = size_of(part);
+    let page = page_of(part);
     let mut memory = player::memory();
-    let mut identification = player::identification();
+    let mut identification = player::identification(part);
     let mut text = chunk();
     let mut out = io::large_buffer();
     turns(
         part,
         fd,
         name,
-        &mut memory,
-        &mut identification,
+        &mut memory[..size],
+        &mut identification[..page],
         &mut text,
         &mut out,
     );
@@ -159,18 +165,23 @@ fn play_part() {
     if is_word(2, b"M95512-D") {
         return play_word(M95512D, 3);
     }
-    say(b"play: after --part comes M95512 or M95512-D\n");
+    if is_word(2, b"M95M01") {
+        return play_word(M95M01, 3);
+    }
+    say(b"play: after --part comes M95512, M95512-D or M95M01\n");
 }
 
 fn help() {
     put(
         b"play [FILE]: plays a trace on the pin model of the M95512, from FILE or from standard input.\n",
     );
-    put(b"play --part PART [FILE]: the same on PART, which is M95512 or M95512-D.\n");
+    put(b"play --part PART [FILE]: the same on PART, which is M95512, M95512-D or M95M01.\n");
     put(
         b"A line is a name, a tab and a value: S, C, D, W or H with 0 or 1, T with a clock reading.\n",
     );
-    put(b"The device starts as delivered, cycle length 5000 microseconds, reading 0.\n");
+    put(
+        b"The device starts as delivered, cycle length 5000 microseconds (of the M95M01 4000), reading 0.\n",
+    );
     put(b"Put out are a header, then for each line its number and Q after it: 0, 1 or Z.\n");
     put(b"A bad line is put out as bad, and ends it.\n");
 }

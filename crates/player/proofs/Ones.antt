@@ -13,10 +13,10 @@ pub start-one : OneResult start.ps start.r start-reads.Post
 start-one κs a z z′ e e′ p q = same p q
 
 pub memory-one : OneResult memory.ps memory.r memory-reads.Post
-memory-one κs a z z′ e e′ p q = same p q
+memory-one κs a z z′ e e′ p q = same (p .0) (q .0)
 
 pub identification-one : OneResult identification.ps identification.r identification-reads.Post
-identification-one κs a z z′ e e′ p q = same p q
+identification-one κs a z z′ e e′ p q = same (p .0) (q .0)
 
 pub in-ranges-one : OneResult in-ranges.ps in-ranges.r in-ranges-reads.Post
 in-ranges-one κs a z z′ e e′ p q = same p q

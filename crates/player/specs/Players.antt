@@ -24,10 +24,10 @@ startPart n = pick (isPart n) n 0
 abbrev pub startCore : ℕ → Core
 startCore n = idle (startPart n) false false false false (partOf n .longest) 0
 
--- the bench that a text is played on: with every byte FFh, of the memory and of the identification page
+-- the bench that a text is played on: memory and identification page as delivered
 abbrev pub startBench : ℕ → PinBench
 startBench n =
-    pinBench (resting (partOf n) (startCore n)) (deliveredMemory (partOf n)) (deliveredIdentification (partOf n))
+    pinBench (resting (startCore n)) (deliveredMemory (partOf n)) (deliveredIdentification (partOf n))
 
 abbrev pub playerOf : ℕ → Line → PinBench → Player
 playerOf headed l b = record { headed = headed; line = l; device = b .device }

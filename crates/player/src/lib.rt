@@ -3,12 +3,15 @@
 // Public calls, each for every input: start, memory and identification, what a text starts from; in_ranges, of a
 // player. The text is taken by trace.
 ghost use mathlib.Core.Path.{_≡_};
-ghost use Rattle.codes.specs.Part.{m95512};
+ghost use mathlib.Core.List.{_++_};
+ghost use Prim.Native.Nat.{ℕ, _-_};
+ghost use lib.ListN.{length, replicate, take};
+ghost use Rattle.codes.specs.Part.{m95m01, partOf, room};
 ghost use Rattle.chip.specs.Power.{deliveredMemory, deliveredIdentification};
 ghost use Rattle.player.specs.Players.{startPlayer, headFits, playerFits};
-use codes::LONGEST_CYCLE;
-use codes::PAGE;
-use codes::SIZE;
+use codes::M95M01;
+use codes::longest_of;
+use latch::ROOM;
 use lines::Line;
 use pins::Device;
 use pins::power_up;
@@ -20,12 +23,15 @@ pub struct Player {
     pub device: Device,
 }
 
-// Before the first byte of a text, on a part as delivered: 1 is the M95512-D, every other number the M95512. It is what
-// power-up gives, whose refusal of a number that is no part leaves the delivered M95512.
+// Cells of the largest memory.
+const CELLS: usize = 131072;
+
+// Before the first byte of a text, on a part as delivered: 1 is the M95512-D, 2 the M95M01, every other number the
+// M95512. It is what power-up gives, whose refusal of a number that is no part leaves the delivered M95512.
 pub fn start(part: u8) -> Player
     ensures { λ r. ⌜ r ≡ startPlayer part ⌝ }
 {
-    let powered = power_up(part, false, LONGEST_CYCLE, false, false, false, 0);
+    let powered = power_up(part, false, longest_of(part), false, false, false, 0);
     let device = powered.device;
     Player {
         headed: 0,
@@ -39,18 +45,26 @@ pub fn start(part: u8) -> Player
     }
 }
 
-// The memory as delivered: every byte FFh.
-pub fn memory() -> [u8; SIZE]
-    ensures { λ r. ⌜ r ≡ deliveredMemory m95512 ⌝ }
+// The memory as delivered, every byte FFh: of any part, as many of these cells as it has.
+pub fn memory() -> [u8; CELLS]
+    ensures { λ r. ⌜ r ≡ deliveredMemory m95m01 ⌝ }
+    ensures { λ r. ⌜ ((n : ℕ) → take (partOf n .size) r ≡ deliveredMemory (partOf n)) ⌝ }
 {
-    [255; SIZE]
+    [255; CELLS]
 }
 
-// The identification page as delivered: every byte FFh.
-pub fn identification() -> [u8; PAGE]
-    ensures { λ r. ⌜ r ≡ deliveredIdentification m95512 ⌝ }
+// The identification page as delivered: as many of these cells as the part's page has.
+pub fn identification(part: u8) -> [u8; ROOM]
+    ensures { λ r. ⌜ r ≡ partOf part .identity ++ replicate (room - length (partOf part .identity)) 0xff ⌝ }
+    ensures { λ r. ⌜ take (partOf part .page) r ≡ deliveredIdentification (partOf part) ⌝ }
 {
-    [255; PAGE]
+    let mut cells = [255; ROOM];
+    if part == M95M01 {
+        cells[0] = 0x20;
+        cells[1] = 0x00;
+        cells[2] = 0x11;
+    }
+    cells
 }
 
 impl Player {

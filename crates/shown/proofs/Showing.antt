@@ -15,45 +15,44 @@ use Rattle.laws.specs.And.{failed, never}
 use Rattle.laws.specs.Spliced.{spliced, two-parts}
 use Rattle.laws.specs.Filled.{copied}
 use Rattle.laws.specs.Table.{table, table-is, table-cong, table-part, table-append, table-replicate}
-use Rattle.codes.specs.Part.{Part}
 
 -- ---- the cells that a READ shows
 
-module _ (P : Part) (m : List ℕ) (a : ℕ) (size : length m ≡ P .size) where
+module _ (m : List ℕ) (a : ℕ) where
   -- what it shows of cell d from the address up, rolling over
   abbrev shown : ℕ → ℕ
-  shown d = getD m ((a + d) % P .size) 0
+  shown d = getD m ((a + d) % length m) 0
 
   -- in one run
-  pub one-run : (n : ℕ) → a + n ≤ P .size → take n (drop a m) ≡ table n shown
+  pub one-run : (n : ℕ) → a + n ≤ length m → take n (drop a m) ≡ table n shown
   one-run n h = table-part m a n 0 (omega arith) ∙ table-cong (λ d. getD m (a + d) 0) shown n 0 (λ d b. ap (λ (k : ℕ). getD m k 0) (low d b))
     where
-      low : (d : ℕ) → d < n → a + d ≡ (a + d) % P .size
+      low : (d : ℕ) → d < n → a + d ≡ (a + d) % length m
       low d b = sym (mod-eq-of-lt (omega arith))
 
   -- in two, where it rolls over; it does so once
-  pub two-runs : (n : ℕ) → a < P .size → P .size - a < n → a + n ≤ P .size + P .size
-      → take (P .size - a) (drop a m) ++ take (n - (P .size - a)) m ≡ table n shown
+  pub two-runs : (n : ℕ) → a < length m → length m - a < n → a + n ≤ length m + length m
+      → take (length m - a) (drop a m) ++ take (n - (length m - a)) m ≡ table n shown
   two-runs n h k b =
-      let all : P .size - a + (n - (P .size - a)) ≡ n = omega arith in
-      ap (λ (l : List ℕ). l ++ take (n - (P .size - a)) m) (table-part m a (P .size - a) 0 (omega arith))
-      ∙ ap (λ (l : List ℕ). table (P .size - a) (λ d. getD m (a + d) 0) ++ l) (table-part m 0 (n - (P .size - a)) 0 (omega arith))
-      ∙ table-append (λ d. getD m (a + d) 0) (λ d. getD m (0 + d) 0) (P .size - a) (n - (P .size - a)) 0
+      let all : length m - a + (n - (length m - a)) ≡ n = omega arith in
+      ap (λ (l : List ℕ). l ++ take (n - (length m - a)) m) (table-part m a (length m - a) 0 (omega arith))
+      ∙ ap (λ (l : List ℕ). table (length m - a) (λ d. getD m (a + d) 0) ++ l) (table-part m 0 (n - (length m - a)) 0 (omega arith))
+      ∙ table-append (λ d. getD m (a + d) 0) (λ d. getD m (0 + d) 0) (length m - a) (n - (length m - a)) 0
       ∙ ap (λ (k : ℕ). table k joined) all
       ∙ table-cong joined shown n 0 at
     where
       joined : ℕ → ℕ
-      joined d = pick (ltb d (P .size - a)) (getD m (a + d) 0) (getD m (0 + (d - (P .size - a))) 0)
+      joined d = pick (ltb d (length m - a)) (getD m (a + d) 0) (getD m (0 + (d - (length m - a))) 0)
 
       at : (d : ℕ) → d < n → joined d ≡ shown d
-      at d q = elim (decLt d (P .size - a)) [
+      at d q = elim (decLt d (length m - a)) [
         | yes p ↦
-            let low : (a + d) % P .size ≡ a + d = mod-eq-of-lt (omega arith) in
+            let low : (a + d) % length m ≡ a + d = mod-eq-of-lt (omega arith) in
             sym (lt-so _ p (ap (λ (k : ℕ). getD m k 0) low))
         | no p ↦
-            let past : P .size - a ≤ d = omega arith in
-            let once : (a + d) % P .size ≡ a + d - P .size = mod-eq-sub-mod (omega arith) ∙ mod-eq-of-lt (omega arith) in
-            let round : (a + d) % P .size ≡ 0 + (d - (P .size - a)) = omega arith in
+            let past : length m - a ≤ d = omega arith in
+            let once : (a + d) % length m ≡ a + d - length m = mod-eq-sub-mod (omega arith) ∙ mod-eq-of-lt (omega arith) in
+            let round : (a + d) % length m ≡ 0 + (d - (length m - a)) = omega arith in
             sym (ge-so _ past (ap (λ (k : ℕ). getD m k 0) round))
       ]
 
@@ -91,7 +90,7 @@ status-bytes n v = table-is _ (set (replicate n v) 0 255) n 0 (length-set (repli
         (getD-set-other (replicate n v) 0 (suc j) 255 0 (λ e. omega arith) ∙ getD-replicate n (suc j) v 0 b)
 
 -- data byte d after a head of h bytes that is not driven, where no cycle ran
-abbrev follows : ℕ → Bool → (ℕ → ℕ) → ℕ → ℕ
+abbrev pub follows : ℕ → Bool → (ℕ → ℕ) → ℕ → ℕ
 follows h ran d j = pick (leb h j && not ran) (d (j - h)) 255
 
 module _ (h n : ℕ) (ran : Bool) (d : ℕ → ℕ) where

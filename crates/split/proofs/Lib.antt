@@ -2,6 +2,8 @@
 pub mod Edges
 pub mod Parts
 pub mod Numbers
+pub mod Few
 pub mod Whole
+pub mod AtParts
 pub mod Cases
 pub mod Ones

@@ -9,6 +9,7 @@ use lib.Seq.{take-add, length-take-le}
 use Rattle.codes.specs.Part.{Part}
 use Rattle.pins.specs.Devices.{devicePart}
 use Rattle.pins.specs.Answers.{PinBench, played}
+use Rattle.pins.proofs.Kept.{played-part}
 use Rattle.lists.specs.Answers.{playedQ}
 use Rattle.lines.specs.declared.Line.{Line}
 use Rattle.lines.specs.Reading.{read, found, lineFits}
@@ -17,6 +18,11 @@ use Rattle.lines.proofs.Runs.{read-append, found-append, read-whole}
 use Rattle.printing.proofs.Puts.{printed-append}
 use Rattle.trace.specs.Chunks.{playedLines, shownLines}
 use Rattle.trace.proofs.Plays.{played-append, playedQ-append, playedQ-length, played-own, playedQ-own}
+
+-- the part stays
+pub lines-part : (h : Line) (b : PinBench) (x : List ℕ) → playedLines h b x .device .core .part ≡ b .device .core .part
+unfolding playedLines
+lines-part h b x = played-part (devicePart (b .device)) (found h x) b
 
 module _ (l : Line) (b : PinBench) where
   -- the rules are those of the device's own part, which stays

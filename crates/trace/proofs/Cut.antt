@@ -177,10 +177,10 @@ start-fits n =
     and-3-in (headFits (startPlayer n)) (lineFits (fresh 0)) (deviceFits (devicePart x) x) refl start-line
     (subst (λ (y : Device). deviceFits (devicePart y) y ≡ true) (start-powered n) (powered-fits n false (partOf n .longest) false false false 0))
 
-pub start-sized : (n : ℕ) → Sized (devicePart (startPlayer n .device)) (startPlayer n .device)
-start-sized n = subst (λ (y : Device). Sized (devicePart y) y) (start-powered n) (powered-sized n false (partOf n .longest) false false false 0)
+pub start-sized : (n : ℕ) → Sized (startPlayer n .device)
+start-sized n = subst (λ (y : Device). Sized y) (start-powered n) (powered-sized n false (partOf n .longest) false false false 0)
 
-pub chunk-fits : (p : Player) (m : Lent) (x : List ℕ) → playerFits p ≡ true → Sized (devicePart (p .device)) (p .device) → playerFits (chunkPlayer p m x) ≡ true
+pub chunk-fits : (p : Player) (m : Lent) (x : List ℕ) → playerFits p ≡ true → Sized (p .device) → playerFits (chunkPlayer p m x) ≡ true
 unfolding playerFits playedLines
 chunk-fits p m x f sized =
     let t = player-out p f in
@@ -188,7 +188,7 @@ chunk-fits p m x f sized =
     and-3-in (headFits (chunkPlayer p m x)) (lineFits (read (p .line) x)) (deviceFits (devicePart y) y) refl (read-fits (p .line) x (t .1 .0))
     (own-fits (found (p .line) x) (benchOf p m) sized (t .1 .1))
 
-pub chunk-sized : (p : Player) (m : Lent) (x : List ℕ) → let y = chunkBench p m x .device in Sized (devicePart (p .device)) (p .device) → Sized (devicePart y) y
+pub chunk-sized : (p : Player) (m : Lent) (x : List ℕ) → let y = chunkBench p m x .device in Sized (p .device) → Sized y
 unfolding playedLines
 chunk-sized p m x sized = played-sized (devicePart (p .device)) (sound-of (p .device .core .part)) (found (p .line) x) (benchOf p m) sized
 

@@ -5,7 +5,7 @@ use mathlib.Core.Bool.{Bool, true, false, _||_, or-false, true≢false}
 use mathlib.Core.List.{List, [], _∷_, _++_}
 use Prim.Native.Nat.{ℕ, zero, suc, _≤_}
 use native.Mathlib.Omega.{arith}
-use lib.ListN.{length, length-replicate}
+use lib.ListN.{length}
 use lib.Dec.{eqb}
 use borrow.Author.Tests.{eqb-true, eqb-false, eq-eqb, le-leb}
 use Rattle.laws.specs.Pick.{pick, and-both}
@@ -15,7 +15,9 @@ use Rattle.pins.specs.Answers.{PinBench, afterEvent, played}
 use Rattle.chip.specs.Records.{waitsPage, waitsIdentification}
 use Rattle.chip.specs.Time.{lentFits}
 use Rattle.chip.specs.declared.Waiting.{Waiting}
+use Rattle.chip.proofs.Cases.{delivered-size, delivered-page}
 use Rattle.chip.proofs.Passing.{timed-length}
+use Rattle.pins.proofs.Kept.{played-part}
 use Rattle.pins.specs.declared.Device.{Device}
 use Rattle.pins.specs.declared.Event.{Event}
 use Rattle.pins.specs.declared.Event.the-variants.{S, C, D, W, Hold, Time}
@@ -57,12 +59,12 @@ played-lengths P (e ∷ es) b =
 
 record Ready (s : SoFar) : Type 0 where
   fits : playerFits (s .player) ≡ true
-  sized : Sized (devicePart (s .player .device)) (s .player .device)
+  sized : Sized (s .player .device)
   whole : lentFits (devicePart (s .player .device)) (length (s .cells .memory)) (length (s .cells .identification)) ≡ true
 
 start-whole : (n : ℕ) → lentFits (partOf n) (length (startBench n .memory)) (length (startBench n .identification)) ≡ true
 start-whole n =
-    and-both _ _ (eq-eqb _ _ (length-replicate {A = ℕ} (partOf n .size) 0xff)) (eq-eqb _ _ (length-replicate {A = ℕ} (partOf n .page) 0xff))
+    and-both _ _ (eq-eqb _ _ (delivered-size n)) (eq-eqb _ _ (delivered-page n))
 
 start-ready : (n : ℕ) → Ready (beforeText n)
 start-ready n =
@@ -76,11 +78,16 @@ next-ready : (s : SoFar) (x : List ℕ) → Ready s → Ready (afterChunk s x)
 unfolding playedLines
 next-ready s x r =
     let P = devicePart (s .player .device) in
-    let lengths = played-lengths P (found (s .player .line) x) (benchOf (s .player) (s .cells)) in
+    let b = benchOf (s .player) (s .cells) in
+    let after = played P (found (s .player .line) x) b in
+    let lengths = played-lengths P (found (s .player .line) x) b in
     record {
       fits = chunk-fits (s .player) (s .cells) x (r .fits) (r .sized);
       sized = chunk-sized (s .player) (s .cells) x (r .sized);
-      whole = ap₂ (lentFits P) (lengths .0) (lengths .1) ∙ r .whole;
+      whole =
+          ap (λ (n : ℕ). lentFits (partOf n) (length (after .memory)) (length (after .identification))) (played-part P (found (s .player .line) x) b)
+          ∙ ap₂ (lentFits P) (lengths .0) (lengths .1)
+          ∙ r .whole;
     }
 
 feed-gives : (s : SoFar) (x d : List ℕ) → Ready s → room (length x) ≤ length d

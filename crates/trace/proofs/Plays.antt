@@ -58,7 +58,7 @@ module _ (es : List ℕ) (b : PinBench) where
   playedQ-own fs = sym (ap (λ (n : ℕ). playedQ (partOf n) fs after) (played-part (devicePart (b .device)) es b))
 
   -- and so do the ranges
-  pub own-fits : Sized (devicePart (b .device)) (b .device) → deviceFits (devicePart (b .device)) (b .device) ≡ true
+  pub own-fits : Sized (b .device) → deviceFits (devicePart (b .device)) (b .device) ≡ true
       → deviceFits (devicePart (after .device)) (after .device) ≡ true
   own-fits sized h =
       ap (λ (n : ℕ). deviceFits (partOf n) (after .device)) (played-part (devicePart (b .device)) es b)

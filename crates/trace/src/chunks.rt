@@ -4,7 +4,7 @@ ghost use mathlib.Core.Bool.{true};
 ghost use Prim.Native.Nat.{_+_, _*_, _<_, _≤_};
 ghost use lib.ListN.{length};
 ghost use lib.Dec.{leb};
-ghost use Rattle.codes.specs.Part.{words};
+ghost use Rattle.codes.specs.Part.{roomWords};
 ghost use Rattle.chip.specs.Lents.{lent};
 ghost use Rattle.pins.specs.Devices.{devicePart};
 ghost use Rattle.pins.specs.Answers.{played, pinBench};
@@ -30,7 +30,7 @@ use printing::put_header;
 
 // An array has its length by its type; the proofs ask for that of the latch's marks.
 fn marked(device: Device) -> bool
-    ensures { λ _. ⌜ length (device .frame .latch .marks) ≡ words (devicePart device) ⌝ }
+    ensures { λ _. ⌜ length (device .frame .latch .marks) ≡ roomWords ⌝ }
 {
     true
 }

@@ -50,7 +50,7 @@ pub fn feed(
         (lent (now (memory .entry)) (now (identification .entry))) (now (text .entry)) (now (out .entry)) ⌝ }
     ensures { λ r. ⌜ r .written ≤ length (now (out .entry)) ⌝ }
 {
-    if lent_fits(memory.len(), identification.len()) {
+    if lent_fits(player.device.core.part, memory.len(), identification.len()) {
         if player.in_ranges() {
             if has_room(text.len(), out.len()) {
                 return take_chunk(player, memory, identification, text, out);

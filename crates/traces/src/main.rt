@@ -1,10 +1,13 @@
 // Texts of every kind through the trace library: an empty one, good ones, each kind of bad line, one text cut in many
-// ways, a million lines and one more, and what is refused. The gate compares what it writes with the file stdout,
-// which an independent player made from the rules (the refusals by hand).
+// ways, one on the M95M01, a million lines and one more, and what is refused. The gate compares what it writes with the
+// file stdout, which an independent player made from the rules (the refusals by hand).
 ghost use mathlib.Core.Path.{_≡_};
 ghost use Prim.Native.Nat.{_<_, _≤_};
 ghost use lib.ListN.{length};
+use codes::M95M01;
 use codes::M95512;
+use codes::page_of;
+use codes::size_of;
 use libc::STDOUT_FILENO;
 use player::Player;
 
@@ -63,13 +66,14 @@ fn chunk_end(i: usize, end: usize, size: usize) -> usize
 }
 
 fn in_chunks(
+    part: u8,
     text: &[u8],
     size: usize,
     memory: &mut [u8],
     identification: &mut [u8],
     out: &mut [u8],
 ) -> Player {
-    let mut player = player::start(M95512);
+    let mut player = player::start(part);
     let mut i: usize = 0;
     while i < text.len() {
         let e = chunk_end(i, text.len(), size);
@@ -80,13 +84,38 @@ fn in_chunks(
 }
 
 // A text in chunks of so many bytes, and its end.
-fn tell(what: &[u8], text: &[u8], size: usize) {
+fn play(
+    part: u8,
+    text: &[u8],
+    size: usize,
+    memory: &mut [u8],
+    identification: &mut [u8],
+    out: &mut [u8],
+) {
+    let player = in_chunks(part, text, size, memory, identification, out);
+    ended(player, out);
+}
+
+// The same, from a part as delivered.
+fn tell_on(part: u8, what: &[u8], text: &[u8], size: usize) {
     title(what);
+    let cells = size_of(part);
+    let page = page_of(part);
     let mut memory = player::memory();
-    let mut identification = player::identification();
+    let mut identification = player::identification(part);
     let mut out = io::large_buffer();
-    let player = in_chunks(text, size, &mut memory, &mut identification, &mut out);
-    ended(player, &mut out);
+    play(
+        part,
+        text,
+        size,
+        &mut memory[..cells],
+        &mut identification[..page],
+        &mut out,
+    );
+}
+
+fn tell(what: &[u8], text: &[u8], size: usize) {
+    tell_on(M95512, what, text, size);
 }
 
 fn good() {
@@ -156,6 +185,32 @@ fn cut(size: usize) {
         b"a frame",
         b"S\t0\nD\t0\nC\t1\nC\t0\nD\t0\nC\t1\nC\t0\nD\t0\nC\t1\nC\t0\nD\t0\nC\t1\nC\t0\nD\t0\nC\t1\nC\t0\nD\t1\nC\t1\nC\t0\nD\t0\nC\t1\nC\t0\nD\t1\nC\t1\nC\t0\nC\t1\nC\t0\nC\t1\nC\t0\nC\t1\nC\t0\nH\t0\nC\t1\nC\t0\nT\t4294967290\nH\t1\nC\t1\nC\t0\nC\t1\nC\t0\nC\t1\nC\t0\nC\t1\nC\t0\nC\t1\nC\t0\nS\t1\nT\t10\nW\t0\nT\t01\nS\t0\n",
         size,
+    );
+}
+
+// The M95M01: a WRITE of 5Ah to cell 1FFFFh, whose first address byte is FFh. A microsecond before its cycle ends RDSR
+// shows 03h; then a READ shows the cell.
+fn large() {
+    tell_on(
+        M95M01,
+        b"the M95M01",
+        b"S\t0\nC\t1\nC\t0\nC\t1\nC\t0\nC\t1\nC\t0\nC\t1\nC\t0\nC\t1\nC\t0\nD\t1\nC\t1\nC\t0\nC\t1\nC\t0\nD\t0\nC\t1\n\
+        C\t0\nS\t1\n\
+        S\t0\nC\t1\nC\t0\nC\t1\nC\t0\nC\t1\nC\t0\nC\t1\nC\t0\nC\t1\nC\t0\nC\t1\nC\t0\nD\t1\nC\t1\nC\t0\nD\t0\nC\t1\n\
+        C\t0\nD\t1\nC\t1\nC\t0\nC\t1\nC\t0\nC\t1\nC\t0\nC\t1\nC\t0\nC\t1\nC\t0\nC\t1\nC\t0\nC\t1\nC\t0\nC\t1\nC\t0\n\
+        C\t1\nC\t0\nC\t1\nC\t0\nC\t1\nC\t0\nC\t1\nC\t0\nC\t1\nC\t0\nC\t1\nC\t0\nC\t1\nC\t0\nC\t1\nC\t0\nC\t1\nC\t0\n\
+        C\t1\nC\t0\nC\t1\nC\t0\nC\t1\nC\t0\nC\t1\nC\t0\nC\t1\nC\t0\nC\t1\nC\t0\nC\t1\nC\t0\nD\t0\nC\t1\nC\t0\nD\t1\n\
+        C\t1\nC\t0\nD\t0\nC\t1\nC\t0\nD\t1\nC\t1\nC\t0\nC\t1\nC\t0\nD\t0\nC\t1\nC\t0\nD\t1\nC\t1\nC\t0\nD\t0\nC\t1\n\
+        C\t0\nS\t1\n\
+        T\t3999\nS\t0\nC\t1\nC\t0\nC\t1\nC\t0\nC\t1\nC\t0\nC\t1\nC\t0\nC\t1\nC\t0\nD\t1\nC\t1\nC\t0\nD\t0\nC\t1\n\
+        C\t0\nD\t1\nC\t1\nC\t0\nC\t1\nC\t0\nC\t1\nC\t0\nC\t1\nC\t0\nC\t1\nC\t0\nC\t1\nC\t0\nC\t1\nC\t0\nC\t1\nC\t0\n\
+        C\t1\nC\t0\nS\t1\n\
+        T\t4000\nS\t0\nD\t0\nC\t1\nC\t0\nC\t1\nC\t0\nC\t1\nC\t0\nC\t1\nC\t0\nC\t1\nC\t0\nC\t1\nC\t0\nD\t1\nC\t1\n\
+        C\t0\nC\t1\nC\t0\nD\t0\nC\t1\nC\t0\nC\t1\nC\t0\nC\t1\nC\t0\nC\t1\nC\t0\nC\t1\nC\t0\nC\t1\nC\t0\nC\t1\nC\t0\n\
+        D\t1\nC\t1\nC\t0\nC\t1\nC\t0\nC\t1\nC\t0\nC\t1\nC\t0\nC\t1\nC\t0\nC\t1\nC\t0\nC\t1\nC\t0\nC\t1\nC\t0\nC\t1\n\
+        C\t0\nC\t1\nC\t0\nC\t1\nC\t0\nC\t1\nC\t0\nC\t1\nC\t0\nC\t1\nC\t0\nC\t1\nC\t0\nC\t1\nC\t0\nC\t1\nC\t0\nC\t1\n\
+        C\t0\nC\t1\nC\t0\nC\t1\nC\t0\nC\t1\nC\t0\nC\t1\nC\t0\nC\t1\nC\t0\nC\t1\nC\t0\nC\t1\nC\t0\nS\t1\n",
+        64,
     );
 }
 
@@ -290,9 +345,14 @@ fn million(memory: &mut [u8], identification: &mut [u8], out: &mut [u8]) {
 // ---- what is refused, by its number, and that the first in the order decides: a chunk of four bytes, which asks for
 // 59
 
-fn refused(what: &[u8], player: Player, memory: &mut [u8], out: &mut [u8]) {
-    let mut identification = player::identification();
-    let f = trace::feed(player, memory, &mut identification, b"S\t0\n", out);
+fn refused(
+    what: &[u8],
+    player: Player,
+    memory: &mut [u8],
+    identification: &mut [u8],
+    out: &mut [u8],
+) {
+    let f = trace::feed(player, memory, identification, b"S\t0\n", out);
     let answer = f.answer;
     say(what, answer.number() as u64);
 }
@@ -303,37 +363,56 @@ fn with_flag_2() -> Player {
     player
 }
 
-fn refused_memory(out: &mut [u8]) {
+fn refused_memory(identification: &mut [u8], out: &mut [u8]) {
     let mut memory = [0u8; 64];
     refused(
         b"a memory of 64 bytes",
         player::start(M95512),
         &mut memory,
+        identification,
         out,
     );
-    refused(b"and a flag of 2", with_flag_2(), &mut memory, out);
+    refused(
+        b"and a flag of 2",
+        with_flag_2(),
+        &mut memory,
+        identification,
+        out,
+    );
 }
 
-fn refused_player(memory: &mut [u8], out: &mut [u8]) {
+// The M95512's memory and page, lent to an M95M01.
+fn refused_part(memory: &mut [u8], identification: &mut [u8], out: &mut [u8]) {
+    refused(
+        b"the M95M01, a memory of 65536 bytes",
+        player::start(M95M01),
+        memory,
+        identification,
+        out,
+    );
+}
+
+fn refused_player(memory: &mut [u8], identification: &mut [u8], out: &mut [u8]) {
     let mut short = [0u8; 58];
-    refused(b"a flag of 2", with_flag_2(), memory, out);
+    refused(b"a flag of 2", with_flag_2(), memory, identification, out);
     refused(
         b"and an output of 58 bytes",
         with_flag_2(),
         memory,
+        identification,
         &mut short,
     );
 }
 
-fn refused_output(what: &[u8], memory: &mut [u8], out: &mut [u8]) {
-    refused(what, player::start(M95512), memory, out);
+fn refused_output(what: &[u8], memory: &mut [u8], identification: &mut [u8], out: &mut [u8]) {
+    refused(what, player::start(M95512), memory, identification, out);
 }
 
-fn refused_outputs(memory: &mut [u8]) {
+fn refused_outputs(memory: &mut [u8], identification: &mut [u8]) {
     let mut short = [0u8; 58];
-    refused_output(b"an output of 58 bytes", memory, &mut short);
+    refused_output(b"an output of 58 bytes", memory, identification, &mut short);
     let mut room = [0u8; 59];
-    refused_output(b"an output of 59 bytes", memory, &mut room);
+    refused_output(b"an output of 59 bytes", memory, identification, &mut room);
 }
 
 fn refused_end(what: &[u8], out: &mut [u8]) {
@@ -342,15 +421,26 @@ fn refused_end(what: &[u8], out: &mut [u8]) {
     say(what, answer.number() as u64);
 }
 
-fn refusals(memory: &mut [u8], out: &mut [u8]) {
+fn refusals(memory: &mut [u8], identification: &mut [u8], out: &mut [u8]) {
     title(b"refusals");
-    refused_memory(out);
-    refused_player(memory, out);
-    refused_outputs(memory);
+    refused_memory(identification, out);
+    refused_part(memory, identification, out);
+    refused_player(memory, identification, out);
+    refused_outputs(memory, identification);
     let mut short = [0u8; 18];
     refused_end(b"the end, an output of 18 bytes", &mut short);
     let mut room = [0u8; 19];
     refused_end(b"the end, an output of 19 bytes", &mut room);
+}
+
+// None of these texts shows or changes a cell: any bytes serve, as many as the M95512 has.
+fn long_texts() {
+    let mut memory = io::large_buffer();
+    let mut identification = [0u8; 128];
+    let mut out = io::large_buffer();
+    long_line(&mut memory, &mut identification, &mut out);
+    million(&mut memory, &mut identification, &mut out);
+    refusals(&mut memory, &mut identification, &mut out);
 }
 
 fn main() {
@@ -366,11 +456,6 @@ fn main() {
     cut(7);
     cut(64);
     cut(1000);
-    let mut memory = player::memory();
-    let mut identification = player::identification();
-    let mut out = io::large_buffer();
-    long_line(&mut memory, &mut identification, &mut out);
-    let mut again = player::memory();
-    million(&mut again, &mut identification, &mut out);
-    refusals(&mut again, &mut out);
+    large();
+    long_texts();
 }

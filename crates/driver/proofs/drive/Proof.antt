@@ -1,4 +1,6 @@
-use mathlib.Core.Path.{refl, ap, sym, _∙_}
+use Prim.Native.Nat.{_+_, _≤_}
+use mathlib.Core.Path.{_≡_, refl, ap, sym, _∙_}
+use lib.ListN.{length}
 use native.Mathlib.Omega.{arith}
 use Rattle.codes.specs.Part.{Part}
 use Rattle.chip.specs.Records.{ownPart}
@@ -6,6 +8,7 @@ use Rattle.codes.proofs.Sound.{sound-of}
 use Rattle.frames.specs.Play.{FrameBench, frameBench}
 use Rattle.driver.specs.Sequence.{firstWait, Run, allParts}
 use Rattle.driver.specs.Answers.{leaves, partsDriven}
+use Rattle.driver.proofs.Ready.{at-own}
 use Rattle.driver.proofs.Left.{Left, left}
 use Rattle.driver.proofs.Joined.{first-most}
 use Rattle.driver.proofs.Seen.{seen-wip, seen-touches}
@@ -13,12 +16,6 @@ use Rattle.driver.proofs.Drives.{drove-none, drove-late, drove-touches,
 use borrow.Author.Needs.{needs}
 use Rattle.driver.proofs.drive.Statement.{statement}
 use Rattle.driver.proofs.drive.Tie as tie
-use Rattle.driver.proofs.drive.Reads as reads
-use Rattle.driver.proofs.drive.Lts as lts
-use Rattle.driver.proofs.pages.write_parts.Reads as write-parts-reads
-use Rattle.driver.proofs.status.block_touched.Reads as block-touched-reads
-use Rattle.driver.proofs.status.wip.Reads as wip-reads
-use Rattle.driver.proofs.waiting.first_wait.Reads as first-wait-reads
 
 returns : tie.Need-returns
 returns c =
@@ -97,8 +94,17 @@ write-parts-requires c κs =
     let wait = w .first-wait in
     let rest = went w in
     let most = first-most P (a .interval) (a .limit) d (start .pre .1 .1 .1 .1 .0) in (
-      rest .ready .whole,
-      (rest .ready .page, (rest .ranges, (start .pre .1 .1 .1 .1, omega (arith, wait .ensures .1 .1 .0, start .pre .1 .1 .1 .1 .1)))),
+      at-own (rest .stays) (λ (Q : Part). length (wait .last .1 .0) ≡ Q .size) (rest .ready .whole),
+      (
+        at-own (rest .stays) (λ (Q : Part). length (wait .last .1 .1 .0) ≡ Q .page) (rest .ready .page),
+        (
+          rest .ranges,
+          (
+            at-own (rest .stays) (λ (Q : Part). (1 ≤ a .limit) × (a .limit ≤ Q .longest + 1)) (start .pre .1 .1 .1 .1),
+            at-own (rest .stays) (λ (Q : Part). wait .result .frames ≤ Q .longest + 1) (omega (arith, wait .ensures .1 .1 .0, start .pre .1 .1 .1 .1 .1)),
+          ),
+        ),
+      ),
     )
 
 same-length-5 : tie.Need-same-length-5

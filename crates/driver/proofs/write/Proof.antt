@@ -4,10 +4,6 @@ use Rattle.driver.proofs.Outcomes.{taken, drove, refused}
 use borrow.Author.Needs.{needs}
 use Rattle.driver.proofs.write.Statement.{statement}
 use Rattle.driver.proofs.write.Tie as tie
-use Rattle.driver.proofs.write.Reads as reads
-use Rattle.driver.proofs.write.Lts as lts
-use Rattle.driver.proofs.drive.Reads as drive-reads
-use Rattle.driver.proofs.refused.outcome.Reads as outcome-reads
 
 outcome-requires : tie.Need-outcome-requires
 outcome-requires c κs = search needs

@@ -1,10 +1,10 @@
+-- The later is stored in page 0 of the bytes, which is all of them; the four words by their places.
 use mathlib.Core.Path.{_≡_, refl}
 use lib.ListN.{length}
 use Rattle.laws.specs.Table.{table, from}
 use Rattle.laws.specs.Marks.{orWords}
-use Rattle.codes.specs.Part.{m95512}
-use Rattle.codes.proofs.Sound.{m95512-sound}
-use Rattle.laying.proofs.Laying.{stored-alone}
+use Rattle.codes.specs.Part.{room}
+use Rattle.laying.proofs.Laying.{stored-room}
 use borrow.Author.Needs.{needs}
 use Rattle.laying.proofs.over.Statement.{statement}
 use Rattle.laying.proofs.over.Tie as tie
@@ -27,12 +27,24 @@ array-read-t19 c = search needs
 array-read-t22 : tie.Need-array-read-t22
 array-read-t22 c = search needs
 
+array-read-t26 : tie.Need-array-read-t26
+array-read-t26 c = search needs
+
+array-read-t29 : tie.Need-array-read-t29
+array-read-t29 c = search needs
+
+array-read-t33 : tie.Need-array-read-t33
+array-read-t33 c = search needs
+
+array-read-t36 : tie.Need-array-read-t36
+array-read-t36 c = search needs
+
 returns : tie.Need-returns
 unfolding orWords table from
 returns c =
     let a = c .before .before .before .before .before .before .args in
-    let long : length (a .earlier .bytes) ≡ 128 = search needs in
-    rw (c .before .store .ensures, stored-alone m95512 m95512-sound (a .later) (a .earlier .bytes) long) refl
+    let long : length (a .earlier .bytes) ≡ room = search needs in
+    rw (c .before .store .ensures, stored-room (a .later) (a .earlier .bytes) long) refl
 
 pub over-spec : {M : Type 1} → statement M
 over-spec =
@@ -44,4 +56,8 @@ over-spec =
     array-read-t15
     array-read-t19
     array-read-t22
+    array-read-t26
+    array-read-t29
+    array-read-t33
+    array-read-t36
     returns)

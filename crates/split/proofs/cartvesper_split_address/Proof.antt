@@ -1,7 +1,8 @@
 use mathlib.Core.Path.{sym, _∙_}
 use native.Mathlib.Omega.{arith}
-use Rattle.split.proofs.Parts.{there}
+use Rattle.codes.specs.Part.{partOf}
 use Rattle.split.proofs.Numbers.{address-there, address-absent}
+use Rattle.split.proofs.Few.{few}
 use borrow.Author.Needs.{needs}
 use Rattle.split.proofs.cartvesper_split_address.Statement.{statement}
 use Rattle.split.proofs.cartvesper_split_address.Tie as tie
@@ -12,18 +13,19 @@ count-requires c κs = search needs
 start-requires : tie.Need-start-requires
 start-requires c κs =
     let a = c .before .before .args in
-    let t = there 65536 128 (a .address) (a .length) {k = a .part} (omega arith) in
-    (omega arith, omega arith)
+    few (a .chip) (a .address) (a .length) (a .part) (omega arith)
 
 returns : tie.Need-returns
 returns c =
     let a = c .before .before .before .args in
-    c .start .ensures ∙ sym (address-there 65536 128 (a .address) (a .length) (a .part) (omega arith))
+    let P = partOf (a .chip) in
+    c .start .ensures ∙ sym (address-there (P .size) (P .page) (a .address) (a .length) (a .part) (omega arith))
 
 returns-2 : tie.Need-returns-2
 returns-2 c =
     let a = c .before .before .args in
-    sym (address-absent 65536 128 (a .address) (a .length) (a .part) (omega arith))
+    let P = partOf (a .chip) in
+    sym (address-absent (P .size) (P .page) (a .address) (a .length) (a .part) (omega arith))
 
 pub cartvesper-split-address-spec : {M : Type 1} → statement M
 cartvesper-split-address-spec =

@@ -7,11 +7,11 @@ use Rattle.traces.proofs.in_chunks.Statement.{statement}
 use Rattle.traces.proofs.in_chunks.Tie as tie
 
 abbrev Inv-loop : tie.InvT-loop
-Inv-loop text size memory₀ identification₀ out₀ player₀ i₀ memory identification out player i =
+Inv-loop part text size memory₀ identification₀ out₀ player₀ i₀ memory identification out player i =
     (i ≤ length text) × (length memory ≡ length memory₀) × (length identification ≡ length identification₀) × (length out ≡ length out₀)
 
 abbrev μ-loop : tie.MeasureT-loop
-μ-loop text size memory₀ identification₀ out₀ player₀ i₀ memory identification out player i = length text - i
+μ-loop part text size memory₀ identification₀ out₀ player₀ i₀ memory identification out player i = length text - i
 
 start-requires : tie.Need-start-requires Inv-loop μ-loop
 start-requires c κs = tt

@@ -1,6 +1,7 @@
 use mathlib.Core.Path.{sym, _∙_}
+use Rattle.codes.proofs.Sound.{sound-of}
 use Rattle.chip.specs.Records.{ownPart}
-use Rattle.chip.proofs.Touching.{touched-counted, touched-refused}
+use Rattle.chip.proofs.Touching.{latch-inside, touched-counted, touched-refused}
 use borrow.Author.Needs.{needs}
 use Rattle.chip.proofs.Core.cells_touched.Statement.{statement}
 use Rattle.chip.proofs.Core.cells_touched.Tie as tie
@@ -14,7 +15,9 @@ touched-requires c κs = search needs
 returns : tie.Need-returns
 returns c =
     let fits = sym (c .before .before .in-ranges .ensures) ∙ c .before .if1 .taken in
-    touched-counted (ownPart (c .before .before .before .args .self)) _ (c .before .before .before .args .self) (c .touched .result) fits (c .touched .ensures)
+    let self = c .before .before .before .args .self in
+    touched-counted (ownPart self) _ self (c .touched .result) fits (sound-of (self .part)) (latch-inside (ownPart self) self fits)
+    (c .touched .ensures)
 
 returns-2 : tie.Need-returns-2
 returns-2 c = touched-refused (ownPart (c .before .before .args .self)) _ (c .before .before .args .self) (sym (c .before .in-ranges .ensures) ∙ c .if1 .left)

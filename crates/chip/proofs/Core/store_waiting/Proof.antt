@@ -1,6 +1,5 @@
-use mathlib.Core.Path.{refl, _∙_}
+use mathlib.Core.Path.{refl}
 use Rattle.laws.specs.Pick.{yes-so, no-so}
-use Rattle.latch.proofs.Stores.{stored-row}
 use borrow.Author.Needs.{needs}
 use Rattle.chip.proofs.Core.store_waiting.Statement.{statement}
 use Rattle.chip.proofs.Core.store_waiting.Tie as tie
@@ -15,7 +14,7 @@ returns : tie.Need-returns
 returns c =
     let a = c .before .before .before .before .before .before .before .args in
     yes-so (a .cells .now) (c .before .before .before .before .if1 .taken)
-    (c .before .before .store .ensures ∙ stored-row (a .self .part) (a .self .waits .page) (a .self .waits .latch) (a .cells .now))
+    (c .before .before .store .ensures)
 
 returns-2 : tie.Need-returns-2
 returns-2 c = no-so _ (c .if1 .left) refl

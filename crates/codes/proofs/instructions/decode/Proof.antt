@@ -4,6 +4,9 @@ use borrow.Author.Needs.{needs}
 use Rattle.codes.proofs.instructions.decode.Statement.{statement}
 use Rattle.codes.proofs.instructions.decode.Tie as tie
 
+identified-requires : tie.Need-identified-requires
+identified-requires c κs = search needs
+
 decode-identified-requires : tie.Need-decode-identified-requires
 decode-identified-requires c κs = search needs
 
@@ -33,12 +36,13 @@ returns-6 c = search arms depth 16
 
 returns-7 : tie.Need-returns-7
 unfolding decode
-returns-7 c = search arms depth 16
+returns-7 c = rw (← (c .before .identified .ensures)) (search arms depth 16)
 
 pub decode-spec : {M : Type 1} → statement M
 decode-spec =
     tie.close
     (tie.spec
+    identified-requires
     decode-identified-requires
     returns
     returns-2

@@ -12,6 +12,9 @@ known-requires c κs = search needs
 enum-told-2 : tie.Need-enum-told-2
 enum-told-2 c = search needs
 
+wrdi-in-cycle-requires : tie.Need-wrdi-in-cycle-requires
+wrdi-in-cycle-requires c κs = search needs
+
 known-requires-2 : tie.Need-known-requires-2
 known-requires-2 c κs = search needs
 
@@ -36,6 +39,9 @@ known-requires-5 c κs = search needs
 enum-told-6 : tie.Need-enum-told-6
 enum-told-6 c = search needs
 
+write-bits-of-requires : tie.Need-write-bits-of-requires
+write-bits-of-requires c κs = search needs
+
 known-requires-6 : tie.Need-known-requires-6
 known-requires-6 c κs = search needs
 
@@ -51,6 +57,9 @@ known-requires-7 c κs = search needs
 enum-told-8 : tie.Need-enum-told-8
 enum-told-8 c = search needs
 
+write-bits-of-requires-2 : tie.Need-write-bits-of-requires-2
+write-bits-of-requires-2 c κs = search needs
+
 known-requires-8 : tie.Need-known-requires-8
 known-requires-8 c κs = search needs
 
@@ -64,7 +73,7 @@ returns : tie.Need-returns
 returns c = rw (c .before .enum-told .given .1) (c .known .ensures)
 
 returns-2 : tie.Need-returns-2
-returns-2 c = rw (c .before .enum-told2 .given .1) (c .known2 .ensures)
+returns-2 c = rw (c .before .before .enum-told2 .given .1, ← (c .before .wrdi-in-cycle .ensures)) (c .known2 .ensures)
 
 returns-3 : tie.Need-returns-3
 returns-3 c = rw (c .before .enum-told3 .given .1) (c .known3 .ensures)
@@ -76,14 +85,14 @@ returns-5 : tie.Need-returns-5
 returns-5 c = rw (c .before .enum-told5 .given .1) (c .known5 .ensures)
 
 returns-6 : tie.Need-returns-6
-returns-6 c = rw (c .before .before .enum-told6 .given .1, c .in-hold .ensures, c .before .known6 .ensures)
+returns-6 c = rw (c .before .before .before .enum-told6 .given .1, c .in-hold .ensures, c .before .known6 .ensures, c .before .before .write-bits-of .ensures)
 
 returns-7 : tie.Need-returns-7
 returns-7 c = rw (c .before .enum-told7 .given .1) (c .known7 .ensures)
 
 returns-8 : tie.Need-returns-8
 unfolding pick
-returns-8 c = rw (c .before .enum-told8 .given .1) (c .known8 .ensures)
+returns-8 c = rw (c .before .before .enum-told8 .given .1, ← (c .before .write-bits-of2 .ensures)) (c .known8 .ensures)
 
 returns-9 : tie.Need-returns-9
 returns-9 c = search needs
@@ -95,6 +104,7 @@ table-spec =
     enum-told
     known-requires
     enum-told-2
+    wrdi-in-cycle-requires
     known-requires-2
     enum-told-3
     known-requires-3
@@ -103,11 +113,13 @@ table-spec =
     enum-told-5
     known-requires-5
     enum-told-6
+    write-bits-of-requires
     known-requires-6
     in-hold-requires
     enum-told-7
     known-requires-7
     enum-told-8
+    write-bits-of-requires-2
     known-requires-8
     enum-told-9
     unknown-requires

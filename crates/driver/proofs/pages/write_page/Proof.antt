@@ -1,28 +1,23 @@
 use mathlib.Core.Path.{_≡_, refl, ap, subst, _∙_}
 use mathlib.Core.Bool.{true}
 use mathlib.Core.List.{List, [], _∷_}
-use Prim.Native.Nat.{ℕ, _*_}
+use Prim.Native.Nat.{ℕ, _+_, _*_, _<_, _≤_}
 use native.Mathlib.Omega.{arith}
 use lib.ListN.{length}
 use Rattle.codes.specs.Part.{Part}
 use Rattle.chip.specs.Records.{ownPart, running}
 use Rattle.chip.specs.declared.Core.{Core}
+use Rattle.codes.proofs.Parts.{longest-most}
 use Rattle.codes.proofs.Sound.{sound-of}
 use Rattle.frames.specs.After.{after}
 use Rattle.frames.specs.Play.{FrameBench, actedAll, frameBench}
 use Rattle.driver.specs.Sequence.{wren, writeBytes, wrenAndWrite, pageWait}
-use Rattle.driver.proofs.Ready.{bench-of, ready-acted-all, own-acted, own-ranges}
+use Rattle.driver.proofs.Ready.{bench-of, ready-acted-all, own-acted, own-ranges, at-own}
 use Rattle.driver.specs.Told.{Told}
 use Rattle.driver.proofs.Joined.{told, page-acts, page-most}
 use borrow.Author.Needs.{needs}
 use Rattle.driver.proofs.pages.write_page.Statement.{statement}
 use Rattle.driver.proofs.pages.write_page.Tie as tie
-use Rattle.driver.proofs.pages.write_page.Reads as reads
-use Rattle.driver.proofs.pages.write_page.Lts as lts
-use Rattle.driver.proofs.sending.send.Reads as send-reads
-use Rattle.driver.proofs.sending.send_write.Reads as send-write-reads
-use Rattle.driver.proofs.waiting.Waited.and_sent.Reads as and-sent-reads
-use Rattle.driver.proofs.waiting.page_wait.Reads as page-wait-reads
 
 -- WREN and then WRITE, each at the part of its own record: the first one's
 both : (d : FrameBench) (enabled begun : Core) (a : ℕ) (bytes : List ℕ) → enabled ≡ actedAll (ownPart (d .core)) (wren ∷ []) d .core
@@ -32,14 +27,15 @@ both d enabled begun a bytes e h =
     let P = ownPart (d .core) in
     let s = writeBytes P a bytes in
     h
-    ∙ ap (λ (Q : Part). after Q (running enabled) true enabled s (8 * length s)) (own-acted P (wren ∷ []) d e)
+    ∙ ap (λ (Q : Part). after Q (running enabled) true enabled (writeBytes Q a bytes) (8 * length (writeBytes Q a bytes))) (own-acted P (wren ∷ []) d e)
     ∙ ap (λ (x : Core). after P (running x) true x s (8 * length s)) e
 
 slice-aggregate-send : tie.Need-slice-aggregate-send
 slice-aggregate-send c = search needs
 
 send-requires : tie.Need-send-requires
-send-requires c κs = search needs
+send-requires c κs =
+    (search needs, (search needs, (search needs, omega arith)))
 
 send-write-requires : tie.Need-send-write-requires
 send-write-requires c κs =
@@ -50,7 +46,20 @@ send-write-requires c κs =
     ready-acted-all P (sound-of (d .core .part)) (wren ∷ []) d (record { whole = start .pre .0; page = start .pre .1 .0; ranges = start .pre .1 .1 .0 }) in
     let sent = c .before .before .send .ensures in
     let same = own-acted P (wren ∷ []) d sent in
-    (start .pre .0, (start .pre .1 .0, (own-ranges same sent (ready .ranges), (start .pre .1 .1 .1 .0, start .pre .1 .1 .1 .1 .0))))
+    let m = start .args .memory .now in
+    let i = start .args .identification .now in (
+      at-own same (λ (Q : Part). length m ≡ Q .size) (start .pre .0),
+      (
+        at-own same (λ (Q : Part). length i ≡ Q .page) (start .pre .1 .0),
+        (
+          own-ranges same sent (ready .ranges),
+          (
+            at-own same (λ (Q : Part). start .args .address < Q .size) (start .pre .1 .1 .1 .0),
+            at-own same (λ (Q : Part). length (start .args .bytes .now) ≤ Q .page) (start .pre .1 .1 .1 .1 .0),
+          ),
+        ),
+      ),
+    )
 
 page-wait-requires : tie.Need-page-wait-requires
 page-wait-requires c κs =
@@ -61,7 +70,16 @@ page-wait-requires c κs =
     let acts = wrenAndWrite P (a .address) (a .bytes .now) in
     let ready = ready-acted-all P (sound-of (a .core .part)) acts d (record { whole = start .pre .0; page = start .pre .1 .0; ranges = start .pre .1 .1 .0 }) in
     let begun = both d _ _ (a .address) (a .bytes .now) (c .before .before .before .before .before .send .ensures) (c .before .before .send-write .ensures) in
-    (start .pre .0, (start .pre .1 .0, (own-ranges (own-acted P acts d begun) begun (ready .ranges), start .pre .1 .1 .1 .1 .1)))
+    let same = own-acted P acts d begun in (
+      at-own same (λ (Q : Part). length (a .memory .now) ≡ Q .size) (start .pre .0),
+      (
+        at-own same (λ (Q : Part). length (a .identification .now) ≡ Q .page) (start .pre .1 .0),
+        (
+          own-ranges same begun (ready .ranges),
+          at-own same (λ (Q : Part). (1 ≤ a .limit) × (a .limit ≤ Q .longest + 1)) (start .pre .1 .1 .1 .1 .1),
+        ),
+      ),
+    )
 
 and-sent-requires : tie.Need-and-sent-requires
 and-sent-requires c κs =
@@ -71,7 +89,7 @@ and-sent-requires c κs =
     frameBench (c .before .before .before .before .before .before .before .send-write .result) (start .args .memory .now)
     (start .args .identification .now) in
     let most = page-most (ownPart (x .core)) (start .args .interval) (start .args .limit) x (start .pre .1 .1 .1 .1 .1 .0) in
-    omega (arith, wait .ensures .1 .1 .0)
+    omega (arith, wait .ensures .1 .1 .0, start .pre .1 .1 .1 .1 .1 .1, longest-most (start .args .core .part))
 
 same-length : tie.Need-same-length
 same-length c = search needs

@@ -13,11 +13,6 @@ use Rattle.driver.proofs.Parts.{lies, part-bytes}
 use borrow.Author.Needs.{needs}
 use Rattle.driver.proofs.pages.write_part.Statement.{statement}
 use Rattle.driver.proofs.pages.write_part.Tie as tie
-use Rattle.driver.proofs.pages.write_part.Reads as reads
-use Rattle.driver.proofs.pages.write_part.Lts as lts
-use Rattle.driver.proofs.pages.write_page.Reads as write-page-reads
-use Rattle.split.proofs.cartvesper_split_address.Reads as cartvesper-split-address-reads
-use Rattle.split.proofs.cartvesper_split_length.Reads as cartvesper-split-length-reads
 
 cartvesper-split-address-requires : tie.Need-cartvesper-split-address-requires
 cartvesper-split-address-requires c κs = search needs
@@ -100,7 +95,7 @@ returns c =
     (long .ensures) (at .result - a .address + long .result - (at .result - a .address)) (omega arith) in
     let Wrote : ℕ → List ℕ → Type 0 =
     λ s l. Told P (pageActs P (a .interval) (a .limit) s l d) d (page .result) (page .last .1 .0) (page .last .1 .1 .0) in
-    subst (λ (s : ℕ). Wrote s (piece 65536 128 (a .address) (a .bytes .now) (a .k))) (at .ensures)
+    subst (λ (s : ℕ). Wrote s (piece (P .size) (P .page) (a .address) (a .bytes .now) (a .k))) (at .ensures)
     (subst (Wrote (at .result)) bytes (page .ensures))
 
 pub write-part-spec : {M : Type 1} → statement M

@@ -3,29 +3,26 @@ use Prim.Native.Nat.{ℕ, _+_, _-_, _*_, _<_, _≤_}
 use native.Mathlib.Omega.{arith}
 use lib.ListN.{length}
 use Rattle.chip.specs.Records.{ownPart}
+use Rattle.codes.specs.Part.{Part}
+use Rattle.codes.proofs.Parts.{longest-most}
 use Rattle.codes.proofs.Sound.{sound-of}
 use Rattle.split.specs.Split.{count, splitAddress}
 use Rattle.split.specs.Pieces.{piece}
 use Rattle.split.proofs.Numbers.{parts-asked}
 use Rattle.frames.specs.Play.{FrameBench, frameBench}
-use Rattle.driver.proofs.Ready.{Ready, own-ranges}
+use Rattle.driver.proofs.Ready.{Ready, own-ranges, at-own}
 use Rattle.driver.proofs.Left.{Left}
 use Rattle.driver.proofs.Joined.{acts-most}
 use Rattle.driver.proofs.Seen.{seen-wip}
-use Rattle.driver.proofs.Runs.{partActs, part-left, Rest, ended-of, rest-first, rest-next, rest-late, rest-done, parts-few}
+use Rattle.driver.proofs.Runs.{partActs, part-left, Rest, ended-of, rest-first, rest-next, rest-late, rest-done, pages-few, parts-few}
 use Rattle.driver.proofs.pages.write_parts.Statement.{statement}
 use Rattle.driver.proofs.pages.write_parts.Tie as tie
-use Rattle.driver.proofs.pages.write_parts.Reads as reads
-use Rattle.driver.proofs.pages.write_parts.Lts as lts
-use Rattle.driver.proofs.status.wip.Reads as wip-reads
-use Rattle.driver.proofs.pages.write_part.Reads as write-part-reads
-use Rattle.split.proofs.cartvesper_split_parts.Reads as cartvesper-split-parts-reads
 
 abbrev Inv-loop : tie.InvT-loop
 Inv-loop memory₀ identification₀ address bytes interval limit sent parts next₀ frames₀ k₀ memory identification next frames k =
     (k ≤ parts)
     × ((frames ≤ 5001 + 5003 * k)
-    × ((parts ≡ count 65536 128 address (length bytes))
+    × ((parts ≡ count (ownPart next₀ .size) (ownPart next₀ .page) address (length bytes))
     × ((ownPart next ≡ ownPart next₀)
     × (Ready (ownPart next₀) (frameBench next memory identification)
     × Rest (ownPart next₀) interval limit address bytes parts sent (frameBench next₀ memory₀ identification₀) k frames
@@ -40,10 +37,10 @@ cartvesper-split-parts-requires c κs = tt
 loop-holds : tie.Need-loop-holds Inv-loop μ-loop
 loop-holds c =
     let start = c .before .before .before .before in
-    let parts = c .cartvesper-split-parts .ensures ∙ parts-asked 65536 128 (start .args .address) (length (start .args .bytes .now)) in
+    let parts = c .cartvesper-split-parts .ensures ∙ parts-asked (ownPart (start .args .core) .size) (ownPart (start .args .core) .page) (start .args .address) (length (start .args .bytes .now)) in
     let ready : Ready (ownPart (start .args .core)) (frameBench (start .args .core) (start .args .memory .now) (start .args .identification .now)) =
     record { whole = start .pre .0; page = start .pre .1 .0; ranges = start .pre .1 .1 .0 } in
-    (omega arith, (omega arith, (parts, (refl, (ready, rest-first (ownPart (start .args .core)) _ _ _ _ _ _ _)))))
+    (omega arith, (omega (arith, start .pre .1 .1 .1 .1, longest-most (start .args .core .part)), (parts, (refl, (ready, rest-first (ownPart (start .args .core)) _ _ _ _ _ _ _)))))
 
 write-part-requires : tie.Need-write-part-requires Inv-loop μ-loop
 write-part-requires c κs =
@@ -52,7 +49,19 @@ write-part-requires c κs =
     let l = c .before .before .before .loop in
     let ready = l .inv .1 .1 .1 .1 .0 in
     let below = subst (λ (n : ℕ). l .k < n) (l .inv .1 .1 .0) (c .before .before .loop-test .taken) in
-    (ready .whole, (ready .page, (own-ranges (l .inv .1 .1 .1 .0) refl (ready .ranges), (start .pre .1 .1 .1 .0, below))))
+    let same = l .inv .1 .1 .1 .0 in (
+      at-own same (λ (Q : Part). length (l .memory) ≡ Q .size) (ready .whole),
+      (
+        at-own same (λ (Q : Part). length (l .identification) ≡ Q .page) (ready .page),
+        (
+          own-ranges same refl (ready .ranges),
+          (
+            at-own same (λ (Q : Part). (1 ≤ a .limit) × (a .limit ≤ Q .longest + 1)) (start .pre .1 .1 .1 .0),
+            at-own same (λ (Q : Part). l .k < count (Q .size) (Q .page) (a .address) (length (a .bytes .now))) below,
+          ),
+        ),
+      ),
+    )
 
 -- after part k: what it left
 went : (w : tie.After-write-part Inv-loop μ-loop) → let a = w .before .before .before .before .before .before .before .before .before .args in
@@ -74,8 +83,8 @@ few-frames w =
     let a = w .before .before .before .before .before .before .before .before .before .args in
     let l = w .before .before .before .before .loop in
     let sends =
-    acts-most (ownPart (a .core)) (a .interval) (a .limit) (splitAddress 65536 128 (a .address) (length (a .bytes .now)) (l .k))
-    (piece 65536 128 (a .address) (a .bytes .now) (l .k)) (frameBench (l .next) (l .memory) (l .identification))
+    acts-most (ownPart (a .core)) (a .interval) (a .limit) (splitAddress (ownPart (a .core) .size) (ownPart (a .core) .page) (a .address) (length (a .bytes .now)) (l .k))
+    (piece (ownPart (a .core) .size) (ownPart (a .core) .page) (a .address) (a .bytes .now) (l .k)) (frameBench (l .next) (l .memory) (l .identification))
     (w .before .before .before .before .before .before .before .before .before .pre .1 .1 .1 .0 .0) in
     omega (arith, went w .told .1 .1 .0)
 
@@ -89,7 +98,7 @@ add-frames c =
     let few = parts-few (ownPart (a .core)) (sound-of (a .core .part)) (a .address) (length (a .bytes .now)) in
     let all = l .inv .1 .1 .0 in
     let below = c .before .before .before .before .before .before .before .before .before .loop-test .taken in
-    omega (arith, l .inv .1 .0)
+    omega (arith, l .inv .1 .0, start .pre .1 .1 .1 .0 .1, longest-most (a .core .part), pages-few (a .core .part))
 
 wip-requires : tie.Need-wip-requires Inv-loop μ-loop
 wip-requires c κs = tt
@@ -101,7 +110,7 @@ cast-t22 c =
     let l = c .before .before .before .before .before .before .before .before .before .before .before .before .loop in
     let few = parts-few (ownPart (a .core)) (sound-of (a .core .part)) (a .address) (length (a .bytes .now)) in
     let all = l .inv .1 .1 .0 in
-    omega (arith, l .inv .0)
+    omega (arith, l .inv .0, pages-few (a .core .part))
 
 same-length : tie.Need-same-length Inv-loop μ-loop
 same-length c =
@@ -140,7 +149,7 @@ add-k c =
     let few = parts-few (ownPart (a .core)) (sound-of (a .core .part)) (a .address) (length (a .bytes .now)) in
     let all = l .inv .1 .1 .0 in
     let below = c .before .before .before .before .before .before .before .before .before .before .before .loop-test .taken in
-    omega arith
+    omega (arith, pages-few (a .core .part))
 
 loop-less : tie.Need-loop-less Inv-loop μ-loop
 loop-less c =
@@ -168,7 +177,7 @@ loop-again c =
     let rest =
     rest-next P (a .interval) (a .limit) (a .address) (a .bytes .now) parts (a .sent) _ (l .k) (l .frames) (part .result .frames) d _ below (left .leaves) counts idle
     (l .inv .1 .1 .1 .1 .1) in
-    (omega arith, (omega (arith, l .inv .1 .0, start .pre .1 .1 .1 .0 .1), (l .inv .1 .1 .0, (left .stays, (left .ready, rest)))))
+    (omega arith, (omega (arith, l .inv .1 .0, start .pre .1 .1 .1 .0 .1, longest-most (a .core .part)), (l .inv .1 .1 .0, (left .stays, (left .ready, rest)))))
 
 cast-t25 : tie.Need-cast-t25 Inv-loop μ-loop
 cast-t25 c =
@@ -177,7 +186,7 @@ cast-t25 c =
     let l = c .before .loop in
     let few = parts-few (ownPart (a .core)) (sound-of (a .core .part)) (a .address) (length (a .bytes .now)) in
     let all = l .inv .1 .1 .0 in
-    omega (arith, l .inv .0)
+    omega (arith, l .inv .0, pages-few (a .core .part))
 
 same-length-3 : tie.Need-same-length-3 Inv-loop μ-loop
 same-length-3 c =

@@ -2,12 +2,6 @@ use Rattle.laws.specs.Pick.{arms}
 use borrow.Author.Needs.{needs}
 use Rattle.driver.proofs.refused.outcome.Statement.{statement}
 use Rattle.driver.proofs.refused.outcome.Tie as tie
-use Rattle.driver.proofs.refused.outcome.Reads as reads
-use Rattle.driver.proofs.refused.outcome.Lts as lts
-use Rattle.chip.proofs.Core.in_ranges.Reads as in-ranges-reads
-use Rattle.chip.proofs.lent_fits.Reads as lent-fits-reads
-use Rattle.driver.proofs.refused.polls_fit.Reads as polls-fit-reads
-use Rattle.driver.proofs.refused.run_fits.Reads as run-fits-reads
 
 lent-fits-requires : tie.Need-lent-fits-requires
 lent-fits-requires c κs = search needs

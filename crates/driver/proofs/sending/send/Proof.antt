@@ -1,7 +1,11 @@
 use mathlib.Core.Path.{ap, _∙_}
-use Prim.Native.Nat.{_-_, _≤_}
+use Prim.Native.Nat.{ℕ, _+_, _-_, _≤_}
 use native.Mathlib.Omega.{arith}
+use lib.Dec.{lit≤}
 use lib.ListN.{length}
+use Rattle.codes.specs.Part.{Part, partOf}
+use Rattle.codes.proofs.Parts.{of-each}
+use Rattle.fields.specs.Counts.{longestFrame}
 use Rattle.chip.specs.Records.{ownPart}
 use Rattle.chip.proofs.Readings.{lent-both}
 use Rattle.frames.specs.declared.Framed.{Framed}
@@ -9,16 +13,19 @@ use Rattle.driver.proofs.Frames.{sent-core, part-length}
 use borrow.Author.Needs.{needs}
 use Rattle.driver.proofs.sending.send.Statement.{statement}
 use Rattle.driver.proofs.sending.send.Tie as tie
-use Rattle.driver.proofs.sending.send.Reads as reads
-use Rattle.driver.proofs.sending.send.Lts as lts
-use Rattle.driver.proofs.sending.room.Reads as room-reads
-use Rattle.frames.proofs.frame.Reads as frame-reads
+
+-- the code, the address and a page: room for them, and fewer than a memory has cells
+longest : (n : ℕ) → partOf n .addressBytes + 1 + partOf n .page ≤ 260
+longest n = of-each (λ (P : Part). P .addressBytes + 1 + P .page ≤ 260) n (lit≤ tt) (lit≤ tt) (lit≤ tt)
+
+room-in-size : (n : ℕ) → partOf n .addressBytes + 1 + partOf n .page ≤ partOf n .size + 4
+room-in-size n = of-each (λ (P : Part). P .addressBytes + 1 + P .page ≤ P .size + 4) n (lit≤ tt) (lit≤ tt) (lit≤ tt)
 
 room-requires : tie.Need-room-requires
 room-requires c κs = search needs
 
 mul-frame : tie.Need-mul-frame
-mul-frame c = search needs
+mul-frame c = omega (arith, longest (c .before .before .before .before .args .core .part))
 
 sub-frame : tie.Need-sub-frame
 sub-frame c = search needs
@@ -27,7 +34,7 @@ part-out-start : tie.Need-part-out-start
 part-out-start c = search needs
 
 part-out-end : tie.Need-part-out-end
-part-out-end c = search needs
+part-out-end c = omega (arith, longest (c .before .before .before .before .args .core .part), c .room .ensures)
 
 frame-requires : tie.Need-frame-requires
 frame-requires c κs = search needs
@@ -38,13 +45,13 @@ returns c =
     let start = c .before .before .before .before .before .before .before .before in
     let n = length (start .args .bytes .now) in
     let room = c .before .before .before .before .room in
-    let short : n ≤ 65540 = omega (arith, start .pre .1 .1 .1) in
+    let short : n ≤ longestFrame (ownPart (start .args .core)) = omega (arith, start .pre .1 .1 .1, room-in-size (start .args .core .part)) in
     let a = start .args in
     let P = ownPart (a .core) in
     let fits = lent-both P (length (a .memory .now)) (length (a .identification .now)) (start .pre .0) (start .pre .1 .0) in
     ap (λ (x : Framed). x .core) (f .ensures .0)
     ∙ sent-core P (a .core) (a .memory .now) (a .identification .now) (a .bytes .now) fits (start .pre .1 .1 .0) short
-    _ (part-length (room .result) (n - 0) n (omega arith) (omega arith))
+    _ (part-length (room .result) (n - 0) n (omega arith) (omega (arith, longest (start .args .core .part), room .ensures, start .pre .1 .1 .1)))
 
 pub send-spec : {M : Type 1} → statement M
 send-spec =

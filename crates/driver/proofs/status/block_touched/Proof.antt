@@ -1,3 +1,5 @@
+use native.Mathlib.Omega.{arith}
+use Rattle.codes.proofs.Parts.{size-most}
 use borrow.Author.Needs.{needs}
 use Rattle.driver.proofs.status.block_touched.Statement.{statement}
 use Rattle.driver.proofs.status.block_touched.Tie as tie
@@ -15,7 +17,7 @@ cast-result : tie.Need-cast-result
 cast-result c = search needs
 
 add-result : tie.Need-add-result
-add-result c = search needs
+add-result c = omega (arith, size-most (c .before .before .before .args .part))
 
 returns : tie.Need-returns
 returns c = rw (c .lowest-protected .ensures, c .before .bp0-of .ensures, c .before .before .bp1-of .ensures)

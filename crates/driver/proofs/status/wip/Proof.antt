@@ -3,8 +3,6 @@ use Rattle.codes.specs.Status.{on}
 use Rattle.driver.proofs.Seen.{low-bit}
 use Rattle.driver.proofs.status.wip.Statement.{statement}
 use Rattle.driver.proofs.status.wip.Tie as tie
-use Rattle.driver.proofs.status.wip.Reads as reads
-use Rattle.driver.proofs.status.wip.Lts as lts
 
 returns : tie.Need-returns
 returns c = ap on (low-bit (c .args .status))

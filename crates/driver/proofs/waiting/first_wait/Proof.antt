@@ -1,6 +1,7 @@
 use mathlib.Core.Path.{refl}
 use Prim.Native.Nat.{_-_}
 use native.Mathlib.Omega.{arith}
+use Rattle.codes.proofs.Parts.{longest-most}
 use Rattle.chip.specs.Records.{ownPart}
 use Rattle.frames.specs.Play.{FrameBench, frameBench}
 use Rattle.driver.proofs.Waits.{sent-most}
@@ -8,11 +9,6 @@ use Rattle.driver.proofs.Joined.{told, first-wait}
 use borrow.Author.Needs.{needs}
 use Rattle.driver.proofs.waiting.first_wait.Statement.{statement}
 use Rattle.driver.proofs.waiting.first_wait.Tie as tie
-use Rattle.driver.proofs.waiting.first_wait.Reads as reads
-use Rattle.driver.proofs.waiting.first_wait.Lts as lts
-use Rattle.driver.proofs.sending.poll.Reads as poll-reads
-use Rattle.driver.proofs.waiting.Waited.and_sent.Reads as and-sent-reads
-use Rattle.driver.proofs.waiting.poll_on.Reads as poll-on-reads
 
 poll-requires : tie.Need-poll-requires
 poll-requires c κs = search needs
@@ -29,7 +25,7 @@ and-sent-requires c κs =
     let wait = c .before .before .before .before .poll-on in
     let d : FrameBench = frameBench (a .core) (a .memory .now) (a .identification .now) in
     let most = c .before .before .before .before .before .before .before .before .before .before .pre .1 .1 .1 in
-    omega (arith, wait .ensures .1 .1 .0, sent-most (ownPart (a .core)) (a .interval) (a .limit - 1) d)
+    omega (arith, wait .ensures .1 .1 .0, sent-most (ownPart (a .core)) (a .interval) (a .limit - 1) d, longest-most (a .core .part))
 
 same-length : tie.Need-same-length
 same-length c = search needs

@@ -34,7 +34,7 @@ returns c =
     let P = ownPart (a .core) in
     let added = c .before .before .before .before .before .before .before .before .before .before .wrapping-add-u32 in
     let step = c .before .before .before .before .timed .ensures in (
-      step .0 ∙ ap (λ (n : ℕ). timed P n (a .core)) (added .ensures),
+      step .0 ∙ ap (λ (n : ℕ). timed n (a .core)) (added .ensures),
       (
         step .1 .0 ∙ ap (λ (n : ℕ). timedMemory P n (a .core) (a .memory .now)) (added .ensures),
         step .1 .1 ∙ ap (λ (n : ℕ). timedIdentification P n (a .core) (a .identification .now)) (added .ensures),
@@ -60,7 +60,7 @@ returns-2 c =
       c .with-time .ensures
           ∙ ap (λ (n : ℕ). withTime t n (a .core)) left
           ∙ sym (on-core P t (a .core) on)
-          ∙ ap (λ (n : ℕ). timed P n (a .core)) (added .ensures),
+          ∙ ap (λ (n : ℕ). timed n (a .core)) (added .ensures),
       (
         sym (no-end waitsPage P t (a .core) (a .memory .now) on)
             ∙ ap (λ (n : ℕ). timedMemory P n (a .core) (a .memory .now)) (added .ensures),

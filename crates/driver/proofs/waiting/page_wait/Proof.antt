@@ -1,26 +1,21 @@
-use mathlib.Core.Path.{ap, subst, _∙_}
+use mathlib.Core.Path.{_≡_, ap, subst, _∙_}
 use mathlib.Core.List.{[], _∷_}
 use Prim.Native.Nat.{_-_}
 use native.Mathlib.Omega.{arith}
 use lib.ListN.{length}
 use Rattle.codes.specs.Part.{Part}
 use Rattle.chip.specs.Records.{ownPart}
+use Rattle.codes.proofs.Parts.{longest-most}
 use Rattle.codes.proofs.Sound.{sound-of}
 use Rattle.frames.specs.Play.{FrameBench, acted, frameBench}
 use Rattle.driver.specs.Sequence.{moved, pollsOn}
-use Rattle.driver.proofs.Ready.{bench-of, ready-acted-all, own-acted, own-ranges}
+use Rattle.driver.proofs.Ready.{bench-of, ready-acted-all, own-acted, own-ranges, at-own}
 use Rattle.driver.proofs.Waits.{sent-most}
 use Rattle.driver.specs.Told.{Told}
 use Rattle.driver.proofs.Joined.{told, late-poll-leaves, page-wait}
 use borrow.Author.Needs.{needs}
 use Rattle.driver.proofs.waiting.page_wait.Statement.{statement}
 use Rattle.driver.proofs.waiting.page_wait.Tie as tie
-use Rattle.driver.proofs.waiting.page_wait.Reads as reads
-use Rattle.driver.proofs.waiting.page_wait.Lts as lts
-use Rattle.driver.proofs.sending.poll.Reads as poll-reads
-use Rattle.driver.proofs.waiting.Waited.and_sent.Reads as and-sent-reads
-use Rattle.driver.proofs.waiting.moved.Reads as moved-reads
-use Rattle.driver.proofs.waiting.poll_on.Reads as poll-on-reads
 
 moved-requires : tie.Need-moved-requires
 moved-requires c κs = search needs
@@ -42,8 +37,8 @@ poll-on-requires c κs =
     ready-acted-all P (sound-of (a .core .part)) (moved (a .interval) d ∷ []) d
     (record { whole = start .pre .0; page = start .pre .1 .0; ranges = start .pre .1 .1 .0 }) in
     let same = own-acted P (moved (a .interval) d ∷ []) d (next .ensures .0) in (
-      ap length (next .ensures .1 .0) ∙ ready .whole,
-      (ap length (next .ensures .1 .1) ∙ ready .page, (own-ranges same (next .ensures .0) (ready .ranges), c .before .before .poll .ensures)),
+      at-own same (λ (Q : Part). length (next .last .1 .0) ≡ Q .size) (ap length (next .ensures .1 .0) ∙ ready .whole),
+      (at-own same (λ (Q : Part). length (next .last .1 .1 .0) ≡ Q .page) (ap length (next .ensures .1 .1) ∙ ready .page), (own-ranges same (next .ensures .0) (ready .ranges), c .before .before .poll .ensures)),
     )
 
 and-sent-requires : tie.Need-and-sent-requires
@@ -54,7 +49,7 @@ and-sent-requires c κs =
     let x : FrameBench = frameBench (next .result) (next .last .1 .0) (next .last .1 .1 .0) in
     let most =
     c .before .before .before .before .before .before .before .before .before .before .before .before .before .before .before .before .before .pre .1 .1 .1 in
-    omega (arith, wait .ensures .1 .1 .0, sent-most (ownPart (next .result)) (a .interval) (a .limit - 1) x)
+    omega (arith, wait .ensures .1 .1 .0, sent-most (ownPart (next .result)) (a .interval) (a .limit - 1) x, longest-most (a .core .part))
 
 same-length : tie.Need-same-length
 same-length c = search needs

@@ -5,10 +5,10 @@ use Rattle.duel.proofs.cells.changed.Statement.{statement}
 use Rattle.duel.proofs.cells.changed.Tie as tie
 
 abbrev Inv-loop : tie.InvT-loop
-Inv-loop memory patterned run₀ i₀ run i = i ≤ 65536
+Inv-loop memory patterned run₀ i₀ run i = i ≤ 131072
 
 abbrev μ-loop : tie.MeasureT-loop
-μ-loop memory patterned run₀ i₀ run i = 65536 - i
+μ-loop memory patterned run₀ i₀ run i = 131072 - i
 
 loop-holds : tie.Need-loop-holds Inv-loop μ-loop
 loop-holds c = search needs

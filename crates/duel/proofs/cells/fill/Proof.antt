@@ -5,10 +5,10 @@ use Rattle.duel.proofs.cells.fill.Statement.{statement}
 use Rattle.duel.proofs.cells.fill.Tie as tie
 
 abbrev Inv-loop : tie.InvT-loop
-Inv-loop memory₀ patterned i₀ memory i = i ≤ 65536
+Inv-loop memory₀ patterned i₀ memory i = i ≤ 131072
 
 abbrev μ-loop : tie.MeasureT-loop
-μ-loop memory₀ patterned i₀ memory i = 65536 - i
+μ-loop memory₀ patterned i₀ memory i = 131072 - i
 
 loop-holds : tie.Need-loop-holds Inv-loop μ-loop
 loop-holds c = search needs

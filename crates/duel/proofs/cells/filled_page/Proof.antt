@@ -5,10 +5,10 @@ use Rattle.duel.proofs.cells.filled_page.Statement.{statement}
 use Rattle.duel.proofs.cells.filled_page.Tie as tie
 
 abbrev Inv-loop : tie.InvT-loop
-Inv-loop patterned page₀ i₀ page i = i ≤ 128
+Inv-loop patterned page₀ i₀ page i = i ≤ 256
 
 abbrev μ-loop : tie.MeasureT-loop
-μ-loop patterned page₀ i₀ page i = 128 - i
+μ-loop patterned page₀ i₀ page i = 256 - i
 
 loop-holds : tie.Need-loop-holds Inv-loop μ-loop
 loop-holds c = search needs

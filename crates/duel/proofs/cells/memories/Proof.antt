@@ -5,10 +5,10 @@ use Rattle.duel.proofs.cells.memories.Statement.{statement}
 use Rattle.duel.proofs.cells.memories.Tie as tie
 
 abbrev Inv-loop : tie.InvT-loop
-Inv-loop frame_side pin_side run₀ i₀ t5 run i = i ≤ 65536
+Inv-loop frame_side pin_side run₀ i₀ t5 run i = i ≤ 131072
 
 abbrev μ-loop : tie.MeasureT-loop
-μ-loop frame_side pin_side run₀ i₀ t5 run i = 65536 - i
+μ-loop frame_side pin_side run₀ i₀ t5 run i = 131072 - i
 
 loop-holds : tie.Need-loop-holds Inv-loop μ-loop
 loop-holds c = search needs

@@ -5,10 +5,10 @@ use Rattle.duel.proofs.cells.pages.Statement.{statement}
 use Rattle.duel.proofs.cells.pages.Tie as tie
 
 abbrev Inv-loop : tie.InvT-loop
-Inv-loop run₀ frame-side pin-side i₀ t7 run i = i ≤ 128
+Inv-loop run₀ frame-side pin-side i₀ t7 run i = i ≤ 256
 
 abbrev μ-loop : tie.MeasureT-loop
-μ-loop run₀ frame-side pin-side i₀ t7 run i = 128 - i
+μ-loop run₀ frame-side pin-side i₀ t7 run i = 256 - i
 
 loop-holds : tie.Need-loop-holds Inv-loop μ-loop
 loop-holds c = search needs

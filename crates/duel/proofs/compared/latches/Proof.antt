@@ -5,10 +5,10 @@ use Rattle.duel.proofs.compared.latches.Statement.{statement}
 use Rattle.duel.proofs.compared.latches.Tie as tie
 
 abbrev Inv-loop : tie.InvT-loop
-Inv-loop run₀ frame-side pin-side i₀ t7 run i = i ≤ 128
+Inv-loop run₀ frame-side pin-side i₀ t7 run i = i ≤ 256
 
 abbrev μ-loop : tie.MeasureT-loop
-μ-loop run₀ frame-side pin-side i₀ t7 run i = 128 - i
+μ-loop run₀ frame-side pin-side i₀ t7 run i = 256 - i
 
 loop-holds : tie.Need-loop-holds Inv-loop μ-loop
 loop-holds c = search needs
@@ -52,6 +52,24 @@ element-copy-out-word-4 c = search needs
 word-requires-2 : tie.Need-word-requires-2 Inv-loop μ-loop
 word-requires-2 c κs = search needs
 
+element-copy-out-word-5 : tie.Need-element-copy-out-word-5 Inv-loop μ-loop
+element-copy-out-word-5 c = search needs
+
+element-copy-out-word-6 : tie.Need-element-copy-out-word-6 Inv-loop μ-loop
+element-copy-out-word-6 c = search needs
+
+word-requires-3 : tie.Need-word-requires-3 Inv-loop μ-loop
+word-requires-3 c κs = search needs
+
+element-copy-out-word-7 : tie.Need-element-copy-out-word-7 Inv-loop μ-loop
+element-copy-out-word-7 c = search needs
+
+element-copy-out-word-8 : tie.Need-element-copy-out-word-8 Inv-loop μ-loop
+element-copy-out-word-8 c = search needs
+
+word-requires-4 : tie.Need-word-requires-4 Inv-loop μ-loop
+word-requires-4 c κs = search needs
+
 returns : tie.Need-returns Inv-loop μ-loop
 returns c = search needs
 
@@ -75,4 +93,10 @@ latches-spec =
     element-copy-out-word-3
     element-copy-out-word-4
     word-requires-2
+    element-copy-out-word-5
+    element-copy-out-word-6
+    word-requires-3
+    element-copy-out-word-7
+    element-copy-out-word-8
+    word-requires-4
     returns)

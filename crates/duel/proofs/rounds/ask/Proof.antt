@@ -1,4 +1,4 @@
--- Both parts are as long as asked.
+-- Both lent slices are as long as asked.
 use mathlib.Core.Path.{sym}
 use native.Mathlib.Omega.{arith}
 use lib.Seq.{length-take-le}
@@ -6,8 +6,23 @@ use borrow.Author.Needs.{needs}
 use Rattle.duel.proofs.rounds.ask.Statement.{statement}
 use Rattle.duel.proofs.rounds.ask.Tie as tie
 
+size-of-requires : tie.Need-size-of-requires
+size-of-requires c κs = search needs
+
+first-requires : tie.Need-first-requires
+first-requires c κs = search needs
+
+page-of-requires : tie.Need-page-of-requires
+page-of-requires c κs = search needs
+
+first-requires-2 : tie.Need-first-requires-2
+first-requires-2 c κs = search needs
+
 slice-aggregate-frame : tie.Need-slice-aggregate-frame
-slice-aggregate-frame c = search needs
+slice-aggregate-frame c = sym (length-take-le _ _ (omega arith))
+
+slice-aggregate-frame-2 : tie.Need-slice-aggregate-frame-2
+slice-aggregate-frame-2 c = sym (length-take-le _ _ (omega arith))
 
 frame-requires : tie.Need-frame-requires
 frame-requires c κs = search needs
@@ -18,55 +33,16 @@ same-length c = search needs
 returns : tie.Need-returns
 returns c = search needs
 
-slice-aggregate-frame-2 : tie.Need-slice-aggregate-frame-2
-slice-aggregate-frame-2 c = search needs
-
-frame-requires-2 : tie.Need-frame-requires-2
-frame-requires-2 c κs = search needs
-
-same-length-2 : tie.Need-same-length-2
-same-length-2 c = search needs
-
-returns-2 : tie.Need-returns-2
-returns-2 c = search needs
-
-slice-aggregate-frame-3 : tie.Need-slice-aggregate-frame-3
-slice-aggregate-frame-3 c = search needs
-
-slice-aggregate-frame-4 : tie.Need-slice-aggregate-frame-4
-slice-aggregate-frame-4 c = sym (length-take-le _ _ (omega arith))
-
-slice-relend-prefix-frame : tie.Need-slice-relend-prefix-frame
-slice-relend-prefix-frame c = search needs
-
-slice-aggregate-frame-5 : tie.Need-slice-aggregate-frame-5
-slice-aggregate-frame-5 c = sym (length-take-le _ _ (omega arith))
-
-frame-requires-3 : tie.Need-frame-requires-3
-frame-requires-3 c κs = search needs
-
-same-length-3 : tie.Need-same-length-3
-same-length-3 c = search needs
-
-returns-3 : tie.Need-returns-3
-returns-3 c = search needs
-
 pub ask-spec : {M : Type 1} → statement M
 ask-spec =
     tie.close
     (tie.spec
+    size-of-requires
+    first-requires
+    page-of-requires
+    first-requires-2
     slice-aggregate-frame
+    slice-aggregate-frame-2
     frame-requires
     same-length
-    returns
-    slice-aggregate-frame-2
-    frame-requires-2
-    same-length-2
-    returns-2
-    slice-aggregate-frame-3
-    slice-aggregate-frame-4
-    slice-relend-prefix-frame
-    slice-aggregate-frame-5
-    frame-requires-3
-    same-length-3
-    returns-3)
+    returns)

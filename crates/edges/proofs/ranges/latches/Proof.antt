@@ -1,4 +1,6 @@
 -- Each arm is the clause of its instruction, by its call where it has one.
+use Rattle.codes.specs.Part.{partOf}
+use Rattle.edges.proofs.Nexts.{past-head}
 use borrow.Author.Needs.{needs}
 use Rattle.edges.proofs.ranges.latches.Statement.{statement}
 use Rattle.edges.proofs.ranges.latches.Tie as tie
@@ -21,6 +23,9 @@ enum-told-5 c = search needs
 enum-told-6 : tie.Need-enum-told-6
 enum-told-6 c = search needs
 
+head-of-requires : tie.Need-head-of-requires
+head-of-requires c κs = search needs
+
 enum-told-7 : tie.Need-enum-told-7
 enum-told-7 c = search needs
 
@@ -29,6 +34,9 @@ enum-told-8 c = search needs
 
 picks-lock-requires : tie.Need-picks-lock-requires
 picks-lock-requires c κs = search needs
+
+head-of-requires-2 : tie.Need-head-of-requires-2
+head-of-requires-2 c κs = search needs
 
 enum-told-9 : tie.Need-enum-told-9
 enum-told-9 c = search needs
@@ -49,13 +57,22 @@ returns-5 : tie.Need-returns-5
 returns-5 c = search needs
 
 returns-6 : tie.Need-returns-6
-returns-6 c = rw (c .enum-told6 .given .1)
+returns-6 c =
+    let a = c .before .before .before .args in
+    rw (c .before .enum-told6 .given .1, c .head-of .ensures .0, past-head (partOf (a .part) .addressBytes) (a .taken))
 
 returns-7 : tie.Need-returns-7
 returns-7 c = search needs
 
 returns-8 : tie.Need-returns-8
-returns-8 c = rw (c .before .enum-told8 .given .1, c .picks-lock .ensures)
+returns-8 c =
+    let a = c .before .before .before .before .args in
+    rw (
+      c .before .before .enum-told8 .given .1,
+      c .before .picks-lock .ensures,
+      c .head-of2 .ensures .0,
+      past-head (partOf (a .part) .addressBytes) (a .taken),
+    )
 
 returns-9 : tie.Need-returns-9
 returns-9 c = search needs
@@ -70,9 +87,11 @@ latches-spec =
     enum-told-4
     enum-told-5
     enum-told-6
+    head-of-requires
     enum-told-7
     enum-told-8
     picks-lock-requires
+    head-of-requires-2
     enum-told-9
     returns
     returns-2

@@ -1,4 +1,6 @@
 -- Each arm is the clause of its instruction, by its call where it has one.
+use Rattle.codes.specs.Part.{partOf}
+use Rattle.edges.proofs.Nexts.{past-head}
 use borrow.Author.Needs.{needs}
 use Rattle.edges.proofs.ranges.valued.Statement.{statement}
 use Rattle.edges.proofs.ranges.valued.Tie as tie
@@ -30,6 +32,9 @@ enum-told-8 c = search needs
 picks-lock-requires : tie.Need-picks-lock-requires
 picks-lock-requires c κs = search needs
 
+head-of-requires : tie.Need-head-of-requires
+head-of-requires c κs = search needs
+
 enum-told-9 : tie.Need-enum-told-9
 enum-told-9 c = search needs
 
@@ -55,7 +60,14 @@ returns-7 : tie.Need-returns-7
 returns-7 c = search needs
 
 returns-8 : tie.Need-returns-8
-returns-8 c = rw (c .before .enum-told8 .given .1, c .picks-lock .ensures)
+returns-8 c =
+    let a = c .before .before .before .before .args in
+    rw (
+      c .before .before .enum-told8 .given .1,
+      c .before .picks-lock .ensures,
+      c .head-of .ensures .0,
+      past-head (partOf (a .part) .addressBytes) (a .taken),
+    )
 
 returns-9 : tie.Need-returns-9
 returns-9 c = search needs
@@ -73,6 +85,7 @@ valued-spec =
     enum-told-7
     enum-told-8
     picks-lock-requires
+    head-of-requires
     enum-told-9
     returns
     returns-2

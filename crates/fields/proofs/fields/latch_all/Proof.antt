@@ -1,16 +1,20 @@
 -- What stays is the last page of the bytes: i of them do not, f go up to the page's end and h from its first cell.
 use Prim.Native.Nat.{ℕ, _<_, _≤_, _+_, _-_, _%_}
-use mathlib.Core.Path.{_≡_, refl, ap, sym, _∙_}
+use mathlib.Core.Path.{_≡_, ap, sym, _∙_}
 use native.Mathlib.Nat.{add-sub-cancel-left}
 use native.Mathlib.Omega.{arith}
 use lib.ListN.{length, take, drop, length-drop}
 use lib.Seq.{length-take-le}
-use Rattle.codes.specs.Part.{m95512}
+use Rattle.codes.specs.Part.{partOf}
+use Rattle.codes.proofs.Sound.{sound-of}
 use Rattle.latch.specs.Latches.{zeros}
 use Rattle.fields.proofs.Latching.{latched-runs}
 use borrow.Author.Needs.{needs}
 use Rattle.fields.proofs.fields.latch_all.Statement.{statement}
 use Rattle.fields.proofs.fields.latch_all.Tie as tie
+
+page-of-requires : tie.Need-page-of-requires
+page-of-requires c κs = search needs
 
 at-most-requires : tie.Need-at-most-requires
 at-most-requires c κs = search needs
@@ -79,7 +83,10 @@ returns : tie.Need-returns
 unfolding zeros
 returns c =
     let d = c .before .before .before .before .before .before .before .before .before in
-    let a = d .before .before .before .before .before .args in
+    let a = d .before .before .before .before .before .before .args in
+    let P = partOf (a .part) in
+    let s = sound-of (a .part) in
+    let page = d .before .before .before .before .page-of .ensures .0 in
     let vs = a .values .now in
     let n = length vs in
     let i = n - d .before .before .before .at-most .result in
@@ -88,20 +95,21 @@ returns c =
     let all : i + (f + h) ≡ n = omega arith in
     let first : length (take f (drop i vs)) ≡ f = length-take-le f (drop i vs) (simp length-drop (omega arith)) in
     let second : length (take h (drop (i + f) vs)) ≡ h = length-take-le h (drop (i + f) vs) (simp length-drop (omega arith)) in
-    let start : d .before .cell-of2 .result ≡ (a .address % 128 + i) % 128 =
-    d .before .cell-of2 .ensures ∙ ap (λ (k : ℕ). (k + i) % 128) (d .before .before .cell-of .ensures) in
-    let fits : (a .address % 128 + i) % 128 + f ≤ 128 = omega arith in
-    let turn : 0 < h → (a .address % 128 + i) % 128 + f ≡ 128 = λ q. omega arith in
-    let full : 0 < i → f + h ≡ 128 = λ q. omega arith in
+    let start : d .before .cell-of2 .result ≡ (a .address % P .page + i) % P .page =
+    d .before .cell-of2 .ensures .0 ∙ ap (λ (k : ℕ). (k + i) % P .page) (d .before .before .cell-of .ensures .0) in
+    let fits : (a .address % P .page + i) % P .page + f ≤ P .page = omega (arith, page, start, d .at-most2 .ensures) in
+    let turn : 0 < h → (a .address % P .page + i) % P .page + f ≡ P .page = λ q. omega (arith, page, start, d .at-most2 .ensures) in
+    let full : 0 < i → f + h ≡ P .page = λ q. omega (arith, page) in
     let one = c .before .before .before .before .before .before .latch-run .ensures in
     let two = c .before .before .latch-run2 .ensures in
     rw (c .run-marks .ensures, two, one, add-sub-cancel-left i f, first, second, start)
-    (sym (latched-runs m95512 (a .address % 128) vs i f h all fits turn (omega arith) full refl (omega arith)))
+    (sym (latched-runs P (a .address % P .page) vs i f h all fits turn (omega (arith, page)) full (s .page-some) (s .page-room)))
 
 pub latch-all-spec : {M : Type 1} → statement M
 latch-all-spec =
     tie.close
     (tie.spec
+    page-of-requires
     at-most-requires
     sub-skip
     cell-of-requires

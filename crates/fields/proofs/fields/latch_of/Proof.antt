@@ -1,15 +1,22 @@
-use Prim.Native.Nat.{ℕ, _-_, _%_}
+use Prim.Native.Nat.{ℕ, _+_, _-_, _%_}
+use native.Mathlib.Nat.{add-comm}
 use mathlib.Core.Path.{_≡_, refl, ap, sym, _∙_}
 use mathlib.Core.List.{List, []}
 use native.Mathlib.Omega.{arith}
 use lib.ListN.{length, take, drop, length-drop, drop-of-length-le}
 use lib.Seq.{take-all, drop-drop}
-use Rattle.codes.specs.Part.{m95512}
+use Rattle.codes.specs.Part.{partOf}
 use Rattle.latch.specs.Latches.{noLatch}
 use Rattle.fields.specs.Bytes.{address, payload, latchedFrom}
 use borrow.Author.Needs.{needs}
 use Rattle.fields.proofs.fields.latch_of.Statement.{statement}
 use Rattle.fields.proofs.fields.latch_of.Tie as tie
+
+head-of-requires : tie.Need-head-of-requires
+head-of-requires c κs = search needs
+
+cast-head : tie.Need-cast-head
+cast-head c = search needs
 
 none-requires : tie.Need-none-requires
 none-requires c κs = search needs
@@ -17,9 +24,12 @@ none-requires c κs = search needs
 returns : tie.Need-returns
 unfolding latchedFrom
 returns c =
-    let s = c .before .before .before .args .bytes .now in
-    let none : payload m95512 s ≡ [] = drop-of-length-le (drop 1 s) {i = 2} (simp length-drop (omega arith)) in
-    c .none .ensures ∙ sym (ap (λ (vs : List ℕ). latchedFrom m95512 (address m95512 s % 128) vs (noLatch m95512)) none)
+    let a = c .before .before .before .before .args in
+    let P = partOf (a .part) in
+    let s = a .bytes .now in
+    let head = c .before .before .head-of .ensures .0 in
+    let none : payload P s ≡ [] = drop-of-length-le (drop 1 s) {i = P .addressBytes} (simp length-drop (omega (arith, head))) in
+    c .none .ensures ∙ sym (ap (λ (vs : List ℕ). latchedFrom P (address P s % P .page) vs noLatch) none)
 
 address-of-requires : tie.Need-address-of-requires
 address-of-requires c κs = search needs
@@ -35,15 +45,23 @@ latch-all-requires c κs = search needs
 
 returns-2 : tie.Need-returns-2
 returns-2 c =
-    let s = c .before .before .before .before .before .args .bytes .now in
-    let rest : take (length s - 3) (drop 3 s) ≡ payload m95512 s =
-    take-all (length s - 3) (drop 3 s) (simp length-drop (omega arith)) ∙ sym (drop-drop 2 1 s) in
-    rw (c .latch-all .ensures, c .before .before .address-of .ensures, rest) refl
+    let a = c .before .before .before .before .before .before .args in
+    let P = partOf (a .part) in
+    let s = a .bytes .now in
+    let n = c .before .before .before .before .head-of .result in
+    let head : n ≡ 1 + P .addressBytes = c .before .before .before .before .head-of .ensures .0 ∙ add-comm (P .addressBytes) 1 in
+    let rest : take (length s - n) (drop n s) ≡ payload P s =
+    take-all (length s - n) (drop n s) (simp length-drop (omega arith))
+    ∙ ap (λ (k : ℕ). drop k s) head
+    ∙ sym (drop-drop (P .addressBytes) 1 s) in
+    rw (c .latch-all .ensures, c .before .before .address-of .ensures .0, rest) refl
 
 pub latch-of-spec : {M : Type 1} → statement M
 latch-of-spec =
     tie.close
     (tie.spec
+    head-of-requires
+    cast-head
     none-requires
     returns
     address-of-requires

@@ -14,6 +14,12 @@ cast-address c = search needs
 barred-requires : tie.Need-barred-requires
 barred-requires c κs = search needs
 
+head-of-requires : tie.Need-head-of-requires
+head-of-requires c κs = search needs
+
+cast-byte-at : tie.Need-cast-byte-at
+cast-byte-at c = search needs
+
 byte-at-requires : tie.Need-byte-at-requires
 byte-at-requires c κs = search needs
 
@@ -25,9 +31,9 @@ judge-requires c κs = search needs
 
 returns : tie.Need-returns
 returns c =
-    let found = c .before .before .before .before in
+    let found = c .before .before .before .before .before in
     rw (c .judge .ensures, found .barred .ensures, c .before .before .before .byte-at .ensures, c .before .before .running .ensures)
-    (rw (found .before .before .instruction-of .ensures, found .before .address-of .ensures))
+    (rw (found .before .before .instruction-of .ensures, found .before .address-of .ensures .0, c .before .before .before .before .head-of .ensures .0))
 
 pub verdict-of-spec : {M : Type 1} → statement M
 verdict-of-spec =
@@ -37,6 +43,8 @@ verdict-of-spec =
     address-of-requires
     cast-address
     barred-requires
+    head-of-requires
+    cast-byte-at
     byte-at-requires
     running-requires
     judge-requires

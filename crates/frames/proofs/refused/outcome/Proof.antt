@@ -9,6 +9,9 @@ lent-fits-requires c κs = search needs
 in-ranges-requires : tie.Need-in-ranges-requires
 in-ranges-requires c κs = search needs
 
+length-fits-requires : tie.Need-length-fits-requires
+length-fits-requires c κs = search needs
+
 bits-fit-requires : tie.Need-bits-fit-requires
 bits-fit-requires c κs = search needs
 
@@ -36,6 +39,7 @@ outcome-spec =
     (tie.spec
     lent-fits-requires
     in-ranges-requires
+    length-fits-requires
     bits-fit-requires
     returns
     returns-2

@@ -1,95 +1,32 @@
--- The invariant: the part is laid up to i.
-use Prim.Native.Nat.{ℕ, _+_, _-_, _≤_, _<_}
-use mathlib.Core.Path.{_≡_, ap, _∙_}
-use native.Mathlib.Nat.{le-antisymm}
-use native.Mathlib.Omega.{arith}
-use lib.ListN.{length, getD, length-set}
-use Rattle.laws.specs.Pick.{pick}
-use Rattle.laws.specs.Bits.{bitOn}
+use mathlib.Core.Path.{sym, ap, _∙_}
+use Prim.Native.Nat.{ℕ}
 use Rattle.latch.specs.Words.{wordLaid}
-use Rattle.latch.proofs.WordStores.{word-laid-none, word-laid-next, word-laid-more}
 use borrow.Author.Needs.{needs}
 use Rattle.latch.proofs.lay.lay_word.Statement.{statement}
 use Rattle.latch.proofs.lay.lay_word.Tie as tie
 
-abbrev Inv-loop : tie.InvT-loop
-Inv-loop page₀ bytes start word i₀ page i = (i ≤ 64) × (length page ≡ 128) × (page ≡ wordLaid bytes start word i page₀)
+copy-word-requires : tie.Need-copy-word-requires
+copy-word-requires c κs = search needs
 
-abbrev μ-loop : tie.MeasureT-loop
-μ-loop page₀ bytes start word i₀ page i = 64 - i
-
-loop-holds : tie.Need-loop-holds Inv-loop μ-loop
-loop-holds c =
-    (search needs, search needs, word-laid-none (c .before .args .bytes .now) (c .before .args .start) (c .before .args .word) (c .before .args .page .now))
-
-add-laid-byte : tie.Need-add-laid-byte Inv-loop μ-loop
-add-laid-byte c = search needs
-
-element-copy-out-laid-byte : tie.Need-element-copy-out-laid-byte Inv-loop μ-loop
-element-copy-out-laid-byte c = search needs
-
-add-laid-byte-2 : tie.Need-add-laid-byte-2 Inv-loop μ-loop
-add-laid-byte-2 c = search needs
-
-slice-read-laid-byte : tie.Need-slice-read-laid-byte Inv-loop μ-loop
-slice-read-laid-byte c = search needs
-
-laid-byte-requires : tie.Need-laid-byte-requires Inv-loop μ-loop
-laid-byte-requires c κs = search needs
-
-add-page : tie.Need-add-page Inv-loop μ-loop
-add-page c = search needs
-
-slice-write-page : tie.Need-slice-write-page Inv-loop μ-loop
-slice-write-page c = search needs
-
-add-i : tie.Need-add-i Inv-loop μ-loop
-add-i c = search needs
-
-loop-less : tie.Need-loop-less Inv-loop μ-loop
-loop-less c = search needs
-
-loop-again : tie.Need-loop-again Inv-loop μ-loop
-loop-again c =
-    let l = c .before .before .before .before .loop in
-    let s = c .before .before .before .before .before .before in
-    let b = s .args .bytes .now in
-    let p = s .args .page .now in
-    let at = s .args .start + l .i in
-    let h : at < length p = omega (arith, s .pre .0, s .pre .1) in
-    let old : getD (l .page) at 0 ≡ getD p at 0 = rw (l .inv .2) (word-laid-next b (s .args .start) (s .args .word) p (l .i) h) in (
-      search needs,
-      simp length-set (l .inv .1),
-      rw (l .inv .2)
-          (word-laid-more b (s .args .start) (s .args .word) p (l .i) (c .laid-byte .result) h
-          (c .laid-byte .ensures ∙ ap (λ (x : ℕ). pick (bitOn (s .args .word) (l .i)) (getD b at 0) x) old)),
-    )
-
-same-length : tie.Need-same-length Inv-loop μ-loop
+same-length : tie.Need-same-length
 same-length c = search needs
 
-returns : tie.Need-returns Inv-loop μ-loop
+returns : tie.Need-returns
 returns c =
-    let l = c .before .loop in
-    let a = c .before .before .before .args in
-    l .inv .2 ∙ ap (λ (n : ℕ). wordLaid (a .bytes .now) (a .start) (a .word) n (a .page .now)) (le-antisymm (l .inv .0) (c .loop-test .left))
+    let a = c .before .before .before .before .before .before .args in
+    c .before .before .copy-word .ensures
+    ∙ ap (λ (w : ℕ). wordLaid (a .bytes .now) (a .start) w 64 (a .page .now)) (sym (c .before .before .before .before .if1 .taken))
+
+lay-bits-requires : tie.Need-lay-bits-requires
+lay-bits-requires c κs = search needs
+
+same-length-2 : tie.Need-same-length-2
+same-length-2 c = search needs
+
+returns-2 : tie.Need-returns-2
+returns-2 c = c .before .before .lay-bits .ensures
 
 pub lay-word-spec : {M : Type 1} → statement M
 lay-word-spec =
     tie.close
-    (tie.spec
-    Inv-loop
-    μ-loop
-    loop-holds
-    add-laid-byte
-    element-copy-out-laid-byte
-    add-laid-byte-2
-    slice-read-laid-byte
-    laid-byte-requires
-    add-page
-    slice-write-page
-    add-i
-    loop-less
-    loop-again
-    same-length
-    returns)
+    (tie.spec copy-word-requires same-length returns lay-bits-requires same-length-2 returns-2)

@@ -1,69 +1,76 @@
--- The ways: every mark; any other by its two words.
-use Prim.Native.Nat.{ℕ, _-_, _^_}
+-- The invariant: the first k words are laid.
+use Prim.Native.Nat.{ℕ, _+_, _*_, _-_, _/_, _≤_}
 use mathlib.Core.List.{List}
-use mathlib.Core.Path.{ap, _∙_}
-use lib.Dec.{eqb}
-use lib.ListN.{getD}
-use borrow.Author.Tests.{eqb-true}
-use Rattle.laws.specs.Pick.{and-left, and-right}
+use mathlib.Core.Path.{_≡_, ap, _∙_}
+use native.Mathlib.Omega.{arith}
+use lib.ListN.{length, getD}
 use Rattle.latch.specs.Words.{wordLaid}
-use Rattle.latch.proofs.WordStores.{all-copied, both-laid}
+use Rattle.latch.proofs.WordStores.{wordsLaid, words-laid-none, words-laid-length, words-laid-more, words-laid-all}
 use borrow.Author.Needs.{needs}
 use Rattle.latch.proofs.lay.store_page.Statement.{statement}
 use Rattle.latch.proofs.lay.store_page.Tie as tie
 
-abbrev full : ℕ
-full = 2 ^ 64 - 1
+abbrev Inv-loop : tie.InvT-loop
+Inv-loop page₀ bytes marks k₀ page k = (k * 64 ≤ length page₀) × (length page ≡ length page₀) × (page ≡ wordsLaid bytes marks k page₀)
 
-element-copy-out-first : tie.Need-element-copy-out-first
-element-copy-out-first c = search needs
+abbrev μ-loop : tie.MeasureT-loop
+μ-loop page₀ bytes marks k₀ page k = length page₀ / 64 - k
 
-element-copy-out-second : tie.Need-element-copy-out-second
-element-copy-out-second c = search needs
+loop-holds : tie.Need-loop-holds Inv-loop μ-loop
+loop-holds c = (search needs, search needs, words-laid-none _ _ _)
 
-copy-page-requires : tie.Need-copy-page-requires
-copy-page-requires c κs = search needs
+mul-lay-word : tie.Need-mul-lay-word Inv-loop μ-loop
+mul-lay-word c = search needs
 
-same-length : tie.Need-same-length
-same-length c = search needs
+mul-lay-word-2 : tie.Need-mul-lay-word-2 Inv-loop μ-loop
+mul-lay-word-2 c = search needs
 
-returns : tie.Need-returns
-returns c =
-    let a = c .before .before .before .before .before .before .before .before .args in
-    let w = a .marks .now in
-    let both = c .before .before .before .before .if1 .taken in
-    c .before .before .copy-page .ensures
-    ∙ all-copied (a .bytes .now) w (a .page .now) (eqb-true _ _ (and-left (eqb (getD w 0 0) full) (eqb (getD w 1 0) full) both))
-    (eqb-true _ _ (and-right (eqb (getD w 0 0) full) (eqb (getD w 1 0) full) both))
+element-copy-out-lay-word : tie.Need-element-copy-out-lay-word Inv-loop μ-loop
+element-copy-out-lay-word c = search needs
 
-lay-word-requires : tie.Need-lay-word-requires
+lay-word-requires : tie.Need-lay-word-requires Inv-loop μ-loop
 lay-word-requires c κs = search needs
 
-lay-word-requires-2 : tie.Need-lay-word-requires-2
-lay-word-requires-2 c κs = search needs
+add-k : tie.Need-add-k Inv-loop μ-loop
+add-k c = search needs
 
-same-length-2 : tie.Need-same-length-2
-same-length-2 c = search needs
+loop-less : tie.Need-loop-less Inv-loop μ-loop
+loop-less c = search needs
 
-returns-2 : tie.Need-returns-2
-returns-2 c =
-    let s = c .before .before .before .before .before .before .before .before .before .before .before .before in
-    let b = s .args .bytes .now in
-    let m = s .args .marks .now in
-    c .before .before .lay-word2 .ensures
-    ∙ ap (λ (x : List ℕ). wordLaid b 64 (getD m 1 0) 64 x) (c .before .before .before .before .before .before .lay-word .ensures)
-    ∙ both-laid b m (s .args .page .now) (s .pre)
+loop-again : tie.Need-loop-again Inv-loop μ-loop
+loop-again c =
+    let a = c .before .before .before .before .before .before .before .before .args in
+    let l = c .before .before .before .before .before .before .loop in
+    let p = a .page .now in
+    let inside : l .k * 64 + 64 ≤ length p = omega (arith, l .inv .1) in
+    let e : c .before .before .lay-word .last .0 ≡ wordsLaid (a .bytes .now) (a .marks .now) (l .k + 1) p =
+    c .before .before .lay-word .ensures
+    ∙ ap (λ (x : List ℕ). wordLaid (a .bytes .now) (l .k * 64) (getD (a .marks .now) (l .k) 0) 64 x) (l .inv .2)
+    ∙ words-laid-more (a .bytes .now) (a .marks .now) p (l .k) inside in
+    (omega arith, ap length e ∙ words-laid-length (a .bytes .now) (a .marks .now) p (l .k + 1), e)
+
+same-length : tie.Need-same-length Inv-loop μ-loop
+same-length c = search needs
+
+returns : tie.Need-returns Inv-loop μ-loop
+returns c =
+    let a = c .before .before .before .args in
+    let l = c .before .loop in
+    l .inv .2 ∙ words-laid-all (a .bytes .now) (a .marks .now) (a .page .now) (l .k) (omega (arith, l .inv .1, c .before .before .before .pre .1))
 
 pub store-page-spec : {M : Type 1} → statement M
 store-page-spec =
     tie.close
     (tie.spec
-    element-copy-out-first
-    element-copy-out-second
-    copy-page-requires
-    same-length
-    returns
+    Inv-loop
+    μ-loop
+    loop-holds
+    mul-lay-word
+    mul-lay-word-2
+    element-copy-out-lay-word
     lay-word-requires
-    lay-word-requires-2
-    same-length-2
-    returns-2)
+    add-k
+    loop-less
+    loop-again
+    same-length
+    returns)

@@ -26,7 +26,7 @@ element-write-marks c = search needs
 
 returns : tie.Need-returns
 returns c =
-    let cell = c .before .before .cell-of .ensures in
+    let cell = c .before .before .cell-of .ensures .0 in
     (rw cell refl, rw (c .with-bit .ensures, cell) refl)
 
 pub latch-byte-spec : {M : Type 1} → statement M

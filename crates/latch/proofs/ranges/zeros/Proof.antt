@@ -9,13 +9,16 @@ use Rattle.latch.proofs.ranges.zeros.Statement.{statement}
 use Rattle.latch.proofs.ranges.zeros.Tie as tie
 
 abbrev Inv-loop : tie.InvT-loop
-Inv-loop bytes zero₀ i₀ zero i = (i ≤ 128) × (zero ≡ bytesZero bytes i)
+Inv-loop bytes start count zero₀ i₀ zero i = (i ≤ count) × (zero ≡ bytesZero bytes start i)
 
 abbrev μ-loop : tie.MeasureT-loop
-μ-loop bytes zero₀ i₀ zero i = 128 - i
+μ-loop bytes start count zero₀ i₀ zero i = count - i
 
 loop-holds : tie.Need-loop-holds Inv-loop μ-loop
 loop-holds c = (search needs, sym (each-none _))
+
+add-zero : tie.Need-add-zero Inv-loop μ-loop
+add-zero c = search needs
 
 element-copy-out-zero : tie.Need-element-copy-out-zero Inv-loop μ-loop
 element-copy-out-zero c = search needs
@@ -34,4 +37,4 @@ returns c = rw (← (le-antisymm (c .before .loop .inv .0) (c .loop-test .left))
 
 pub zeros-spec : {M : Type 1} → statement M
 zeros-spec =
-    tie.close (tie.spec Inv-loop μ-loop loop-holds element-copy-out-zero add-i loop-less loop-again returns)
+    tie.close (tie.spec Inv-loop μ-loop loop-holds add-zero element-copy-out-zero add-i loop-less loop-again returns)

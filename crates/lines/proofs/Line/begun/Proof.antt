@@ -4,11 +4,6 @@ use Rattle.lines.proofs.Hand.{digit-low}
 use borrow.Author.Needs.{needs}
 use Rattle.lines.proofs.Line.begun.Statement.{statement}
 use Rattle.lines.proofs.Line.begun.Tie as tie
-use Rattle.lines.proofs.Line.begun.Reads as reads
-use Rattle.lines.proofs.Line.begun.Lts as lts
-use Rattle.lines.proofs.Line.at.Reads as at-reads
-use Rattle.lines.proofs.Line.stopped.Reads as stopped-reads
-use Rattle.lines.proofs.reading.is_digit.Reads as is-digit-reads
 
 at-requires : tie.Need-at-requires
 at-requires c κs = search needs

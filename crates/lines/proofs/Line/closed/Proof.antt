@@ -2,10 +2,6 @@ use Rattle.laws.specs.Pick.{arms}
 use borrow.Author.Needs.{needs}
 use Rattle.lines.proofs.Line.closed.Statement.{statement}
 use Rattle.lines.proofs.Line.closed.Tie as tie
-use Rattle.lines.proofs.Line.closed.Reads as reads
-use Rattle.lines.proofs.Line.closed.Lts as lts
-use Rattle.lines.proofs.Line.stopped.Reads as stopped-reads
-use Rattle.lines.proofs.reading.one_more.Reads as one-more-reads
 
 one-more-requires : tie.Need-one-more-requires
 one-more-requires c κs = search needs

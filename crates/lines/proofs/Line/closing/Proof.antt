@@ -1,8 +1,6 @@
 use Rattle.laws.specs.Pick.{arms}
 use Rattle.lines.proofs.Line.closing.Statement.{statement}
 use Rattle.lines.proofs.Line.closing.Tie as tie
-use Rattle.lines.proofs.Line.closing.Reads as reads
-use Rattle.lines.proofs.Line.closing.Lts as lts
 
 returns : tie.Need-returns
 returns c = search arms depth 12

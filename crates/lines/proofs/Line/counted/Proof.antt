@@ -3,11 +3,6 @@ use Rattle.laws.specs.Pick.{arms}
 use borrow.Author.Needs.{needs}
 use Rattle.lines.proofs.Line.counted.Statement.{statement}
 use Rattle.lines.proofs.Line.counted.Tie as tie
-use Rattle.lines.proofs.Line.counted.Reads as reads
-use Rattle.lines.proofs.Line.counted.Lts as lts
-use Rattle.lines.proofs.Line.closed.Reads as closed-reads
-use Rattle.lines.proofs.Line.longer.Reads as longer-reads
-use Rattle.lines.proofs.reading.is_digit.Reads as is-digit-reads
 
 is-digit-requires : tie.Need-is-digit-requires
 is-digit-requires c κs = search needs

@@ -2,11 +2,6 @@ use Rattle.laws.specs.Pick.{arms}
 use borrow.Author.Needs.{needs}
 use Rattle.lines.proofs.Line.longer.Statement.{statement}
 use Rattle.lines.proofs.Line.longer.Tie as tie
-use Rattle.lines.proofs.Line.longer.Reads as reads
-use Rattle.lines.proofs.Line.longer.Lts as lts
-use Rattle.lines.proofs.Line.at.Reads as at-reads
-use Rattle.lines.proofs.Line.stopped.Reads as stopped-reads
-use Rattle.lines.proofs.reading.with_digit.Reads as with-digit-reads
 
 with-digit-requires : tie.Need-with-digit-requires
 with-digit-requires c κs = search needs

@@ -2,11 +2,6 @@ use Rattle.laws.specs.Pick.{arms}
 use borrow.Author.Needs.{needs}
 use Rattle.lines.proofs.Line.named.Statement.{statement}
 use Rattle.lines.proofs.Line.named.Tie as tie
-use Rattle.lines.proofs.Line.named.Reads as reads
-use Rattle.lines.proofs.Line.named.Lts as lts
-use Rattle.lines.proofs.Line.at.Reads as at-reads
-use Rattle.lines.proofs.Line.stopped.Reads as stopped-reads
-use Rattle.lines.proofs.reading.kind_of.Reads as kind-of-reads
 
 kind-of-requires : tie.Need-kind-of-requires
 kind-of-requires c κs = search needs

@@ -3,13 +3,6 @@ use Rattle.laws.specs.Pick.{arms}
 use borrow.Author.Needs.{needs}
 use Rattle.lines.proofs.Line.next.Statement.{statement}
 use Rattle.lines.proofs.Line.next.Tie as tie
-use Rattle.lines.proofs.Line.next.Reads as reads
-use Rattle.lines.proofs.Line.next.Lts as lts
-use Rattle.lines.proofs.Line.begun.Reads as begun-reads
-use Rattle.lines.proofs.Line.closed.Reads as closed-reads
-use Rattle.lines.proofs.Line.counted.Reads as counted-reads
-use Rattle.lines.proofs.Line.named.Reads as named-reads
-use Rattle.lines.proofs.Line.tabbed.Reads as tabbed-reads
 
 named-requires : tie.Need-named-requires
 named-requires c κs = search needs

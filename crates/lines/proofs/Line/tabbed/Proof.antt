@@ -2,10 +2,6 @@ use Rattle.laws.specs.Pick.{arms}
 use borrow.Author.Needs.{needs}
 use Rattle.lines.proofs.Line.tabbed.Statement.{statement}
 use Rattle.lines.proofs.Line.tabbed.Tie as tie
-use Rattle.lines.proofs.Line.tabbed.Reads as reads
-use Rattle.lines.proofs.Line.tabbed.Lts as lts
-use Rattle.lines.proofs.Line.at.Reads as at-reads
-use Rattle.lines.proofs.Line.stopped.Reads as stopped-reads
 
 at-requires : tie.Need-at-requires
 at-requires c κs = search needs

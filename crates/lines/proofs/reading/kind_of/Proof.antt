@@ -2,8 +2,6 @@ use Rattle.lines.specs.Reading.{kindOf}
 use Rattle.laws.specs.Pick.{arms}
 use Rattle.lines.proofs.reading.kind_of.Statement.{statement}
 use Rattle.lines.proofs.reading.kind_of.Tie as tie
-use Rattle.lines.proofs.reading.kind_of.Reads as reads
-use Rattle.lines.proofs.reading.kind_of.Lts as lts
 
 returns : tie.Need-returns
 unfolding kindOf

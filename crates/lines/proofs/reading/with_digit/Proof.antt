@@ -2,8 +2,6 @@ use Rattle.lines.proofs.Hand.{digit-low}
 use borrow.Author.Needs.{needs}
 use Rattle.lines.proofs.reading.with_digit.Statement.{statement}
 use Rattle.lines.proofs.reading.with_digit.Tie as tie
-use Rattle.lines.proofs.reading.with_digit.Reads as reads
-use Rattle.lines.proofs.reading.with_digit.Lts as lts
 
 mul-result : tie.Need-mul-result
 mul-result c = search needs

@@ -1,5 +1,5 @@
 -- By the two tests that the code makes: the address picks the lock, and it is the lock's first byte.
-use mathlib.Core.Path.{refl, ap, _∙_}
+use mathlib.Core.Path.{refl, ap, sym, _∙_}
 use Rattle.laws.specs.Pick.{call-yes, call-no, eq-so, ne-so}
 use Rattle.edges.specs.declared.Frame.{Frame}
 use Rattle.lists.specs.Ways.{whole, risenTo}
@@ -10,23 +10,26 @@ use Rattle.lists.proofs.Front.identification_data.Tie as tie
 picks-lock-requires : tie.Need-picks-lock-requires
 picks-lock-requires c κs = search needs
 
+head-of-requires : tie.Need-head-of-requires
+head-of-requires c κs = search needs
+
 value-byte-requires : tie.Need-value-byte-requires
 value-byte-requires c κs = search needs
 
 returns : tie.Need-returns
 returns c =
-    let b = c .before .before .before in
+    let b = c .before .before .before .before in
     λ m l k. c .value-byte .ensures m l k ∙ ap (λ (f : Frame). risenTo f (whole (b .before .before .args .self) l k))
-    (call-yes _ (b .before .picks-lock .ensures) (b .if1 .taken) (eq-so _ (c .before .if2 .taken) refl))
+    (call-yes _ (b .before .picks-lock .ensures) (b .if1 .taken) (eq-so _ (c .before .if2 .taken ∙ c .before .before .before .head-of .ensures .0) refl))
 
 unkept-requires : tie.Need-unkept-requires
 unkept-requires c κs = search needs
 
 returns-2 : tie.Need-returns-2
 returns-2 c =
-    let b = c .before .before .before in
+    let b = c .before .before .before .before in
     λ m l k. c .unkept .ensures m l k ∙ ap (λ (f : Frame). risenTo f (whole (b .before .before .args .self) l k))
-    (call-yes _ (b .before .picks-lock .ensures) (b .if1 .taken) (ne-so _ (c .before .if2 .left) refl))
+    (call-yes _ (b .before .picks-lock .ensures) (b .if1 .taken) (ne-so _ (λ e. c .before .if2 .left (e ∙ sym (c .before .before .before .head-of .ensures .0))) refl))
 
 latch-byte-requires : tie.Need-latch-byte-requires
 latch-byte-requires c κs = search needs
@@ -41,6 +44,7 @@ identification-data-spec =
     tie.close
     (tie.spec
     picks-lock-requires
+    head-of-requires
     value-byte-requires
     returns
     unkept-requires

@@ -157,7 +157,7 @@ abbrev Moved : tie.At-match-came Inv-loop μ-loop → Device
 Moved c = joined (c .match .front) (c .match .bytes) (c .match .marks) (c .match .core)
 
 -- no bit is shown
-no-q : (P : Part) {x : Device} (y : Device) {s h : ℕ} → x ≡ withoutFrame P s h y → 2 ≡ levelNumber (q x)
+no-q : (P : Part) {x : Device} (y : Device) {s h : ℕ} → x ≡ withoutFrame s h y → 2 ≡ levelNumber (q x)
 unfolding q
 no-q P y {s = s} {h = h} e = rw e (sym (none-shown s h 0))
 

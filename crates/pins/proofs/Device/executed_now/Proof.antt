@@ -34,6 +34,15 @@ enum-told-5 c = search needs
 enum-told-6 : tie.Need-enum-told-6
 enum-told-6 c = search needs
 
+cast-page-number : tie.Need-cast-page-number
+cast-page-number c = search needs
+
+page-number-requires : tie.Need-page-number-requires
+page-number-requires c κs = search needs
+
+cast-begin-page : tie.Need-cast-begin-page
+cast-begin-page c = search needs
+
 begin-page-requires : tie.Need-begin-page-requires
 begin-page-requires c κs = search needs
 
@@ -65,7 +74,9 @@ returns-5 : tie.Need-returns-5
 returns-5 c = rw (sym (c .before .before .decode .ensures) ∙ c .enum-told5 .given .1)
 
 returns-6 : tie.Need-returns-6
-returns-6 c = rw (sym (c .before .before .before .before .decode .ensures) ∙ c .before .before .enum-told6 .given .1) (c .begin-page .ensures)
+returns-6 c =
+    rw (sym (c .before .before .before .before .before .decode .ensures) ∙ c .before .before .before .enum-told6 .given .1, ← (c .before .page-number .ensures .0))
+    (c .begin-page .ensures)
 
 returns-7 : tie.Need-returns-7
 returns-7 c = rw (sym (c .before .before .decode .ensures) ∙ c .enum-told7 .given .1)
@@ -90,6 +101,9 @@ executed-now-spec =
     begin-status-requires
     enum-told-5
     enum-told-6
+    cast-page-number
+    page-number-requires
+    cast-begin-page
     begin-page-requires
     enum-told-7
     enum-told-8

@@ -2,7 +2,6 @@ use Rattle.player.specs.Players.{playerFits}
 use borrow.Author.Needs.{needs}
 use Rattle.player.proofs.Player.in_ranges.Statement.{statement}
 use Rattle.player.proofs.Player.in_ranges.Tie as tie
-use Rattle.pins.proofs.Device.in_ranges.Reads as in-ranges-reads
 
 head-fits-requires : tie.Need-head-fits-requires
 head-fits-requires c κs = search needs

@@ -5,7 +5,6 @@ use lib.ListN.{length, take, drop, length-take, length-drop}
 use lib.Seq.{length-take-le}
 use mathlib.Core.Path.{_≡_, refl, _∙_}
 use Rattle.laws.specs.Filled.{copied}
-use Rattle.codes.specs.Part.{m95512}
 use Rattle.shown.proofs.Showing.{both-copied, one-run, two-runs}
 use native.Mathlib.Omega.{arith}
 use borrow.Author.Needs.{needs}
@@ -85,7 +84,7 @@ returns c =
     let n = length (a .out .now) in
     let run = take n (drop (a .from) (a .memory .now)) in
     rw (c .before .before .copy .ensures .1, add-sub-cancel-left (a .from) n)
-    (copied run _ (simp (length-take, length-drop) (omega arith)) ∙ one-run m95512 (a .memory .now) (a .from) (start .pre .0) n (omega arith))
+    (copied run _ (simp (length-take, length-drop) (omega arith)) ∙ one-run (a .memory .now) (a .from) n (omega arith))
 
 same-length-2 : tie.Need-same-length-2
 same-length-2 c = search needs
@@ -95,14 +94,14 @@ returns-2 c =
     let start = c .before .before .before .before .before .before .before .before .before .before .before .before .before in
     let a = start .args in
     let n = length (a .out .now) in
-    let k = 65536 - a .from in
+    let k = length (a .memory .now) - a .from in
     let low = take k (drop (a .from) (a .memory .now)) in
     let high = take (n - k) (a .memory .now) in
     let first : length low ≡ k = length-take-le k (drop (a .from) (a .memory .now)) (simp length-drop (omega arith)) in
     let second : length high ≡ n - k = length-take-le (n - k) (a .memory .now) (omega arith) in
     rw (c .before .before .copy3 .ensures .1, c .before .before .before .before .before .before .before .copy2 .ensures .1, sub-zero k, sub-zero (n - k))
     (both-copied low high (a .out .now) k n refl first second (omega arith)
-    ∙ two-runs m95512 (a .memory .now) (a .from) (start .pre .0) n (omega arith) (omega arith) (omega arith))
+    ∙ two-runs (a .memory .now) (a .from) n (omega arith) (omega arith) (omega arith))
 
 pub show-cells-spec : {M : Type 1} → statement M
 show-cells-spec =

@@ -1,7 +1,8 @@
--- By the two tests. Where both are passed, three bytes are filled and the others are as they were.
+-- By the two tests. Where both are passed, the head is filled and the others are as they were.
 use Prim.Native.Nat.{_<_, _≤_}
 use mathlib.Core.Bool.{not}
 use mathlib.Core.Path.{refl, ap, sym}
+use native.Mathlib.Nat.{sub-zero}
 use lib.Dec.{leb}
 use lib.ListN.{length}
 use lib.Seq.{length-take-le}
@@ -21,7 +22,7 @@ same-length c = search needs
 returns : tie.Need-returns
 returns c =
     let a = c .before .before .before .before .before .before .args in
-    let told = and-no-right (leb 3 (length (a .out .now))) (not (a .ran)) (ap not (c .before .before .before .before .if1 .taken)) in
+    let told = and-no-right (leb (a .head) (length (a .out .now))) (not (a .ran)) (ap not (c .before .before .before .before .if1 .taken)) in
     (sym told, no-so _ refl (c .before .before .fill .ensures))
 
 fill-requires-2 : tie.Need-fill-requires-2
@@ -33,7 +34,7 @@ same-length-2 c = search needs
 returns-2 : tie.Need-returns-2
 returns-2 c =
     let a = c .before .before .before .before .before .before .before .args in
-    let few : length (a .out .now) < 3 = omega arith in
+    let few : length (a .out .now) < a .head = omega arith in
     (sym (and-no-left _ (not (a .ran)) (lt-leb _ _ few)), no-so _ refl (c .before .before .fill2 .ensures))
 
 sub-fill : tie.Need-sub-fill
@@ -54,9 +55,9 @@ same-length-3 c = search needs
 returns-3 : tie.Need-returns-3
 returns-3 c =
     let a = c .before .before .before .before .before .before .before .args in
-    let room : 3 ≤ length (a .out .now) = omega arith in
+    let room : a .head ≤ length (a .out .now) = omega arith in
     let told = and-both _ (not (a .ran)) (le-leb _ _ room) (ap not (c .before .before .before .before .before .if1 .left)) in
-    (sym told, yes-so _ refl (rw (c .before .before .fill3 .ensures, length-take-le 3 (a .out .now) room)))
+    (sym told, yes-so _ refl (rw (c .before .before .fill3 .ensures, sub-zero (a .head), length-take-le (a .head) (a .out .now) room)))
 
 pub show-head-spec : {M : Type 1} → statement M
 show-head-spec =

@@ -2,12 +2,14 @@
 use mathlib.Core.Path.{refl, _∙_}
 use Rattle.laws.specs.Pick.{call-yes, call-no}
 use Rattle.laws.specs.Table.{table-replicate, table-cong}
+use native.Mathlib.Omega.{arith}
+use Rattle.codes.proofs.Parts.{size-most}
 use borrow.Author.Needs.{needs}
 use Rattle.shown.proofs.output.show_identification.Statement.{statement}
 use Rattle.shown.proofs.output.show_identification.Tie as tie
 
 cast-picks-lock : tie.Need-cast-picks-lock
-cast-picks-lock c = search needs
+cast-picks-lock c = omega (arith, size-most (c .before .before .args .part))
 
 picks-lock-requires : tie.Need-picks-lock-requires
 picks-lock-requires c κs = search needs

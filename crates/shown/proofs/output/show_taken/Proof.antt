@@ -4,6 +4,7 @@ use Rattle.codes.specs.Part.{partOf}
 use Rattle.fields.specs.Bytes.{instruction, address}
 use Rattle.shown.specs.Shown.{sights, byteOut, output}
 use Rattle.shown.proofs.Padding.{few-unused, padded-last}
+use Rattle.codes.proofs.Parts.{size-most}
 use native.Mathlib.Omega.{arith}
 use borrow.Author.Needs.{needs}
 use Rattle.shown.proofs.output.show_taken.Statement.{statement}
@@ -19,7 +20,7 @@ show-bytes-requires : tie.Need-show-bytes-requires
 show-bytes-requires c κs = search needs
 
 mul-pad : tie.Need-mul-pad
-mul-pad c = search needs
+mul-pad c = omega (arith, size-most (c .before .before .before .before .before .before .before .before .before .before .before .args .part))
 
 sub-pad : tie.Need-sub-pad
 sub-pad c =
@@ -49,7 +50,7 @@ returns c =
     let a = start .args in
     let shown = c .before .before .before .before .before .before in
     rw (c .before .before .pad .ensures, shown .show-bytes .ensures, start .pre .1 .1 .1)
-    (rw (shown .before .before .before .instruction-of .ensures, shown .before .before .address-of .ensures)
+    (rw (shown .before .before .before .instruction-of .ensures, shown .before .before .address-of .ensures .0)
     (padded-last (byteOut (partOf (a .part)) (instruction (partOf (a .part)) (a .bytes .now)) (a .ran)
     (sights (a .status) (a .lock) (a .memory .now) (a .identification .now)) (address (partOf (a .part)) (a .bytes .now))) (length (a .bytes .now)) (a .bits)))
 

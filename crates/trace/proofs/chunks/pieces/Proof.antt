@@ -6,6 +6,8 @@ use native.Mathlib.Omega.{arith}
 use borrow.Author.Needs.{needs}
 use lib.ListN.{length, take, drop, length-append}
 use lib.Seq.{take-all}
+use Rattle.codes.specs.Part.{partOf}
+use Rattle.pins.specs.declared.Device.{Device}
 use Rattle.pins.specs.Devices.{devicePart}
 use Rattle.pins.specs.Ranges.{deviceFits}
 use Rattle.pins.specs.Answers.{PinBench, pinBench}
@@ -13,13 +15,13 @@ use Rattle.lines.specs.Reading.{read, lineFits}
 use Rattle.printing.specs.Put.{put}
 use Rattle.printing.proofs.Puts.{put-nil, put-put}
 use Rattle.trace.specs.Chunks.{playedLines, shownLines}
-use Rattle.trace.proofs.Chunking.{part-length, played-nothing, shown-nothing, turn-line, turn-bench, turn-shown}
+use Rattle.trace.proofs.Chunking.{part-length, lines-part, played-nothing, shown-nothing, turn-line, turn-bench, turn-shown}
 use Rattle.trace.proofs.chunks.pieces.Statement.{statement}
 use Rattle.trace.proofs.chunks.pieces.Tie as tie
 
 abbrev Inv-loop : tie.InvT-loop
 Inv-loop memory₀ identification₀ text out₀ at events₀ qs₀ hand₀ next₀ end₀ i₀ memory identification out events qs hand next end i =
-    (i ≤ length text) × (length memory ≡ 65536) × (length identification ≡ 128) × (length out ≡ length out₀) × (length events ≡ 1024) × (length qs ≡ 1024)
+    (i ≤ length text) × (length memory ≡ devicePart next .size) × (length identification ≡ devicePart next .page) × (length out ≡ length out₀) × (length events ≡ 1024) × (length qs ≡ 1024)
     × (lineFits hand ≡ true) × (deviceFits (devicePart next) next ≡ true) × (end ≤ at + 10 * i) × (hand ≡ read hand₀ (take i text))
     × (pinBench next memory identification ≡ playedLines hand₀ (pinBench next₀ memory₀ identification₀) (take i text))
     × (out ≡ put out₀ at (shownLines hand₀ (pinBench next₀ memory₀ identification₀) (take i text)))
@@ -110,10 +112,14 @@ loop-again c =
     let all = turn-shown (a .line) b t (l .i) (e .result) on (l .hand) here (l .inv .9) (l .inv .10) (pre .3) in
     let at : x .result .at ≤ l .end + 10 * length y = x .ensures .1 .1 .1 .1 .1 .1 in
     let end : x .result .at ≡ l .end + length more = x .ensures .1 .1 .1 .1 .1 .0 in
+    let part : x .result .device .core .part ≡ l .next .core .part =
+    ap (λ (d : Device). d .core .part) (x .ensures .1 .0 .0) ∙ lines-part (l .hand) here y in
+    let memory : length (x .last .1 .1 .0) ≡ devicePart (l .next) .size = omega (arith, l .inv .1) in
+    let identification : length (x .last .1 .1 .1 .0) ≡ devicePart (l .next) .page = omega (arith, l .inv .2) in
     let room : a .at + length before + length more ≤ length (a .out .now) = omega (arith, end, at, n, e .ensures .1, l .inv .8, l .inv .12, pre .4) in (
       e .ensures .1,
-      omega (arith, l .inv .1),
-      omega (arith, l .inv .2),
+      memory ∙ ap (λ (k : ℕ). partOf k .size) (sym part),
+      identification ∙ ap (λ (k : ℕ). partOf k .page) (sym part),
       omega (arith, l .inv .3),
       omega (arith, l .inv .4),
       omega (arith, l .inv .5),
@@ -130,10 +136,16 @@ loop-again c =
     )
 
 same-length : tie.Need-same-length Inv-loop μ-loop
-same-length c = c .before .loop .inv .1 ∙ sym (c .before .before .before .before .before .before .before .before .pre .0)
+same-length c =
+    let s = c .before .before .before .before .before .before .before .before in
+    let l = c .before .loop in
+    l .inv .1 ∙ ap (λ (k : ℕ). partOf k .size) (ap (λ (w : PinBench). w .device .core .part) (l .inv .10) ∙ lines-part (s .args .line) _ _) ∙ sym (s .pre .0)
 
 same-length-2 : tie.Need-same-length-2 Inv-loop μ-loop
-same-length-2 c = c .before .loop .inv .2 ∙ sym (c .before .before .before .before .before .before .before .before .pre .1)
+same-length-2 c =
+    let s = c .before .before .before .before .before .before .before .before in
+    let l = c .before .loop in
+    l .inv .2 ∙ ap (λ (k : ℕ). partOf k .page) (ap (λ (w : PinBench). w .device .core .part) (l .inv .10) ∙ lines-part (s .args .line) _ _) ∙ sym (s .pre .1)
 
 same-length-3 : tie.Need-same-length-3 Inv-loop μ-loop
 same-length-3 c = c .before .loop .inv .3

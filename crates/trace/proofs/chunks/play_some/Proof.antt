@@ -12,7 +12,6 @@ use Rattle.trace.proofs.Plays.{done-device, done-memory, own-fits}
 use borrow.Author.Needs.{needs}
 use Rattle.trace.proofs.chunks.play_some.Statement.{statement}
 use Rattle.trace.proofs.chunks.play_some.Tie as tie
-use Rattle.lists.proofs.play.Reads as play-reads
 
 marked-requires : tie.Need-marked-requires
 marked-requires c κs = search needs

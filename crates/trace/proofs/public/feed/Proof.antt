@@ -4,7 +4,7 @@ use lib.Dec.{eqb}
 use lib.ListN.{length}
 use borrow.Author.Tests.{eqb-true, leb-true}
 use Rattle.laws.specs.Pick.{and-left, and-right}
-use Rattle.codes.specs.Part.{m95512}
+use Rattle.pins.specs.Devices.{devicePart}
 use Rattle.chip.specs.Lents.{lent}
 use Rattle.trace.specs.declared.Fed.{Fed}
 use Rattle.trace.specs.Chunks.{feedReplyNumber, chunkPlayer, room}
@@ -25,8 +25,8 @@ has-room-requires c κs = search needs
 take-chunk-requires : tie.Need-take-chunk-requires
 take-chunk-requires c κs =
     let a = c .before .before .before .before .before .before .before .before .before .before .before .before .before .args in
-    let size = eqb (length (a .memory .now)) (m95512 .size) in
-    let page = eqb (length (a .identification .now)) (m95512 .page) in
+    let size = eqb (length (a .memory .now)) (devicePart (a .player .device) .size) in
+    let page = eqb (length (a .identification .now)) (devicePart (a .player .device) .page) in
     let long = sym (c .before .before .before .before .before .before .before .before .lent-fits .ensures)
     ∙ c .before .before .before .before .before .before .before .if1 .taken in
     let wide = sym (c .before .before .before .before .has-room .ensures) ∙ c .before .before .before .if3 .taken in (

@@ -1,0 +1,56 @@
+-- What holds of every row of the table of parts holds of the row that a part's number reads.
+use Prim.Native.Nat.{ℕ, _≤_}
+use mathlib.Core.Bool.{false}
+use mathlib.Core.Path.{_≡_, refl, _∙_}
+use native.Mathlib.Omega.{arith}
+use lib.Dec.{eqb, lit≤}
+use borrow.Author.Tests.{eqb-true, eqb-false, ne-eqb, leb-false}
+use Rattle.laws.specs.Pick.{pick, pick-case, at-no}
+use Rattle.codes.specs.Part.{Part, m95512, m95512d, m95m01, partOf, isPart}
+
+module _ (F : Part → Type 0) where
+  pub of-each : (n : ℕ) → F m95m01 → F m95512d → F m95512 → F (partOf n)
+  unfolding partOf
+  of-each n m d p = pick-case F (eqb n 2) (λ e. m) (λ e. pick-case F (eqb n 1) (λ f. d) (λ f. p))
+
+  pub of-megabit : {n : ℕ} → n ≡ 2 → F m95m01 → F (partOf n)
+  unfolding partOf
+  of-megabit {n} h m = pick-case F (eqb n 2) (λ e. m) (λ e. absurd (eqb-false n 2 e h))
+
+  pub of-others : {n : ℕ} → (n ≡ 2 → ⊥) → F m95512d → F m95512 → F (partOf n)
+  unfolding partOf
+  of-others {n} h d p =
+      pick-case F (eqb n 2) (λ e. absurd (h (eqb-true n 2 e))) (λ e. pick-case F (eqb n 1) (λ f. d) (λ f. p))
+
+-- the rows by their numbers
+pub row-plain : partOf 0 ≡ m95512
+unfolding partOf pick
+row-plain = refl
+
+pub row-identified : partOf 1 ≡ m95512d
+unfolding partOf pick
+row-identified = refl
+
+pub row-megabit : partOf 2 ≡ m95m01
+unfolding partOf pick
+row-megabit = refl
+
+-- a number that is none reads the M95512's
+pub row-none : (n : ℕ) → isPart n ≡ false → partOf n ≡ m95512
+unfolding partOf
+row-none n e =
+    at-no m95m01 _ (ne-eqb n 2 (λ h. omega (arith, leb-false n 2 e))) ∙ at-no m95512d m95512 (ne-eqb n 1 (λ h. omega (arith, leb-false n 2 e)))
+
+-- how large they are
+pub size-most : (n : ℕ) → partOf n .size ≤ 131072
+size-most n = of-each (λ (P : Part). P .size ≤ 131072) n (lit≤ tt) (lit≤ tt) (lit≤ tt)
+
+pub page-most : (n : ℕ) → partOf n .page ≤ 256
+page-most n = of-each (λ (P : Part). P .page ≤ 256) n (lit≤ tt) (lit≤ tt) (lit≤ tt)
+
+pub longest-most : (n : ℕ) → partOf n .longest ≤ 5000
+longest-most n = of-each (λ (P : Part). P .longest ≤ 5000) n (lit≤ tt) (lit≤ tt) (lit≤ tt)
+
+pub few-bytes : (n : ℕ) → (2 ≤ partOf n .addressBytes) × (partOf n .addressBytes ≤ 3)
+few-bytes n =
+    of-each (λ (P : Part). (2 ≤ P .addressBytes) × (P .addressBytes ≤ 3)) n (lit≤ tt, lit≤ tt) (lit≤ tt, lit≤ tt) (lit≤ tt, lit≤ tt)
