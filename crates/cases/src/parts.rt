@@ -10,6 +10,7 @@ use crate::say;
 use crate::with_bp;
 use chip::Core;
 use chip::clock_reading;
+use codes::LARGE_SIZE;
 use codes::M95M01;
 use codes::M95512;
 use codes::M95512D;
@@ -21,12 +22,9 @@ use codes::wide;
 use frames::frame;
 use latch::ROOM;
 
-// Cells of the largest memory.
-const CELLS: usize = 131072;
-
 // A memory with every byte 0 and an identification page with every byte FFh; as many cells are lent as the part has.
-fn cells() -> [u8; CELLS] {
-    [0; CELLS]
+fn cells() -> [u8; LARGE_SIZE] {
+    [0; LARGE_SIZE]
 }
 
 fn page_cells() -> [u8; ROOM] {

@@ -6,7 +6,7 @@ use native.Mathlib.Omega.{arith}
 use lib.Dec.{eqb, lit≤}
 use borrow.Author.Tests.{eqb-true, eqb-false, ne-eqb, leb-false}
 use Rattle.laws.specs.Pick.{pick, pick-case, at-no}
-use Rattle.codes.specs.Part.{Part, m95512, m95512d, m95m01, partOf, isPart}
+use Rattle.codes.specs.Part.{Part, m95512, m95512d, m95m01, partOf, isPart, room, roomCells}
 
 module _ (F : Part → Type 0) where
   pub of-each : (n : ℕ) → F m95m01 → F m95512d → F m95512 → F (partOf n)
@@ -42,11 +42,11 @@ row-none n e =
     at-no m95m01 _ (ne-eqb n 2 (λ h. omega (arith, leb-false n 2 e))) ∙ at-no m95512d m95512 (ne-eqb n 1 (λ h. omega (arith, leb-false n 2 e)))
 
 -- how large they are
-pub size-most : (n : ℕ) → partOf n .size ≤ 131072
-size-most n = of-each (λ (P : Part). P .size ≤ 131072) n (lit≤ tt) (lit≤ tt) (lit≤ tt)
+pub size-most : (n : ℕ) → partOf n .size ≤ roomCells
+size-most n = of-each (λ (P : Part). P .size ≤ roomCells) n (lit≤ tt) (lit≤ tt) (lit≤ tt)
 
-pub page-most : (n : ℕ) → partOf n .page ≤ 256
-page-most n = of-each (λ (P : Part). P .page ≤ 256) n (lit≤ tt) (lit≤ tt) (lit≤ tt)
+pub page-most : (n : ℕ) → partOf n .page ≤ room
+page-most n = of-each (λ (P : Part). P .page ≤ room) n (lit≤ tt) (lit≤ tt) (lit≤ tt)
 
 pub longest-most : (n : ℕ) → partOf n .longest ≤ 5000
 longest-most n = of-each (λ (P : Part). P .longest ≤ 5000) n (lit≤ tt) (lit≤ tt) (lit≤ tt)

@@ -73,6 +73,13 @@ pages P = P .size / P .page
 abbrev pub room : ℕ
 room = 256
 
+-- cells of the largest memory, and the bytes before the data of its READ and WRITE: the code and the address
+abbrev pub roomCells : ℕ
+roomCells = 131072
+
+abbrev pub roomHead : ℕ
+roomHead = 4
+
 -- words of marks, a bit for each of those cells
 abbrev pub roomWords : ℕ
 roomWords = room / 64

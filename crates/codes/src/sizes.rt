@@ -2,7 +2,7 @@
 // M95512's row.
 ghost use mathlib.Core.Path.{_≡_};
 ghost use Prim.Native.Nat.{_+_, _/_, _≤_};
-ghost use Rattle.codes.specs.Part.{isPart, pages, partOf};
+ghost use Rattle.codes.specs.Part.{isPart, pages, partOf, room, roomCells, roomHead};
 ghost use Rattle.codes.specs.Instructions.{writeBits};
 
 // The numbers of the parts: the M95512, the M95512-D with its identification page and lock, and the M95M01 of twice the
@@ -19,19 +19,34 @@ pub fn is_part(part: u8) -> bool
     part <= M95M01
 }
 
-// Cells of the memory, and of a page: of the M95512 and the M95512-D, and of the M95M01.
+// The numbers of the rows: of the M95512 and the M95512-D, and, named large, of the M95M01. The large ones are the room
+// that serves every part. First the cells of the memory, and of a page.
 const SIZE: usize = 65536;
 
 const PAGE: usize = 128;
 
-const LARGE_SIZE: usize = 131072;
+pub const LARGE_SIZE: usize = 131072;
 
-const LARGE_PAGE: usize = 256;
+pub const LARGE_PAGE: usize = 256;
+
+// Address bytes, which stand after the code, and the bytes before the data of a READ or a WRITE.
+pub const ADDRESS_BYTES: u8 = 2;
+
+const LARGE_ADDRESS_BYTES: u8 = 3;
+
+pub const LARGE_HEAD: usize = 1 + LARGE_ADDRESS_BYTES as usize;
+
+// The first bytes of the M95M01's identification page as delivered: ST, the SPI family, 1 Mbit.
+pub const MANUFACTURER: u8 = 0x20;
+
+pub const FAMILY: u8 = 0x00;
+
+pub const DENSITY: u8 = 0x11;
 
 // Cells of the memory.
 pub fn size_of(part: u8) -> usize
     ensures { λ r. ⌜ r ≡ partOf part .size ⌝ }
-    ensures { λ r. ⌜ (1024 ≤ r) × (r ≤ 131072) ⌝ }
+    ensures { λ r. ⌜ (1024 ≤ r) × (r ≤ roomCells) ⌝ }
 {
     if part == M95M01 {
         return LARGE_SIZE;
@@ -42,7 +57,7 @@ pub fn size_of(part: u8) -> usize
 // Cells of a page, and of the identification page.
 pub fn page_of(part: u8) -> usize
     ensures { λ r. ⌜ r ≡ partOf part .page ⌝ }
-    ensures { λ r. ⌜ (128 ≤ r) × (r ≤ 256) ⌝ }
+    ensures { λ r. ⌜ (128 ≤ r) × (r ≤ room) ⌝ }
 {
     if part == M95M01 {
         return LARGE_PAGE;
@@ -71,21 +86,21 @@ pub fn page_number(part: u8, address: usize) -> usize
     address / PAGE
 }
 
-// Address bytes, which stand after the code.
+// Address bytes.
 pub fn address_bytes_of(part: u8) -> u8
     ensures { λ r. ⌜ r ≡ partOf part .addressBytes ⌝ }
     ensures { λ r. ⌜ (2 ≤ r) × (r ≤ 3) ⌝ }
 {
     if part == M95M01 {
-        return 3;
+        return LARGE_ADDRESS_BYTES;
     }
-    2
+    ADDRESS_BYTES
 }
 
 // The bytes before the data of a READ or a WRITE: the code and the address.
 pub fn head_of(part: u8) -> u8
     ensures { λ r. ⌜ r ≡ partOf part .addressBytes + 1 ⌝ }
-    ensures { λ r. ⌜ (3 ≤ r) × (r ≤ 4) ⌝ }
+    ensures { λ r. ⌜ (3 ≤ r) × (r ≤ roomHead) ⌝ }
 {
     address_bytes_of(part) + 1
 }

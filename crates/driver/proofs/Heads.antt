@@ -5,7 +5,7 @@ use Prim.Native.Nat.{ℕ, zero, suc, _+_, _/_, _%_, _^_, _<_, _≤_}
 use native.Mathlib.Omega.{arith}
 use lib.ListN.{length, set, take, drop, length-append, length-drop}
 use lib.Seq.{take-at}
-use Rattle.codes.specs.Part.{Part, partOf}
+use Rattle.codes.specs.Part.{Part, partOf, roomCells, roomHead}
 use Rattle.codes.proofs.Parts.{of-each}
 use Rattle.driver.specs.Sequence.{addressBytes, writeBytes}
 
@@ -16,7 +16,7 @@ headedTwo b a = set (set (set b 0 0x02) 1 (a / 256)) 2 (a % 256)
 abbrev pub headedThree : List ℕ → ℕ → List ℕ
 headedThree b a = set (set (set (set b 0 0x02) 1 (a / 65536)) 2 (a / 256 % 256)) 3 (a % 256)
 
-two-bytes : (b : List ℕ) (a : ℕ) → a < 65536 → 4 ≤ length b
+two-bytes : (b : List ℕ) (a : ℕ) → a < 65536 → roomHead ≤ length b
     → headedTwo b a ≡ 0x02 ∷ (a / 256 ^ 1 % 256) ∷ (a / 256 ^ 0 % 256) ∷ drop 3 b
 two-bytes [] a h r = absurd (omega arith)
 two-bytes (x ∷ []) a h r = absurd (omega arith)
@@ -26,7 +26,7 @@ two-bytes (x ∷ y ∷ z ∷ b) a h r =
     let low : a % 256 ≡ a / 256 ^ 0 % 256 = omega arith in
     ap₂ (λ (j k : ℕ). 0x02 ∷ j ∷ k ∷ b) high low
 
-three-bytes : (b : List ℕ) (a : ℕ) → a < 131072 → 4 ≤ length b
+three-bytes : (b : List ℕ) (a : ℕ) → a < roomCells → roomHead ≤ length b
     → headedThree b a ≡ 0x02 ∷ (a / 256 ^ 2 % 256) ∷ (a / 256 ^ 1 % 256) ∷ (a / 256 ^ 0 % 256) ∷ drop 4 b
 three-bytes [] a h r = absurd (omega arith)
 three-bytes (x ∷ []) a h r = absurd (omega arith)
@@ -39,7 +39,7 @@ three-bytes (x ∷ y ∷ z ∷ w ∷ b) a h r =
     ap (λ (i : ℕ). 0x02 ∷ i ∷ (a / 256 % 256) ∷ (a % 256) ∷ b) first
     ∙ ap₂ (λ (j k : ℕ). 0x02 ∷ (a / 256 ^ 2 % 256) ∷ j ∷ k ∷ b) high low
 
-module _ (n : ℕ) (b : List ℕ) (a : ℕ) (below : a < partOf n .size) (room : 4 ≤ length b) where
+module _ (n : ℕ) (b : List ℕ) (a : ℕ) (below : a < partOf n .size) (room : roomHead ≤ length b) where
   Two : Part → Type 0
   Two P = P .addressBytes ≡ 2 → a < P .size → headedTwo b a ≡ writeBytes P a (drop (P .addressBytes + 1) b)
 

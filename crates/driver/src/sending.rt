@@ -4,19 +4,21 @@ ghost use mathlib.Core.Path.{_≡_};
 ghost use mathlib.Core.Bool.{true};
 ghost use Prim.Native.Nat.{_+_, _*_, _≤_, _<_};
 ghost use lib.ListN.{drop, length};
-ghost use Rattle.codes.specs.Part.{partOf, room};
+ghost use Rattle.codes.specs.Part.{partOf, room, roomHead};
 ghost use Rattle.chip.specs.Ranges.{inRanges};
 ghost use Rattle.chip.specs.Records.{ownPart, running, status};
 ghost use Rattle.frames.specs.After.{after};
 ghost use Rattle.driver.specs.Sequence.{writeBytes};
 use chip::Core;
+use codes::ADDRESS_BYTES;
+use codes::LARGE_HEAD;
 use codes::WRITE;
 use codes::address_bytes_of;
 use codes::head_of;
 use latch::ROOM;
 
 // The longest frame sent: the code, the address and the largest page.
-const LONGEST: usize = 4 + ROOM;
+const LONGEST: usize = LARGE_HEAD + ROOM;
 
 pub(crate) fn send(core: Core, memory: &[u8], identification: &[u8], bytes: &[u8]) -> Core
     requires { ⌜ length (now memory) ≡ ownPart core .size ⌝ }
@@ -50,19 +52,19 @@ pub(crate) fn poll(core: Core) -> u8
 
 // Room for the longest frame.
 fn room() -> [u8; LONGEST]
-    ensures { λ r. ⌜ length r ≡ 4 + room ⌝ }
+    ensures { λ r. ⌜ length r ≡ roomHead + room ⌝ }
 {
     [0; LONGEST]
 }
 
 // The code and the address, high byte first, at the head of a frame.
 fn put_head(part: u8, address: usize, frame: &mut [u8; LONGEST])
-    requires { ⌜ (address < partOf part .size) × (length (now frame) ≡ 4 + room) ⌝ }
+    requires { ⌜ (address < partOf part .size) × (length (now frame) ≡ roomHead + room) ⌝ }
     ensures { λ _. ⌜ now (frame .exit)
         ≡ writeBytes (partOf part) address (drop (partOf part .addressBytes + 1) (now (frame .entry))) ⌝ }
 {
     frame[0] = WRITE;
-    if address_bytes_of(part) == 2 {
+    if address_bytes_of(part) == ADDRESS_BYTES {
         frame[1] = (address / 256) as u8;
         frame[2] = (address % 256) as u8;
         return;

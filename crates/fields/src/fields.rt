@@ -3,10 +3,11 @@ ghost use mathlib.Core.Path.{_≡_};
 ghost use Prim.Native.Nat.{_+_, _*_, _%_, _≤_, _<_};
 ghost use lib.ListN.{length, getD};
 ghost use Rattle.laws.specs.Spliced.{spliced};
-ghost use Rattle.codes.specs.Part.{partOf};
+ghost use Rattle.codes.specs.Part.{partOf, roomCells};
 ghost use Rattle.latch.specs.Latches.{noLatch};
 ghost use Rattle.fields.specs.Bytes.{instruction, address, latchedFrom, written};
 use crate::runs::at_most;
+use codes::ADDRESS_BYTES;
 use codes::Instruction;
 use codes::address_bytes_of;
 use codes::head_of;
@@ -41,10 +42,10 @@ fn joined(high: u8, low: u8) -> usize
 // The address, high byte first.
 pub fn address_of(part: u8, bytes: &[u8]) -> usize
     ensures { λ r. ⌜ r ≡ address (partOf part) (now (bytes .entry)) ⌝ }
-    ensures { λ r. ⌜ (r < partOf part .size) × (r < 131072) ⌝ }
+    ensures { λ r. ⌜ (r < partOf part .size) × (r < roomCells) ⌝ }
 {
     let two = joined(byte_at(bytes, 1), byte_at(bytes, 2));
-    if address_bytes_of(part) == 2 {
+    if address_bytes_of(part) == ADDRESS_BYTES {
         return two;
     }
     (two * 256 + byte_at(bytes, 3) as usize) & (size_of(part) - 1)

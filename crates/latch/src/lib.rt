@@ -14,7 +14,7 @@ pub use words::run_marks;
 
 // Cells that a latch has room for: the largest page. On a part with smaller pages the cells past its page stay unmarked
 // and read 0.
-pub const ROOM: usize = 256;
+pub const ROOM: usize = codes::LARGE_PAGE;
 
 // Words of marks, a bit for each cell.
 pub const WORDS: usize = ROOM / WORD;

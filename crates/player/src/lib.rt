@@ -9,7 +9,11 @@ ghost use lib.ListN.{length, replicate, take};
 ghost use Rattle.codes.specs.Part.{m95m01, partOf, room};
 ghost use Rattle.chip.specs.Power.{deliveredMemory, deliveredIdentification};
 ghost use Rattle.player.specs.Players.{startPlayer, headFits, playerFits};
+use codes::DENSITY;
+use codes::FAMILY;
+use codes::LARGE_SIZE;
 use codes::M95M01;
+use codes::MANUFACTURER;
 use codes::longest_of;
 use latch::ROOM;
 use lines::Line;
@@ -22,9 +26,6 @@ pub struct Player {
     pub line: Line,
     pub device: Device,
 }
-
-// Cells of the largest memory.
-const CELLS: usize = 131072;
 
 // Before the first byte of a text, on a part as delivered: 1 is the M95512-D, 2 the M95M01, every other number the
 // M95512. It is what power-up gives, whose refusal of a number that is no part leaves the delivered M95512.
@@ -46,11 +47,11 @@ pub fn start(part: u8) -> Player
 }
 
 // The memory as delivered, every byte FFh: of any part, as many of these cells as it has.
-pub fn memory() -> [u8; CELLS]
+pub fn memory() -> [u8; LARGE_SIZE]
     ensures { λ r. ⌜ r ≡ deliveredMemory m95m01 ⌝ }
     ensures { λ r. ⌜ ((n : ℕ) → take (partOf n .size) r ≡ deliveredMemory (partOf n)) ⌝ }
 {
-    [255; CELLS]
+    [255; LARGE_SIZE]
 }
 
 // The identification page as delivered: as many of these cells as the part's page has.
@@ -60,9 +61,9 @@ pub fn identification(part: u8) -> [u8; ROOM]
 {
     let mut cells = [255; ROOM];
     if part == M95M01 {
-        cells[0] = 0x20;
-        cells[1] = 0x00;
-        cells[2] = 0x11;
+        cells[0] = MANUFACTURER;
+        cells[1] = FAMILY;
+        cells[2] = DENSITY;
     }
     cells
 }

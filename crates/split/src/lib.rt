@@ -6,20 +6,20 @@
 // The refusal is 7 where the run leaves the memory or has no such part, and the other three are 0 there.
 ghost use mathlib.Core.Path.{_≡_};
 ghost use Prim.Native.Nat.{_+_, _/_, _≤_};
-ghost use Rattle.codes.specs.Part.{partOf};
+ghost use Rattle.codes.specs.Part.{partOf, room, roomCells};
 ghost use Rattle.split.specs.Split.{count, start, end, splitRefusal, splitParts, splitAddress, splitLength};
 
 // Cells of the memory, and of a page, as addresses and lengths are compared with them.
 fn size(chip: u8) -> u64
     ensures { λ r. ⌜ r ≡ partOf chip .size ⌝ }
-    ensures { λ r. ⌜ r ≤ 131072 ⌝ }
+    ensures { λ r. ⌜ r ≤ roomCells ⌝ }
 {
     codes::size_of(chip) as u64
 }
 
 fn page(chip: u8) -> u64
     ensures { λ r. ⌜ r ≡ partOf chip .page ⌝ }
-    ensures { λ r. ⌜ r ≤ 256 ⌝ }
+    ensures { λ r. ⌜ r ≤ room ⌝ }
 {
     codes::page_of(chip) as u64
 }
@@ -51,7 +51,7 @@ fn count(chip: u8, address: u64, length: u64) -> u64
 
 // The first cell of a part.
 fn start(chip: u8, address: u64, part: u64) -> u64
-    requires { ⌜ (address ≤ 131072) × (part ≤ 131072) ⌝ }
+    requires { ⌜ (address ≤ roomCells) × (part ≤ roomCells) ⌝ }
     ensures { λ r. ⌜ r ≡ start (partOf chip .page) address part ⌝ }
 {
     if part == 0 {
@@ -62,7 +62,7 @@ fn start(chip: u8, address: u64, part: u64) -> u64
 
 // The cell past its last.
 fn end(chip: u8, address: u64, length: u64, part: u64) -> u64
-    requires { ⌜ (address + length ≤ 131072) × (part ≤ 131072) ⌝ }
+    requires { ⌜ (address + length ≤ roomCells) × (part ≤ roomCells) ⌝ }
     ensures { λ r. ⌜ r ≡ end (partOf chip .page) address length part ⌝ }
 {
     let past = address + length;

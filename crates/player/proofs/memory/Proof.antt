@@ -4,7 +4,7 @@ use mathlib.Core.Path.{_≡_, refl, ap, sym, _∙_}
 use native.Mathlib.Omega.{arith}
 use lib.ListN.{take, replicate, length-replicate, replicate-append-replicate}
 use lib.Seq.{take-at}
-use Rattle.codes.specs.Part.{partOf}
+use Rattle.codes.specs.Part.{partOf, roomCells}
 use Rattle.codes.proofs.Parts.{size-most}
 use Rattle.player.proofs.memory.Statement.{statement}
 use Rattle.player.proofs.memory.Tie as tie
@@ -17,8 +17,8 @@ returns : tie.Need-returns
 returns c = (
   refl,
   λ n.
-      let all : 131072 ≡ partOf n .size + (131072 - partOf n .size) = omega (arith, size-most n) in
-      ap (λ (k : ℕ). take (partOf n .size) (replicate k 0xff)) all ∙ front (partOf n .size) (131072 - partOf n .size) 0xff,
+      let all : roomCells ≡ partOf n .size + (roomCells - partOf n .size) = omega (arith, size-most n) in
+      ap (λ (k : ℕ). take (partOf n .size) (replicate k 0xff)) all ∙ front (partOf n .size) (roomCells - partOf n .size) 0xff,
 )
 
 pub memory-spec : {M : Type 1} → statement M

@@ -2,6 +2,7 @@ use mathlib.Core.Path.{sym, _∙_}
 use Prim.Native.Nat.{_≤_}
 use native.Mathlib.Omega.{arith}
 use lib.ListN.{length}
+use Rattle.codes.specs.Part.{roomHead}
 use Rattle.codes.proofs.Parts.{size-most}
 use Rattle.driver.proofs.Heads.{head-two, head-three, two-reach}
 use borrow.Author.Needs.{needs}
@@ -30,7 +31,7 @@ element-write-frame-3 c = search needs
 returns : tie.Need-returns
 returns c =
     let a = c .before .before .args in
-    let room : 4 ≤ length (a .frame .now) = omega (arith, c .before .before .pre .1) in
+    let room : roomHead ≤ length (a .frame .now) = omega (arith, c .before .before .pre .1) in
     head-two (a .part) (a .frame .now) (a .address) (c .before .before .pre .0) room (sym (c .before .address-bytes-of .ensures .0) ∙ c .if1 .taken)
 
 cast-frame-3 : tie.Need-cast-frame-3
@@ -54,7 +55,7 @@ element-write-frame-6 c = search needs
 returns-2 : tie.Need-returns-2
 returns-2 c =
     let a = c .before .before .args in
-    let room : 4 ≤ length (a .frame .now) = omega (arith, c .before .before .pre .1) in
+    let room : roomHead ≤ length (a .frame .now) = omega (arith, c .before .before .pre .1) in
     head-three (a .part) (a .frame .now) (a .address) (c .before .before .pre .0) room
     (λ q. c .if1 .left (c .before .address-bytes-of .ensures .0 ∙ q))
 
