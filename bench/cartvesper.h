@@ -7,6 +7,10 @@
  * such page, but its calls are lent one too, of 128 bytes, and leave it as it was. The M95512-D and the M95M01 read
  * their page and the page's lock with 83h. With 82h they write the page or set the lock.
  *
+ * The record keeps the number of blank cells, those of the memory that are FFh. Power-up and HEX import count them, and
+ * the end of a page's cycle adds the cells gained and takes off those lost. So the number stays right as long as a
+ * memory is changed by calls alone, each with the record that the last one gave.
+ *
  * Every call answers every input. A caller must guarantee only that a pointer and the length beside it name bytes that
  * are there (a null pointer with length 0 is an empty slice), and that what is lent to be written overlaps nothing else
  * that the same call is lent. No call keeps state, so calls from several threads need no lock unless they share lent
@@ -14,9 +18,9 @@
  *
  * Each answer's `number` is CARTVESPER_DONE or a refusal, 1 to 8 or 12. Where several apply the lowest is given, but
  * for the export of an M95M01, where 12 comes before 5. Everything lent and every record then comes back byte for byte
- * as it was, and every count and every `value` is 0. (Power-up takes no record: where it refuses, with 2 or 6, it gives
- * the delivered one.) 9 and 13 are of the driver alone, and come after frames were sent: they say how a run ended
- * before its last page.
+ * as it was, and every count and every `value` is 0. (Power-up takes no record: where it refuses, with 1, 2 or 6, it
+ * gives the delivered one, with the number of blank cells 0.) 9 and 13 are of the driver alone, and come after frames
+ * were sent: they say how a run ended before its last page.
  */
 #ifndef CARTVESPER_H
 #define CARTVESPER_H
@@ -34,8 +38,9 @@ extern "C" {
  * is none has the M95512's. */
 enum {
     CARTVESPER_DONE = 0,
-    CARTVESPER_MEMORY_LENGTH = 1, /* memory or identification page not of the part's length */
-    CARTVESPER_RECORD_RANGE = 2,  /* record, part, level or flag outside its range, or no event */
+    CARTVESPER_MEMORY_LENGTH = 1, /* memory or identification page not of the part's length; at power-up too */
+    CARTVESPER_RECORD_RANGE = 2,  /* record, part, level or flag outside its range, or no event; also a number of blank
+                                     cells above the memory's size */
     CARTVESPER_FRAME_LENGTH = 3,  /* slice above the memory's size plus 4 bytes */
     CARTVESPER_BIT_COUNT = 4,     /* bit count doesn't fit the slice */
     CARTVESPER_OUTPUT_LENGTH = 5, /* output length differs */
@@ -86,8 +91,9 @@ static inline size_t cartvesper_identification_of(uint8_t part) {
 /* The version of the records. Each change of a record's fields, their places or their sizes raises it. Whoever keeps
  * records in a file, or builds them in another language, keeps this number beside them. Version 1 stands for a byte for
  * each mark, version 2 for a bit; version 3 also for the part and its lock, and for whole bytes taken to 5; version 4
- * also for latches of 256 cells, and for whole bytes taken to 6 on the M95M01. */
-#define CARTVESPER_RECORDS 4
+ * also for latches of 256 cells, and for whole bytes taken to 6 on the M95M01; version 5 also for the number of blank
+ * cells. */
+#define CARTVESPER_RECORDS 5
 
 /* Bytes of an exported HEX text. */
 enum { CARTVESPER_HEX_TEXT = 180236 };
@@ -167,6 +173,8 @@ typedef struct {
     uint32_t cycle; /* 1 to 5,000, of the M95M01 1 to 4,000 */
     uint32_t left;  /* 0 to cycle; above 0 while a cycle runs, with WEL 1, of the M95M01 0 or 1 */
     uint32_t last;  /* the last clock reading */
+    uint32_t blank; /* FFh cells of the memory, 0 to its size. A wrong number is not looked for, and changes no other
+                       answer */
     cartvesper_waiting waits;
 } cartvesper_core;
 
@@ -204,6 +212,7 @@ CARTVESPER_ASSERT(offsetof(cartvesper_waiting, page) == 4);
 CARTVESPER_ASSERT(sizeof(cartvesper_core) == 320 && offsetof(cartvesper_core, waits) == 24);
 CARTVESPER_ASSERT(offsetof(cartvesper_core, lock) == 1 && offsetof(cartvesper_core, srwd) == 2);
 CARTVESPER_ASSERT(offsetof(cartvesper_core, cycle) == 8 && offsetof(cartvesper_core, last) == 16);
+CARTVESPER_ASSERT(offsetof(cartvesper_core, blank) == 20);
 CARTVESPER_ASSERT(sizeof(cartvesper_pins) == 5);
 CARTVESPER_ASSERT(sizeof(cartvesper_frame_part) == 304 && offsetof(cartvesper_frame_part, latch) == 16);
 CARTVESPER_ASSERT(offsetof(cartvesper_frame_part, address) == 8);
@@ -252,14 +261,18 @@ CARTVESPER_ASSERT(sizeof(cartvesper_value) == 8);
 
 /* ---- the frame model */
 
-/* Power-up of a part with the given lock, status bits, cycle length and clock reading. 2 (a part that is none, a lock
- * or a flag that is not 0 or 1) and then 6 leave the delivered record, whatever part was asked for: the M95512, lock
- * and status bits 0, cycle 5,000, reading 0. */
+/* Power-up of a part with the given lock, status bits, cycle length and clock reading. It is lent the memory, to read,
+ * and counts its blank cells into the record; the identification page is not lent. 1 (a memory that is not of the
+ * part's size), 2 (a part that is none, a lock or a flag that is not 0 or 1) and then 6 leave the delivered record,
+ * whatever part was asked for: the M95512, lock and status bits 0, cycle 5,000, reading 0. Its number of blank cells is
+ * then 0, as nothing was counted. */
 cartvesper_core_answer cartvesper_power_up(uint8_t part, uint8_t lock, uint32_t cycle, uint8_t srwd, uint8_t bp1,
-                                           uint8_t bp0, uint32_t reading);
+                                           uint8_t bp0, uint32_t reading, const uint8_t *memory, size_t size);
 /* A clock reading of the free-running 32-bit microsecond counter; the end of a cycle stores what waits: the marked
  * bytes of a page into the memory, those of the identification page into its cells, a status value or the lock into
- * the record. */
+ * the record. The end of a page's cycle adds to the number of blank cells those that become FFh and takes off those
+ * that no longer are; below 0 it is 0, above the memory's size that size. No other reading moves it: the identification
+ * page's cells do not count. */
 cartvesper_core_answer cartvesper_clock_reading(cartvesper_core core, uint32_t reading, uint8_t *memory, size_t size,
                                                 uint8_t *identification, size_t cells);
 /* A whole frame of `bits` bits, with W at level w; out has the slice's length and gets Q as it stands just before each
@@ -284,7 +297,8 @@ cartvesper_value cartvesper_core_touched(cartvesper_core core);
 
 /* Power-up, as in the frame model, with the pins at rest: S, W and HOLD high, C and D low. */
 cartvesper_device_answer cartvesper_device_power_up(uint8_t part, uint8_t lock, uint32_t cycle, uint8_t srwd,
-                                                    uint8_t bp1, uint8_t bp0, uint32_t reading);
+                                                    uint8_t bp1, uint8_t bp0, uint32_t reading, const uint8_t *memory,
+                                                    size_t size);
 /* One pin to a level: S falling selects and S rising ends the frame; C rising takes the bit on D, C falling moves Q,
  * so it is lent the cells that a frame may show; HOLD pauses while C is low. S rising in a pause drops the frame,
  * unless it is a WRITE (02h): that is executed where its count and its conditions allow, as it is outside a pause. */
@@ -294,7 +308,8 @@ cartvesper_device_answer cartvesper_device_set_c(cartvesper_device device, uint8
 cartvesper_device_answer cartvesper_device_set_d(cartvesper_device device, uint8_t level);
 cartvesper_device_answer cartvesper_device_set_w(cartvesper_device device, uint8_t level);
 cartvesper_device_answer cartvesper_device_set_hold(cartvesper_device device, uint8_t level);
-/* A clock reading, selected or not; the end of a cycle stores what waits. */
+/* A clock reading, selected or not; the end of a cycle stores what waits, and moves the number of blank cells, as in
+ * the frame model. */
 cartvesper_device_answer cartvesper_device_read_clock(cartvesper_device device, uint32_t reading, uint8_t *memory,
                                                       size_t size, uint8_t *identification, size_t cells);
 /* Q: value 0, 1, or CARTVESPER_Z */
@@ -339,8 +354,9 @@ cartvesper_latch_answer cartvesper_lay(cartvesper_latch earlier, cartvesper_latc
  *  13 the data touches the protected block of that status byte, as address + length is above the lowest protected
  *     address: nothing but the first wait's polls was sent. frames counts them, pages is 0. The record is that after
  *     the last of them, WEL as it is there, and no cell has changed but by a cycle that was already running
- * The identification page changes only by a cycle that was already running: the first wait may end it. The same run
- * sent twice, both with 0, leaves the memory that the first left. */
+ * The identification page changes only by a cycle that was already running: the first wait may end it. A poll that ends
+ * a page's cycle moves the number of blank cells as a clock reading does. The same run sent twice, both with 0, leaves
+ * the memory that the first left. */
 cartvesper_driver_answer cartvesper_write(cartvesper_core core, uint8_t *memory, size_t size, uint8_t *identification,
                                           size_t cells, uint64_t address, const uint8_t *bytes, size_t length,
                                           uint32_t interval, uint32_t limit);
@@ -367,7 +383,8 @@ uint32_t cartvesper_hex_export(cartvesper_core core, const uint8_t *memory, size
 /* The cells that a text names, a later record over an earlier one; cells that none names keep their bytes, whatever
  * protects them. A good text is records of type 00 with 0 to 255 bytes, upper case, LF ends, in any order, then exactly
  * :00000001FF and its LF, and nothing more. Refusals 1, 2, and 12 for any other text, while a cycle runs or for an
- * M95M01, with the memory as it was. The record comes back as it was given. */
+ * M95M01, with the memory as it was. The record comes back as it was given, but for one field: an import that is done
+ * counts the blank cells afresh, whatever their number was. */
 cartvesper_core_answer cartvesper_hex_import(cartvesper_core core, uint8_t *memory, size_t size, const uint8_t *text,
                                              size_t length);
 

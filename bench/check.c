@@ -145,6 +145,26 @@ static void enable(cartvesper_core *one)
     }
 }
 
+/* the memory alone, of any length; a branch on the number: a checker sees one that was never written */
+static void check_power_up(slices lent)
+{
+    uint32_t cycle = below(longest_cycle() + 2), reading = random32();
+    uint8_t lock = (uint8_t)below(3), bp0 = (uint8_t)below(2);
+    cartvesper_core_answer one =
+        cartvesper_power_up(part, lock, cycle, 0, 0, bp0, reading, lent.memory, lent.size);
+    cartvesper_device_answer other =
+        cartvesper_device_power_up(part, lock, cycle, 0, 0, bp0, reading, lent.memory, lent.size);
+    if (one.number != other.number || one.core.blank != other.device.core.blank) {
+        fprintf(stderr, "check: the two power-ups differ\n");
+        exit(1);
+    }
+    if (one.core.blank > (one.number == 0 ? lent.size : 0)) {
+        fprintf(stderr, "check: a power-up counted more blank cells than it was lent, or was refused and counted\n");
+        exit(1);
+    }
+    seen += one.core.blank;
+}
+
 static void check_frame(slices lent)
 {
     size_t length = random_length(), room = about(length);
@@ -325,6 +345,8 @@ static void check_call(void)
     if (on_heap || below(64) == 0)
         fill(lent.memory, lent.size);
     fill(lent.identification, lent.cells);
+    check_power_up(lent);
+    calls += 2;
     for (int i = 0; i < 8; i++) {
         if (below(4) == 0)
             begin_cycle(&core);
@@ -346,6 +368,22 @@ static void check_call(void)
     give_back(lent.identification);
 }
 
+/* new devices of a part, their memory counted: with FFh cells at both ends, where a count just ends */
+static void begin_part(void)
+{
+    part = (uint8_t)below(3);
+    uint8_t lock = (uint8_t)below(2), bp0 = (uint8_t)(below(4) == 0);
+    uint32_t cycle = 1 + below(longest_cycle()), reading = random32();
+    size_t size = memory_size();
+    uint8_t *memory = lend(0, size, 1);
+    fill(memory, size);
+    memory[0] = memory[size - 1] = 0xFF;
+    core = cartvesper_power_up(part, lock, cycle, 0, 0, bp0, reading, memory, size).core;
+    device = cartvesper_device_power_up(part, lock, cycle, 0, 0, 0, reading, memory, size).device;
+    calls += 2;
+    give_back(memory);
+}
+
 int main(int argc, char **argv)
 {
     if (argc < 2 || (strcmp(argv[1], "pages") != 0 && strcmp(argv[1], "heap") != 0)) {
@@ -357,13 +395,8 @@ int main(int argc, char **argv)
     state = (seed + 1) * 0x9E3779B97F4A7C15ULL | 1;
     map_areas();
     for (uint64_t i = 0; i < rounds; i++) {
-        if (i % 8 == 0) {
-            part = (uint8_t)below(3);
-            uint8_t lock = (uint8_t)below(2), bp0 = (uint8_t)(below(4) == 0);
-            uint32_t cycle = 1 + below(longest_cycle()), reading = random32();
-            core = cartvesper_power_up(part, lock, cycle, 0, 0, bp0, reading).core;
-            device = cartvesper_device_power_up(part, lock, cycle, 0, 0, 0, reading).device;
-        }
+        if (i % 8 == 0)
+            begin_part();
         check_call();
     }
     printf("check %s: nothing beside the lent bytes was touched in %llu calls\n", argv[1], (unsigned long long)calls);

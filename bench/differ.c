@@ -54,6 +54,15 @@ static void random_bytes(void *to, size_t length)
         bytes[i] = (uint8_t)random32();
 }
 
+/* some of the bytes become FFh, so that cells are blank, and are written blank */
+static void sprinkle_blank(void *to, size_t length)
+{
+    uint8_t *bytes = to;
+    uint32_t share = 1 + below(90);
+    for (size_t i = 0; i < length; i++)
+        bytes[i] = percent(share) ? 0xFF : bytes[i];
+}
+
 /* ---- lent bytes, one set for each side, with guards around them: the memory and the identification page */
 
 typedef struct {
@@ -99,6 +108,9 @@ static struct {
     uint64_t page_shown, lock_shown, unshown; /* their 83h past the address; those that drove nothing */
     uint64_t unknown, fields_swept;           /* 82h and 83h of the M95512; frames in hand made field by field */
     uint64_t disabled, stayed, unlatched;     /* WRDI in a cycle: WEL became 0, stayed; readings in a cycle at WEL 0 */
+    uint64_t gained, lost, rewritten;         /* marked cells at a page cycle's end: became FFh, were FFh, stayed FFh */
+    uint64_t at_zero, at_size;                /* page cycles' ends whose sum was held at 0, at the memory's size */
+    uint64_t scanned, twins;                  /* numbers of blank cells seen to be right; calls with two numbers */
     uint64_t of_part[PLAIN_PARTS];            /* frames ended, by the part: those of the frame model and at the pins */
     uint64_t numbers[14];                     /* answers by their number */
 } counts;
@@ -144,7 +156,8 @@ static void print_core(const cartvesper_core *core)
 {
     printf("    part %d lock %d srwd %d bp1 %d bp0 %d wel %d", core->part, core->lock, core->srwd, core->bp1, core->bp0,
            core->wel);
-    printf(" cycle %" PRIu32 " left %" PRIu32 " last %" PRIu32 "\n", core->cycle, core->left, core->last);
+    printf(" cycle %" PRIu32 " left %" PRIu32 " last %" PRIu32 " blank %" PRIu32 "\n", core->cycle, core->left,
+           core->last, core->blank);
     printf("    waits: kind %d status %02X page %" PRIu32 "\n", core->waits.kind, core->waits.status, core->waits.page);
     print_latch(&core->waits.latch);
 }
@@ -347,36 +360,78 @@ typedef struct {
     uint8_t part, lock;
 } which;
 
+/* refused: the delivered record of the M95512, with no cell counted */
+static void check_delivered(const cartvesper_core *core)
+{
+    cartvesper_core delivered;
+    memset(&delivered, 0, sizeof delivered);
+    delivered.cycle = CARTVESPER_LONGEST_CYCLE;
+    compare_cores("a refused power-up's record (second: wanted)", core, &delivered);
+}
+
+/* done: the number is the scan's */
+static void check_powered(uint32_t number, const cartvesper_core *core, size_t size)
+{
+    if (!plain_core_ok(core))
+        fail("the record handed back is outside the ranges");
+    if (number != 0)
+        check_delivered(core);
+    else
+        compare_numbers("blank cells (second: by the scan)", core->blank, plain_blank(lib_memory.bytes, size));
+    count_refusal(number);
+}
+
+/* lent so many bytes of the memory */
+static uint32_t try_power_up_of(cartvesper_core *core, which one, uint32_t cycle, uint8_t srwd, uint8_t bp1,
+                                uint8_t bp0, uint32_t reading, size_t size)
+{
+    begin_call(NULL, NULL,
+               "power_up part %d lock %d cycle %" PRIu32 " srwd %d bp1 %d bp0 %d reading %" PRIu32 ", memory %zu",
+               one.part, one.lock, cycle, srwd, bp1, bp0, reading, size);
+    cartvesper_core_answer lib = cartvesper_power_up(one.part, one.lock, cycle, srwd, bp1, bp0, reading,
+                                                     or_null(lib_memory.bytes, size), size);
+    cartvesper_core_answer plain = plain_power_up_call(one.part, one.lock, cycle, srwd, bp1, bp0, reading,
+                                                       or_null(plain_memory.bytes, size), size);
+    compare_numbers("the number", lib.number, plain.number);
+    compare_cores("the record", &lib.core, &plain.core);
+    compare_memory();
+    check_powered(lib.number, &lib.core, size);
+    *core = lib.core;
+    return lib.number;
+}
+
+static uint32_t try_device_power_up_of(cartvesper_device *device, which one, uint32_t cycle, uint8_t srwd, uint8_t bp1,
+                                       uint8_t bp0, uint32_t reading, size_t size)
+{
+    begin_call(NULL, NULL,
+               "device_power_up part %d lock %d cycle %" PRIu32 " srwd %d bp1 %d bp0 %d reading %" PRIu32
+               ", memory %zu",
+               one.part, one.lock, cycle, srwd, bp1, bp0, reading, size);
+    cartvesper_device_answer lib = cartvesper_device_power_up(one.part, one.lock, cycle, srwd, bp1, bp0, reading,
+                                                              or_null(lib_memory.bytes, size), size);
+    cartvesper_device_answer plain = plain_device_power_up_call(one.part, one.lock, cycle, srwd, bp1, bp0, reading,
+                                                                or_null(plain_memory.bytes, size), size);
+    compare_numbers("the number", lib.number, plain.number);
+    compare_devices("the record", &lib.device, &plain.device);
+    compare_memory();
+    if (!plain_device_ok(&lib.device))
+        fail("the record handed back is outside the ranges");
+    check_powered(lib.number, &lib.device.core, size);
+    *device = lib.device;
+    return lib.number;
+}
+
+/* lent what the part has */
 static uint32_t try_power_up(cartvesper_core *core, which one, uint32_t cycle, uint8_t srwd, uint8_t bp1, uint8_t bp0,
                              uint32_t reading)
 {
-    begin_call(NULL, NULL, "power_up part %d lock %d cycle %" PRIu32 " srwd %d bp1 %d bp0 %d reading %" PRIu32,
-               one.part, one.lock, cycle, srwd, bp1, bp0, reading);
-    cartvesper_core_answer lib = cartvesper_power_up(one.part, one.lock, cycle, srwd, bp1, bp0, reading);
-    cartvesper_core_answer plain = plain_power_up_call(one.part, one.lock, cycle, srwd, bp1, bp0, reading);
-    compare_numbers("the number", lib.number, plain.number);
-    compare_cores("the record", &lib.core, &plain.core);
-    if (!plain_core_ok(&lib.core))
-        fail("the record handed back is outside the ranges");
-    count_refusal(lib.number);
-    *core = lib.core;
-    return lib.number;
+    return try_power_up_of(core, one, cycle, srwd, bp1, bp0, reading, whole(one.part).size);
 }
 
 static uint32_t try_device_power_up(cartvesper_device *device, which one, uint32_t cycle, uint8_t srwd, uint8_t bp1,
                                     uint8_t bp0, uint32_t reading)
 {
-    begin_call(NULL, NULL, "device_power_up part %d lock %d cycle %" PRIu32 " srwd %d bp1 %d bp0 %d reading %" PRIu32,
-               one.part, one.lock, cycle, srwd, bp1, bp0, reading);
-    cartvesper_device_answer lib = cartvesper_device_power_up(one.part, one.lock, cycle, srwd, bp1, bp0, reading);
-    cartvesper_device_answer plain = plain_device_power_up_call(one.part, one.lock, cycle, srwd, bp1, bp0, reading);
-    compare_numbers("the number", lib.number, plain.number);
-    compare_devices("the record", &lib.device, &plain.device);
-    if (!plain_device_ok(&lib.device))
-        fail("the record handed back is outside the ranges");
-    count_refusal(lib.number);
-    *device = lib.device;
-    return lib.number;
+    return try_device_power_up_of(device, one, cycle, srwd, bp1, bp0, reading, whole(one.part).size);
 }
 
 /* the cells that what waits is to be stored in */
@@ -399,6 +454,43 @@ static void count_cycle_end(const cartvesper_core *before, const cartvesper_core
     counts.kept += before->waits.kind == 3 ? changed : 0;
     counts.identified += before->waits.kind == 3;
     counts.locked += before->waits.kind == 4;
+}
+
+/* how a page cycle's end moves the number, cell by cell: a marked cell that keeps its byte is neither gained nor lost;
+ * one clamp of the sum */
+static uint32_t blank_after(const cartvesper_core *before, const uint8_t *old_page)
+{
+    const int64_t size = whole(before->part).size;
+    int64_t number = before->blank;
+    for (size_t i = 0; i < whole(before->part).cells; i++) {
+        if (!cartvesper_marked(&before->waits.latch, i))
+            continue;
+        int was = old_page[i] == 0xFF, is = before->waits.latch.bytes[i] == 0xFF;
+        number += is - was;
+        counts.gained += (uint64_t)(is && !was);
+        counts.lost += (uint64_t)(was && !is);
+        counts.rewritten += (uint64_t)(was && is);
+    }
+    counts.at_zero += number < 0;
+    counts.at_size += number > size;
+    return (uint32_t)(number < 0 ? 0 : number > size ? size : number);
+}
+
+/* a reading: only the end of a page's cycle moves the number */
+static void check_blank(const cartvesper_core *before, const cartvesper_core *after, const uint8_t *old_page)
+{
+    int page_ends = before->left > 0 && after->left == 0 && before->waits.kind == 2;
+    compare_numbers("blank cells (second: wanted)", after->blank,
+                    page_ends ? blank_after(before, old_page) : before->blank);
+}
+
+/* a record that has had the right number for this memory: it has it still */
+static void check_right(const cartvesper_core *core)
+{
+    begin_call(core, NULL, "a record with the right number of blank cells for its memory");
+    compare_numbers("blank cells (second: by the scan)", core->blank,
+                    plain_blank(lib_memory.bytes, whole(core->part).size));
+    counts.scanned++;
 }
 
 /* a WRDI, an 82h or an 83h at its deselect, of the frame model or of the pins: `taken` whole bytes, up to the part's
@@ -546,8 +638,10 @@ static uint32_t try_reading(cartvesper_core *core, uint32_t reading, lengths len
     check_core(lib.number, &given, &lib.core);
     counts.readings++;
     counts.unlatched += lib.number == 0 && given.left > 0 && !given.wel;
-    if (lib.number == 0)
+    if (lib.number == 0) {
         count_cycle_end(&given, &lib.core, page);
+        check_blank(&given, &lib.core, page);
+    }
     *core = lib.core;
     try_core_touched(core);
     return lib.number;
@@ -591,6 +685,7 @@ static uint32_t try_frame(cartvesper_core *core, lengths lent, uint8_t w, size_t
     compare_memory();
     check_core(lib.number, &given, &lib.core);
     counts.frames++;
+    compare_numbers("blank cells after a frame (second: wanted)", lib.core.blank, given.blank);
     counts.driven += lib.number == 0 ? bits - lib.undriven : 0;
     counts.executed += given.left == 0 && lib.core.left != 0;
     if (lib.number == 0)
@@ -683,8 +778,12 @@ static uint32_t try_event(cartvesper_device *device, int kind, uint32_t value, l
     counts.events++;
     counts.readings += kind == CLOCK;
     counts.executed += given.core.left == 0 && lib.device.core.left != 0;
-    if (kind == CLOCK && lib.number == 0)
+    if (kind == CLOCK && lib.number == 0) {
         count_cycle_end(&given.core, &lib.device.core, page);
+        check_blank(&given.core, &lib.device.core, page);
+    }
+    if (kind != CLOCK)
+        compare_numbers("blank cells after a pin event (second: wanted)", lib.device.core.blank, given.core.blank);
     if (kind == SET_S && lib.number == 0)
         count_deselect(&given, &lib.device);
     *device = lib.device;
@@ -812,7 +911,29 @@ static void new_memory(void)
         memset(&lib_memory, 0xFF, sizeof lib_memory);
     else
         random_bytes(&lib_memory, sizeof lib_memory);
+    if (percent(50))
+        sprinkle_blank(&lib_memory, sizeof lib_memory);
     plain_memory = lib_memory;
+}
+
+/* a number of blank cells inside the range, seldom the right one: at both ends, near them, or any */
+static uint32_t random_blank(uint8_t part)
+{
+    const uint32_t size = plain_row_of(part)->size;
+    switch (below(8)) {
+    case 0:
+        return 0;
+    case 1:
+        return size;
+    case 2:
+    case 3:
+        return below(300);
+    case 4:
+    case 5:
+        return size - below(300);
+    default:
+        return below(size + 1);
+    }
 }
 
 static uint32_t random_cycle(uint8_t part)
@@ -991,6 +1112,8 @@ static size_t random_frame(uint8_t part, size_t *bits, int longest)
     if (longest)
         length = plain_longest_frame(row) - 2 + below(4);
     random_bytes(frame_bytes, length);
+    if (code != WRSR && percent(50))
+        sprinkle_blank(frame_bytes, length);
     if (length >= plain_head(row))
         put_address(row, address_for(code, row));
     frame_bytes[0] = code;
@@ -1060,7 +1183,10 @@ static void frame_session(int steps)
             try_reading(&core, random_reading(&core), random_lengths(core.part, 2));
         if (percent(10))
             try_core_queries(&core, random_question(core.part));
+        if (percent(5))
+            check_right(&core);
     }
+    check_right(&core);
 }
 
 /* ---- runs of the driver, and parts */
@@ -1171,6 +1297,8 @@ static void random_write(cartvesper_core *core, uint32_t damage)
     if (length > 1000 && interval < core->cycle / 4) /* else some 2,000,000 polls */
         interval = 1000;
     random_bytes(run_bytes, length < 1000 ? length : 1000);
+    if (percent(50))
+        sprinkle_blank(run_bytes, length);
     try_write(core, random_lengths(core->part, damage), random_run_address(row, length), length, interval, limit);
 }
 
@@ -1212,7 +1340,8 @@ static void try_parts(int count)
     }
 }
 
-/* ---- power-up at the edges of the cycle length, with parts that are none, a lock and flags that are not 0 or 1 */
+/* ---- power-up at the edges of the cycle length, with parts that are none, a lock and flags that are not 0 or 1, and
+ * with a memory of another length: none, one byte short, one too long, another part's */
 
 static uint8_t random_flag(void)
 {
@@ -1229,8 +1358,9 @@ static void try_power_ups(int count)
         uint8_t srwd = random_flag(), bp1 = random_flag(), bp0 = random_flag();
         uint32_t reading = random_clock();
         which one = random_which(15);
-        try_power_up(&core, one, cycle, srwd, bp1, bp0, reading);
-        try_device_power_up(&device, one, cycle, srwd, bp1, bp0, reading);
+        size_t size = random_lengths(one.part, 30).size;
+        try_power_up_of(&core, one, cycle, srwd, bp1, bp0, reading, size);
+        try_device_power_up_of(&device, one, cycle, srwd, bp1, bp0, reading, size);
         compare_cores("the two power-ups: device (first), core (second)", &device.core, &core);
     }
 }
@@ -1467,7 +1597,7 @@ static uint64_t random_word(void)
 static void fill_marked(cartvesper_latch *latch)
 {
     for (size_t i = 0; i < CELLS; i++)
-        latch->bytes[i] = cartvesper_marked(latch, i) ? (uint8_t)random32() : 0;
+        latch->bytes[i] = cartvesper_marked(latch, i) ? (uint8_t)(percent(30) ? 0xFF : random32()) : 0;
 }
 
 /* marks in the first cells alone, those of a part's page */
@@ -1511,6 +1641,7 @@ static cartvesper_core random_core_of(uint8_t part)
     core.wel = (uint8_t)percent(60);
     core.cycle = random_cycle(part);
     core.last = random_clock();
+    core.blank = percent(10) ? plain_blank(lib_memory.bytes, whole(part).size) : random_blank(part);
     if (percent(40))
         begin_cycle(&core);
     return core;
@@ -1639,6 +1770,7 @@ static void pin_session(int scripts)
             device.core.lock = (uint8_t)percent(30);
         new_script(&device);
         run_script(&device);
+        check_right(&device.core);
     }
 }
 
@@ -1690,7 +1822,8 @@ static void begin_status_cycle(cartvesper_core *core)
         try_frame(core, lent, 1, 1, 8, 1);
 }
 
-/* from a device as the last run left it, in a cycle too, or from a record that no calls reach */
+/* from a device as the last run left it, in a cycle too, or from a record that no calls reach, with the right number of
+ * blank cells for its part */
 static void driver_session(int runs)
 {
     cartvesper_core core;
@@ -1698,8 +1831,10 @@ static void driver_session(int runs)
     new_memory();
     try_power_up(&core, one, random_cycle(one.part), percent(20), percent(20), percent(30), random_clock());
     for (int i = 0; i < runs; i++) {
-        if (percent(20))
+        if (percent(20)) {
             core = random_core();
+            core.blank = plain_blank(lib_memory.bytes, whole(core.part).size);
+        }
         if (percent(10))
             frame_step(&core);
         if (percent(10))
@@ -1707,7 +1842,10 @@ static void driver_session(int runs)
         if (percent(15))
             begin_status_cycle(&core);
         random_write(&core, 2);
+        if (percent(10))
+            check_right(&core);
     }
+    check_right(&core);
 }
 
 /* ---- damaged records */
@@ -1729,7 +1867,7 @@ static const field core_fields[] = {CORE_FIELD(part),       CORE_FIELD(lock),   
                                     CORE_FIELD(bp1),        CORE_FIELD(bp0),          CORE_FIELD(wel),
                                     CORE_FIELD(cycle),      CORE_FIELD(left),         CORE_FIELD(last),
                                     CORE_FIELD(waits.kind), CORE_FIELD(waits.status), CORE_FIELD(waits.page),
-                                    LATCH_FIELDS(CORE_FIELD, waits.latch)};
+                                    CORE_FIELD(blank),      LATCH_FIELDS(CORE_FIELD, waits.latch)};
 static const field device_fields[] = {DEVICE_FIELD(pins.s),      DEVICE_FIELD(pins.c),     DEVICE_FIELD(pins.d),
                                       DEVICE_FIELD(pins.w),      DEVICE_FIELD(pins.hold),  DEVICE_FIELD(held),
                                       DEVICE_FIELD(frame.taken), DEVICE_FIELD(frame.bits), DEVICE_FIELD(frame.partial),
@@ -1742,8 +1880,9 @@ static const uint64_t edges[] = {0,          1,          2,          3,         
                                  6,          7,          8,          9,                  16,              127,
                                  128,        255,        256,        511,                512,             3999,
                                  4000,       4001,       4999,       5000,               5001,            65535,
-                                 65536,      131071,     131072,     0x7FFFFFFF,         0xFFFFFFFF,      1ULL << 32,
-                                 1ULL << 62, 1ULL << 63, 0xFFFFFFFF00000000, UINT64_MAX >> 1, UINT64_MAX};
+                                 65536,      65537,      131071,     131072,             131073,          0x7FFFFFFF,
+                                 0xFFFFFFFF, 1ULL << 32, 1ULL << 62, 1ULL << 63, 0xFFFFFFFF00000000,
+                                 UINT64_MAX >> 1, UINT64_MAX};
 enum { EDGES = sizeof edges / sizeof *edges };
 
 static uint64_t damaged_value(uint64_t old)
@@ -1949,6 +2088,7 @@ static cartvesper_core core_of(uint8_t part, uint8_t kind, uint32_t beside)
     core.lock = (uint8_t)(percent(70) ? below(2) : percent(70) ? 2 : 255);
     core.cycle = random_cycle(part);
     core.last = random_clock();
+    core.blank = random_blank(part);
     core.left = beside & 1 ? 1 + below(core.cycle) : 0;
     core.wel = beside >> 1 & 1;
     core.waits.kind = kind;
@@ -1968,7 +2108,7 @@ static void sweep_parts(void)
         for (uint32_t beside = 0; beside < 6 * 64; beside++) {
             cartvesper_core core = core_of(parts[p], (uint8_t)(beside / 64), beside % 64);
             cartvesper_device device;
-            plain_device_power_up(&device, 0, 0, 1, 0, 0, 0, 0);
+            plain_device_power_up(&device, 0, 0, 1, 0, 0, 0, 0, 0);
             device.core = core;
             try_core_queries(&core, random_question(core.part));
             try_reading(&core, core.last + core.left, random_lengths(core.part, 5));
@@ -1987,7 +2127,8 @@ static cartvesper_device device_of(uint8_t part, uint8_t code, uint8_t taken, ui
 {
     cartvesper_device device;
     uint32_t cell = percent(70) ? below(CELLS / 2) : below(CELLS);
-    plain_device_power_up(&device, part, percent(30), random_cycle(part), 0, percent(30), percent(30), random_clock());
+    plain_device_power_up(&device, part, percent(30), random_cycle(part), 0, percent(30), percent(30), random_clock(),
+                          random_blank(part));
     device.pins.s = 0;
     device.pins.c = (uint8_t)below(2);
     device.core.wel = (uint8_t)percent(70);
@@ -2073,7 +2214,7 @@ static cartvesper_device device_in_write(uint8_t part, uint8_t code)
     cartvesper_device device;
     const plain_row *row = plain_row_of(part);
     int lock = code == WRITE && percent(50);
-    plain_device_power_up(&device, part, lock, random_cycle(part), 0, 0, 0, random_clock());
+    plain_device_power_up(&device, part, lock, random_cycle(part), 0, 0, 0, random_clock(), random_blank(part));
     device.core.wel = 1;
     device.pins.s = 0;
     device.frame.taken = (uint8_t)(plain_head(row) + 1 + below(2));
@@ -2087,7 +2228,7 @@ static void try_waiting(const cartvesper_latch *latch, uint8_t part, uint8_t kin
 {
     cartvesper_core core = core_with(part, kind);
     cartvesper_device device;
-    plain_device_power_up(&device, 0, 0, 1, 0, 0, 0, 0);
+    plain_device_power_up(&device, 0, 0, 1, 0, 0, 0, 0, 0);
     core.waits.latch = *latch;
     device.core = core;
     expect_core_touched(&core, number, cells);
@@ -2449,6 +2590,8 @@ static void try_twice(void)
     if (percent(70)) /* else half of the runs touch the block */
         core.bp1 = core.bp0 = core.waits.status = 0;
     random_bytes(run_bytes, length < 1000 ? length : 1000);
+    if (percent(50))
+        sprinkle_blank(run_bytes, length);
     if (try_write(&core, lent, address, length, interval, plain_most_polls(row)) != 0)
         return;
     compare_bytes("the run's cells (first), its bytes (second)", lib_memory.bytes + address, run_bytes, length, 0);
@@ -2468,6 +2611,153 @@ static void twice_session(int count)
     new_memory();
     for (int i = 0; i < count; i++)
         try_twice();
+}
+
+/* ---- a wrong number of blank cells changes no other answer: 02, Item 6. The library twice on the same input, but that
+ * the second record, a twin of the first, has another number; the second is lent the plain side's bytes */
+
+static void compare_twin_cores(const cartvesper_core *one, cartvesper_core other)
+{
+    other.blank = one->blank;
+    compare_cores("the record but for the number (second: its twin's)", one, &other);
+    counts.twins++;
+}
+
+static void compare_twin_devices(const cartvesper_device *one, cartvesper_device other)
+{
+    other.core.blank = one->core.blank;
+    compare_devices("the record but for the number (second: its twin's)", one, &other);
+    counts.twins++;
+}
+
+static void compare_twin_values(cartvesper_value one, cartvesper_value other)
+{
+    compare_numbers("the number (second: its twin's)", one.number, other.number);
+    compare_numbers("the value (second: its twin's)", one.value, other.value);
+    counts.twins++;
+}
+
+static void twin_readings(cartvesper_core core, cartvesper_core twin)
+{
+    const lengths lent = random_lengths(core.part, 5);
+    uint32_t reading = random_reading(&core);
+    begin_call(&core, NULL, "clock_reading %" PRIu32 ", its twin with %" PRIu32 " blank cells", reading, twin.blank);
+    cartvesper_core_answer one = cartvesper_clock_reading(core, reading, LENT(lib_memory, lent));
+    cartvesper_core_answer other = cartvesper_clock_reading(twin, reading, LENT(plain_memory, lent));
+    compare_numbers("the number (second: its twin's)", one.number, other.number);
+    compare_twin_cores(&one.core, other.core);
+    compare_memory();
+}
+
+static void twin_frames(cartvesper_core core, cartvesper_core twin)
+{
+    const lengths lent = random_lengths(core.part, 5);
+    size_t bits, length = random_frame(core.part, &bits, 0), room = off_by_one(length, 5);
+    uint8_t w = (uint8_t)below(2);
+    begin_call(&core, NULL, "frame of %zu bits, its twin with %" PRIu32 " blank cells", bits, twin.blank);
+    hand.bytes = frame_bytes;
+    hand.length = length;
+    stale_outputs(output_span(length, room));
+    cartvesper_frame_answer one =
+        cartvesper_frame(core, LENT(lib_memory, lent), w, frame_bytes, length, bits, lib_out.bytes, room);
+    cartvesper_frame_answer other =
+        cartvesper_frame(twin, LENT(plain_memory, lent), w, frame_bytes, length, bits, plain_out.bytes, room);
+    compare_numbers("the number (second: its twin's)", one.number, other.number);
+    compare_numbers("the undriven count (second: its twin's)", one.undriven, other.undriven);
+    compare_twin_cores(&one.core, other.core);
+    compare_bytes("the output (or beside it)", lib_out.before, plain_out.before, output_span(length, room), GUARD);
+    compare_memory();
+}
+
+static void twin_writes(cartvesper_core core, cartvesper_core twin)
+{
+    const lengths lent = random_lengths(core.part, 5);
+    size_t length = below(600);
+    uint64_t address = random_run_address(plain_row_of(core.part), length);
+    uint32_t interval = random_interval(&core), limit = random_limit(&core, interval);
+    random_bytes(run_bytes, length);
+    sprinkle_blank(run_bytes, length);
+    begin_call(&core, NULL, "write of %zu bytes at %" PRIu64 ", its twin with %" PRIu32 " blank cells", length, address,
+               twin.blank);
+    cartvesper_driver_answer one =
+        cartvesper_write(core, LENT(lib_memory, lent), address, run_bytes, length, interval, limit);
+    cartvesper_driver_answer other =
+        cartvesper_write(twin, LENT(plain_memory, lent), address, run_bytes, length, interval, limit);
+    compare_numbers("the number (second: its twin's)", one.number, other.number);
+    compare_numbers("pages done (second: its twin's)", one.pages, other.pages);
+    compare_numbers("frames sent (second: its twin's)", one.frames, other.frames);
+    compare_twin_cores(&one.core, other.core);
+    compare_memory();
+}
+
+static void twin_questions(const cartvesper_device *device, const cartvesper_device *twin)
+{
+    const cartvesper_core core = device->core, other = twin->core;
+    uint32_t address = random_question(core.part);
+    begin_call(NULL, device, "what is asked, its twin with %" PRIu32 " blank cells", other.blank);
+    compare_twin_values(cartvesper_core_in_ranges(core), cartvesper_core_in_ranges(other));
+    compare_twin_values(cartvesper_core_status(core), cartvesper_core_status(other));
+    compare_twin_values(cartvesper_core_lowest_protected(core), cartvesper_core_lowest_protected(other));
+    compare_twin_values(cartvesper_core_protected(core, address), cartvesper_core_protected(other, address));
+    compare_twin_values(cartvesper_core_touched(core), cartvesper_core_touched(other));
+    compare_twin_values(cartvesper_device_q(*device), cartvesper_device_q(*twin));
+    compare_twin_values(cartvesper_device_status(*device), cartvesper_device_status(*twin));
+    compare_twin_values(cartvesper_device_touched(*device), cartvesper_device_touched(*twin));
+    compare_twin_values(cartvesper_device_in_ranges(*device), cartvesper_device_in_ranges(*twin));
+}
+
+static void twin_events(const cartvesper_device *device, const cartvesper_device *twin)
+{
+    const lengths lent = random_lengths(device->core.part, 5);
+    for (int kind = SET_S; kind <= CLOCK; kind++) {
+        uint32_t value = kind == CLOCK ? random_reading(&device->core) : below(2);
+        begin_call(NULL, device, "event %d.%" PRIu32 ", its twin with %" PRIu32 " blank cells", kind, value,
+                   twin->core.blank);
+        cartvesper_device_answer one = lib_event(device, kind, value, lent), other;
+        start_memory = lib_memory;
+        lib_memory = plain_memory; /* the twin's turn */
+        other = lib_event(twin, kind, value, lent);
+        plain_memory = lib_memory;
+        lib_memory = start_memory;
+        compare_numbers("the number (second: its twin's)", one.number, other.number);
+        compare_twin_devices(&one.device, other.device);
+        compare_memory();
+    }
+}
+
+static void twin_lists(const cartvesper_device *device, const cartvesper_device *twin)
+{
+    const lengths lent = random_lengths(device->core.part, 5);
+    new_script(device);
+    size_t count = script_count, room = off_by_one(count, 5);
+    begin_call(NULL, device, "device_play of %zu events, its twin with %" PRIu32 " blank cells", count,
+               twin->core.blank);
+    hand.events = script;
+    hand.count = count;
+    stale_outputs(output_span(count, room));
+    cartvesper_device_answer one =
+        cartvesper_device_play(*device, LENT(lib_memory, lent), script, count, lib_out.bytes, room);
+    cartvesper_device_answer other =
+        cartvesper_device_play(*twin, LENT(plain_memory, lent), script, count, plain_out.bytes, room);
+    compare_numbers("the number (second: its twin's)", one.number, other.number);
+    compare_twin_devices(&one.device, other.device);
+    compare_bytes("the output (or beside it)", lib_out.before, plain_out.before, output_span(count, room), GUARD);
+    compare_memory();
+}
+
+static void try_twins(int count)
+{
+    new_memory();
+    for (int i = 0; i < count; i++) {
+        cartvesper_device device = random_device(), twin = device;
+        twin.core.blank = random_blank(device.core.part);
+        twin_questions(&device, &twin);
+        twin_readings(device.core, twin.core);
+        twin_frames(device.core, twin.core);
+        twin_writes(device.core, twin.core);
+        twin_events(&device, &twin);
+        twin_lists(&device, &twin);
+    }
 }
 
 /* ---- the two models against each other, through the library: 01 "Frames" */
@@ -2608,10 +2898,11 @@ static void cross_frame(cartvesper_device *device, int longest)
 static cartvesper_device device_about_page(uint8_t part)
 {
     cartvesper_device device;
-    plain_device_power_up(&device, part, 0, 1, 0, 0, 0, 0);
+    plain_device_power_up(&device, part, 0, 1, 0, 0, 0, 0, 0);
     device.core = random_core_of(part);
     if (percent(50)) {
-        plain_core_power_up(&device.core, part, 0, random_cycle(part), percent(50), percent(30), 0, random_clock());
+        plain_core_power_up(&device.core, part, 0, random_cycle(part), percent(50), percent(30), 0, random_clock(),
+                            random_blank(part));
         device.core.wel = 1;
     }
     return device;
@@ -2651,7 +2942,8 @@ static void try_conditions(int count)
         size_t head = plain_head(row), more = lock ? 0 : percent(80) ? below(4) : below(row->page + 8);
         size_t length = head + 1 + more, bits = 8 * length;
         cartvesper_device device;
-        plain_device_power_up(&device, part, faults >> 3 & 1, random_cycle(part), percent(50), 0, 0, random_clock());
+        plain_device_power_up(&device, part, faults >> 3 & 1, random_cycle(part), percent(50), 0, 0, random_clock(),
+                              random_blank(part));
         device.core.bp1 = faults & 16 || percent(30);
         device.core.bp0 = faults & 16 || (!device.core.bp1 && percent(30));
         if (faults & 1)
@@ -2675,7 +2967,8 @@ static void try_addressed(int count)
         const uint32_t ends[] = {row->size, row->size / 2, row->page * (1 + below(PAGES))};
         size_t length = plain_head(row) + below(8);
         cartvesper_device device;
-        plain_device_power_up(&device, part, 0, random_cycle(part), 0, percent(30), percent(30), random_clock());
+        plain_device_power_up(&device, part, 0, random_cycle(part), 0, percent(30), percent(30), random_clock(),
+                              random_blank(part));
         device.core.wel = (uint8_t)percent(80);
         random_bytes(frame_bytes, length);
         frame_bytes[0] = percent(50) ? READ : WRITE;
@@ -2694,7 +2987,7 @@ static void try_in_cycle(int count)
         uint8_t part = (uint8_t)below(PLAIN_PARTS);
         cartvesper_device device;
         plain_device_power_up(&device, part, percent(50), random_cycle(part), percent(30), percent(30), percent(30),
-                              random_clock());
+                              random_clock(), random_blank(part));
         begin_cycle(&device.core);
         for (uint32_t frames = 1 + below(3); frames > 0; frames--) {
             size_t bits = bit_counts[below(sizeof bit_counts)];
@@ -2734,7 +3027,7 @@ static void try_in_hold(int count)
         uint8_t part = identified_part();
         uint32_t head = plain_head(plain_row_of(part));
         int lock = percent(40), write = percent(20);
-        plain_device_power_up(&device, part, 0, random_cycle(part), 0, 0, 0, random_clock());
+        plain_device_power_up(&device, part, 0, random_cycle(part), 0, 0, 0, random_clock(), random_blank(part));
         device.core.wel = 1;
         page_frame(part, write ? WRITE : WRID, lock, head + 3);
         frame_bytes[head] |= LOCK_DATA;
@@ -2748,7 +3041,7 @@ static void try_wrdi_in_hold(int count)
     for (int i = 0; i < count; i++) {
         cartvesper_device device;
         uint8_t part = (uint8_t)below(PLAIN_PARTS);
-        plain_device_power_up(&device, part, 0, random_cycle(part), 0, 0, 0, random_clock());
+        plain_device_power_up(&device, part, 0, random_cycle(part), 0, 0, 0, random_clock(), random_blank(part));
         begin_cycle(&device.core);
         device.core.wel = 1;
         frame_bytes[0] = WRDI;
@@ -3042,7 +3335,7 @@ static void case_refused(const char *what, cartvesper_core core, lengths lent, u
 {
     cartvesper_core sent = core;
     cartvesper_device device;
-    plain_device_power_up(&device, 0, 0, 1, 0, 0, 0, 0);
+    plain_device_power_up(&device, 0, 0, 1, 0, 0, 0, 0, 0);
     device.core = core;
     memset(frame_bytes, 0, 5);
     for (frame_bytes[0] = WRID; frame_bytes[0] <= RDID; frame_bytes[0]++)
@@ -3291,6 +3584,277 @@ static void cases_sizes(void)
     }
 }
 
+/* ---- the number of blank cells: 02, Item 6, with values made by hand */
+
+/* every cell of a memory, on both sides */
+static void fill_cells(uint8_t byte)
+{
+    memset(lib_memory.bytes, byte, sizeof lib_memory.bytes);
+    plain_memory = lib_memory;
+}
+
+static void put_cell(size_t cell, uint8_t byte)
+{
+    lib_memory.bytes[cell] = plain_memory.bytes[cell] = byte;
+}
+
+/* power-up counts all cells of the part's memory, and no others */
+static void case_counted(const char *what, uint8_t part, uint32_t cells)
+{
+    cartvesper_core core;
+    cartvesper_device device;
+    try_power_up(&core, (which){part, 0}, 4000, 0, 0, 0, 0);
+    try_device_power_up(&device, (which){part, 0}, 4000, 0, 0, 0, 0);
+    case_expect(what, core.blank, cells);
+    case_expect(what, device.core.blank, cells);
+}
+
+static void cases_counted(void)
+{
+    fill_cells(0xFF);
+    case_counted("M95512: every cell blank (second: wanted)", M95512, 65536);
+    case_counted("M95512-D: every cell blank (second: wanted)", M95512D, 65536);
+    case_counted("M95M01: every cell blank (second: wanted)", M95M01, 131072);
+    fill_cells(0xFE);
+    case_counted("M95512: none blank (second: wanted)", M95512, 0);
+    case_counted("M95M01: none blank (second: wanted)", M95M01, 0);
+    put_cell(0, 0xFF);
+    put_cell(0xFFFF, 0xFF);
+    put_cell(0x10000, 0xFF); /* past the M95512's last cell */
+    put_cell(0x1FFFF, 0xFF);
+    put_cell(0x20000, 0xFF); /* past the M95M01's */
+    case_counted("M95512: the first and the last cell (second: wanted)", M95512, 2);
+    case_counted("M95512-D: the first and the last cell (second: wanted)", M95512D, 2);
+    case_counted("M95M01: four cells (second: wanted)", M95M01, 4);
+}
+
+/* at power-up: 1 before 2 before 6, and each leaves the delivered record with no cell counted */
+static void case_unpowered(const char *what, uint8_t part, uint32_t cycle, size_t size, uint32_t number)
+{
+    cartvesper_core core;
+    cartvesper_device device;
+    case_expect(what, try_power_up_of(&core, (which){part, 0}, cycle, 0, 1, 1, 9, size), number);
+    case_expect(what, try_device_power_up_of(&device, (which){part, 0}, cycle, 0, 1, 1, 9, size), number);
+    if (number == 0)
+        return;
+    case_expect(what, core.blank, 0);
+    case_expect(what, core.part, M95512);
+    case_expect(what, core.cycle, 5000);
+    case_expect(what, core.last, 0);
+    case_expect(what, core.bp0, 0);
+    compare_cores("the two power-ups: device (first), core (second)", &device.core, &core);
+}
+
+static void cases_unpowered(void)
+{
+    static const uint8_t parts[] = {M95512, M95512D, M95M01, 3, 255};
+    fill_cells(0xFF);
+    for (size_t p = 0; p < sizeof parts; p++) {
+        const uint8_t part = parts[p];
+        const size_t own = whole(part).size, other = own == 65536 ? 131072 : 65536;
+        const size_t sizes[] = {0, own - 1, own + 1, other};
+        for (size_t i = 0; i < sizeof sizes / sizeof *sizes; i++) {
+            case_unpowered("a memory of another length (second: wanted)", part, 4000, sizes[i], 1);
+            case_unpowered("a memory of another length, cycle 0 (second: wanted)", part, 0, sizes[i], 1);
+        }
+        case_unpowered("cycle 0 (second: wanted)", part, 0, own, part > M95M01 ? 2 : 6);
+        case_unpowered("cycle 4,000 (second: wanted)", part, 4000, own, part > M95M01 ? 2 : 0);
+    }
+}
+
+/* so many cells of a page gained, so many lost, others marked that keep FFh or 00h, and the rest not marked: the number
+ * before and after */
+static void case_blank(const char *what, uint8_t part, uint32_t number, size_t gained, size_t lost, uint32_t wanted)
+{
+    const size_t page = whole(part).cells;
+    cartvesper_core core;
+    try_power_up(&core, (which){part, 0}, 4000, 0, 0, 0, 0);
+    core.wel = 1;
+    core.left = core.cycle;
+    core.waits.kind = 2;
+    core.waits.page = below(PAGES);
+    core.blank = number;
+    for (size_t i = 0; i < page; i++) {
+        int gains = i < gained, loses = !gains && i < gained + lost, marked = gains || loses || i % 4 < 2;
+        put_cell(core.waits.page * page + i, loses || (!gains && i % 2) ? 0xFF : 0x00);
+        core.waits.latch.bytes[i] = marked && (gains || (!loses && i % 2)) ? 0xFF : 0x00;
+        core.waits.latch.marks[i / WORD] |= (uint64_t)marked << i % WORD;
+    }
+    whole_reading(&core, core.last + 3999);
+    case_expect("blank cells before the cycle's end (second: wanted)", core.blank, number);
+    whole_reading(&core, core.last + 1);
+    case_expect(what, core.blank, wanted);
+}
+
+static void cases_moved(uint8_t part)
+{
+    const uint32_t size = plain_row_of(part)->size, page = plain_row_of(part)->page;
+    case_blank("three cells gained (second: wanted)", part, 1000, 3, 0, 1003);
+    case_blank("three cells lost (second: wanted)", part, 1000, 0, 3, 997);
+    case_blank("marked cells that keep their bytes (second: wanted)", part, 1000, 0, 0, 1000);
+    case_blank("three gained, five lost (second: wanted)", part, 1000, 3, 5, 998);
+    case_blank("a page gained (second: wanted)", part, 0, page, 0, page);
+    case_blank("a page lost (second: wanted)", part, size, 0, page, size - page);
+    case_blank("0, cells lost (second: wanted)", part, 0, 0, 3, 0);
+    case_blank("2, three lost (second: wanted)", part, 2, 0, 3, 0);
+    case_blank("3, three lost (second: wanted)", part, 3, 0, 3, 0);
+    case_blank("4, three lost (second: wanted)", part, 4, 0, 3, 1);
+    case_blank("0, a page lost (second: wanted)", part, 0, 0, page, 0);
+    case_blank("the size, cells gained (second: wanted)", part, size, 3, 0, size);
+    case_blank("the size less 2, three gained (second: wanted)", part, size - 2, 3, 0, size);
+    case_blank("the size less 3, three gained (second: wanted)", part, size - 3, 3, 0, size);
+    case_blank("the size less 4, three gained (second: wanted)", part, size - 4, 3, 0, size - 1);
+    case_blank("the size, a page gained (second: wanted)", part, size, page, 0, size);
+    case_blank("0, five gained, three lost: one clamp (second: wanted)", part, 0, 5, 3, 2);
+    case_blank("0, three gained, five lost (second: wanted)", part, 0, 3, 5, 0);
+    case_blank("the size, five gained, three lost: one clamp (second: wanted)", part, size, 5, 3, size);
+    case_blank("the size, three gained, five lost (second: wanted)", part, size, 3, 5, size - 2);
+}
+
+/* by frames, over a delivered memory: a WRITE, which loses; one that gains; one that keeps; one of both */
+static void cases_stores_page(void)
+{
+    cartvesper_core core;
+    case_start(&core, 0);
+    case_frame(&core, "02 00 10 11 FF 33", 0);
+    whole_reading(&core, core.last + 4999);
+    case_expect("blank cells in the cycle (second: wanted)", core.blank, 65536);
+    whole_reading(&core, core.last + 1);
+    case_expect("two cells lost (second: wanted)", core.blank, 65534);
+    case_frame(&core, "06", 0);
+    case_frame(&core, "02 00 10 FF FF 33", 0);
+    whole_reading(&core, core.last + 5000);
+    case_expect("one cell gained (second: wanted)", core.blank, 65535);
+    case_frame(&core, "06", 0);
+    case_frame(&core, "02 00 11 FF 33", 0);
+    whole_reading(&core, core.last + 5000);
+    case_expect("the same bytes again (second: wanted)", core.blank, 65535);
+    case_frame(&core, "06", 0);
+    case_frame(&core, "02 00 12 FF 44", 0);
+    whole_reading(&core, core.last + 5000);
+    case_expect("one gained, one lost (second: wanted)", core.blank, 65535);
+    check_right(&core);
+    case_start_of(&core, M95M01, 0);
+    case_frame(&core, "02 01 00 FF 11 FF 33", 0);
+    whole_reading(&core, core.last + 4000);
+    case_expect("M95M01: two cells lost (second: wanted)", core.blank, 131070);
+    case_frame(&core, "06", 0);
+    case_frame(&core, "02 01 00 01 FF", 0); /* the third byte went around the page's end */
+    whole_reading(&core, core.last + 4000);
+    case_expect("M95M01: one cell gained (second: wanted)", core.blank, 131071);
+    check_right(&core);
+}
+
+/* the driver's polls pass time: the pages whose cycle they end are counted, one that still waits is not */
+static void cases_driven(void)
+{
+    cartvesper_core core;
+    case_start(&core, 0);
+    case_run(&core, "four pages of 5Ah (second: wanted)", 100, 300, 1000, 5001, 0, 4, 29);
+    case_expect("300 cells lost (second: wanted)", core.blank, 65236);
+    case_run(&core, "a page part that waits on (second: wanted)", 1000, 20, 1000, 4, 9, 0, 7);
+    case_expect("not yet lost (second: wanted)", core.blank, 65236);
+    case_run(&core, "the same again (second: wanted)", 1000, 20, 1000, 5001, 0, 1, 2 + 2 + 5);
+    case_expect("20 cells lost, once (second: wanted)", core.blank, 65216);
+    check_right(&core);
+    case_start_of(&core, M95M01, 0);
+    case_run(&core, "M95M01: two pages (second: wanted)", 0x100FF, 2, 1000, 4001, 0, 2, 1 + 2 * (2 + 4));
+    case_expect("M95M01: two cells lost (second: wanted)", core.blank, 131070);
+    check_right(&core);
+}
+
+/* at the pins: one by one, and as a list; the second reading ends the cycle */
+static void cases_at_pins(uint8_t part)
+{
+    static const uint64_t list[4] = {(uint64_t)CLOCK << 32 | 3999, (uint64_t)SET_S << 32 | 0, (uint64_t)SET_S << 32 | 1,
+                                     (uint64_t)CLOCK << 32 | 4000};
+    const cartvesper_latch latch = laid(one_cell(5, 0x33), laid(one_cell(6, 0xFF), one_cell(127, 0x00)));
+    const uint32_t size = plain_row_of(part)->size;
+    cartvesper_device device, start;
+    fill_cells(0xFF);
+    try_device_power_up(&start, (which){part, 0}, 4000, 0, 0, 0, 0);
+    case_wait(&start.core, 2, &latch);
+    device = start;
+    for (int i = 0; i < 4; i++) {
+        whole_event(&device, (int)(list[i] >> 32), (uint32_t)list[i]);
+        case_expect("blank cells at the pins (second: wanted)", device.core.blank, i < 3 ? size : size - 2);
+    }
+    check_right(&device.core);
+    fill_cells(0xFF);
+    try_play(&start, list, 4, 4, whole(part));
+    case_expect("blank cells after a list (second: wanted)", start.core.blank, size - 2);
+    check_right(&start.core);
+}
+
+/* a cycle that is no page's leaves the number, whatever becomes of the identification page's cells */
+static void cases_uncounted(void)
+{
+    const cartvesper_latch none = {{0}, {0}};
+    cartvesper_latch both = laid(laid(one_cell(0, 0xFF), one_cell(1, 0x00)), one_cell(2, 0xFF));
+    for (uint8_t part = M95512D; part <= M95M01; part++)
+        for (uint8_t kind = 1; kind <= 4; kind++) {
+            cartvesper_core core;
+            case_start_of(&core, part, 0);
+            memset(lib_memory.identification, 0x00, CELLS / 2);
+            lib_memory.identification[1] = 0xFF;
+            plain_memory = lib_memory;
+            core.blank = 77;
+            case_wait(&core, kind, kind == 2 || kind == 3 ? &both : &none);
+            whole_reading(&core, core.last + core.left);
+            case_expect("the end of a status, a page, an identification and a lock cycle (second: wanted)", core.blank,
+                        kind == 2 ? 76 : 77);
+        }
+}
+
+/* every call that looks at a record's ranges */
+static void case_number(const char *what, uint8_t part, uint32_t blank, uint32_t number)
+{
+    static const uint64_t list[2] = {(uint64_t)CLOCK << 32 | 7, (uint64_t)SET_D << 32 | 1};
+    const lengths lent = whole(part);
+    cartvesper_core core, copy;
+    cartvesper_device device, moved;
+    fill_cells(0xFF);
+    try_power_up(&core, (which){part, 0}, 4000, 0, 0, 0, 0);
+    try_device_power_up(&device, (which){part, 0}, 4000, 0, 0, 0, 0);
+    core.blank = device.core.blank = blank;
+    case_own(what, core, number);
+    try_core_queries(&core, 0);
+    try_device_queries(&device);
+    case_expect(what, cartvesper_core_in_ranges(core).number, number);
+    case_expect(what, cartvesper_core_status(core).number, number);
+    case_expect(what, cartvesper_core_lowest_protected(core).number, number);
+    case_expect(what, cartvesper_core_protected(core, 0).number, number);
+    case_expect(what, cartvesper_core_touched(core).number, number);
+    case_expect(what, cartvesper_device_q(device).number, number);
+    case_expect(what, cartvesper_device_status(device).number, number);
+    case_expect(what, cartvesper_device_touched(device).number, number);
+    case_expect(what, cartvesper_device_in_ranges(device).number, number);
+    for (int kind = SET_S; kind <= CLOCK; kind++) {
+        moved = device;
+        case_expect(what, try_event(&moved, kind, 1, lent), number);
+    }
+    moved = device;
+    case_expect(what, try_play(&moved, list, 2, 2, lent), number);
+    copy = core;
+    case_expect(what, try_write(&copy, lent, 0, 0, 1, 1), number);
+    case_expect(what, try_write(&copy, lent, 0, 1, 1000, 4001), number);
+}
+
+static void cases_numbers(void)
+{
+    case_number("M95512: 0 blank cells (second: wanted)", M95512, 0, 0);
+    case_number("M95512: 65,536 blank cells (second: wanted)", M95512, 65536, 0);
+    case_number("M95512: 65,537 blank cells (second: wanted)", M95512, 65537, 2);
+    case_number("M95512: 131,072 blank cells (second: wanted)", M95512, 131072, 2);
+    case_number("M95512: 4,294,967,295 blank cells (second: wanted)", M95512, 4294967295, 2);
+    case_number("M95512-D: 65,536 blank cells (second: wanted)", M95512D, 65536, 0);
+    case_number("M95512-D: 65,537 blank cells (second: wanted)", M95512D, 65537, 2);
+    case_number("M95M01: 65,537 blank cells (second: wanted)", M95M01, 65537, 0);
+    case_number("M95M01: 131,072 blank cells (second: wanted)", M95M01, 131072, 0);
+    case_number("M95M01: 131,073 blank cells (second: wanted)", M95M01, 131073, 2);
+    case_number("M95M01: 4,294,967,295 blank cells (second: wanted)", M95M01, 4294967295, 2);
+}
+
 /* ---- */
 
 static void run_round(void)
@@ -3325,6 +3889,7 @@ static void run_round(void)
     try_wrdi_in_hold(10);
     lay_session();
     twice_session(100);
+    try_twins(60);
 }
 
 /* 82h at deselect of the parts that know it, by frame calls and at the pins; the page's has no last cause */
@@ -3353,6 +3918,11 @@ static void print_summary(uint64_t rounds)
     printf("identification pages stored %" PRIu64 ", their cells changed %" PRIu64 ", locks set %" PRIu64,
            counts.identified, counts.kept, counts.locked);
     printf(", records made of each part and kind %" PRIu64 "\n", counts.parts_swept);
+    printf("blank cells: at page cycles' ends %" PRIu64 " gained, %" PRIu64 " lost, %" PRIu64 " written FFh again",
+           counts.gained, counts.lost, counts.rewritten);
+    printf("; sums held at 0 %" PRIu64 ", at the memory's size %" PRIu64 "; numbers seen to be the scan's %" PRIu64,
+           counts.at_zero, counts.at_size, counts.scanned);
+    printf("; calls with two numbers %" PRIu64 "\n", counts.twins);
     print_causes("page", counts.by_page, BY_DATA);
     print_causes("lock", counts.by_lock, CAUSES);
     printf("83h of both: page shown %" PRIu64 ", lock shown %" PRIu64 ", nothing shown %" PRIu64,
@@ -3406,6 +3976,16 @@ int main(int argc, char **argv)
     cases_large_identification();
     cases_large_driver();
     cases_sizes();
+    cases_counted();
+    cases_unpowered();
+    for (uint8_t part = 0; part < PLAIN_PARTS; part++) {
+        cases_moved(part);
+        cases_at_pins(part);
+    }
+    cases_stores_page();
+    cases_driven();
+    cases_uncounted();
+    cases_numbers();
     sweep_fields(0);
     for (current_round = 0; current_round < rounds; current_round++)
         run_round();

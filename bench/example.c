@@ -17,6 +17,12 @@ static uint8_t memory[CARTVESPER_LARGEST_MEMORY], identification[CARTVESPER_LARG
 
 #define LENT(part) memory, cartvesper_memory_of(part), identification, cartvesper_identification_of(part)
 
+/* Power-up, with SRWD and BP1 0. It is lent the memory alone, and counts its blank cells. */
+static cartvesper_core_answer power_up(uint8_t part, uint8_t lock, uint32_t cycle, uint8_t bp0, uint32_t reading)
+{
+    return cartvesper_power_up(part, lock, cycle, 0, 0, bp0, reading, memory, cartvesper_memory_of(part));
+}
+
 /* Every answer starts with a number: 0 is done, the others are in cartvesper.h. A bench that sends what it means to
  * send can stop at any other. */
 static void must_be_done(const char *what, uint32_t number)
@@ -55,6 +61,20 @@ static uint8_t poll(cartvesper_core *core)
     return out[1]; /* SRWD 0 0 0 BP1 BP0 WEL WIP */
 }
 
+/* ---- how many cells are blank, for the stores page */
+
+/* The record has the number, so nobody needs to look at the cells. Here they are looked at, to show that it is right:
+ * it stays so while the memory is changed by calls alone, each with the record that the last one gave. */
+static void print_blank(const char *when, const cartvesper_core *core)
+{
+    uint32_t scanned = 0;
+    for (size_t cell = 0; cell < cartvesper_memory_of(core->part); cell++)
+        scanned += memory[cell] == 0xFF;
+    printf("%s: %u blank cells, by the scan %u\n", when, core->blank, scanned);
+    if (core->blank != scanned)
+        exit(1);
+}
+
 /* ---- one page write, frame by frame */
 
 /* How many cells of the page that waits the end of the cycle will touch, and which: those with a mark. Asked at any
@@ -80,11 +100,13 @@ static void write_by_hand(cartvesper_core *core)
     /* WIP and WEL are 1, the cell is as it was */
     printf("after WRITE: status %02X, cell 007E %02X\n", poll(core), memory[0x7E]);
     print_touched(core);
+    print_blank("in the cycle", core);
     for (int polls = 1; polls <= 5; polls++) {
         pass_time(core, 1000);
         printf("after %d ms: status %02X\n", polls, poll(core));
     }
     print_touched(core);
+    print_blank("after the cycle", core);
     /* the cycle has ended and the page is stored: four bytes from offset 126 on, around the page's end */
     printf("cells 007E %02X, 007F %02X, 0000 %02X, 0001 %02X\n", memory[0x7E], memory[0x7F], memory[0x00],
            memory[0x01]);
@@ -116,6 +138,7 @@ static void write_by_driver(cartvesper_core *core)
     *core = done.core;
     printf("driver: %u pages, %u frames, all there: %s\n", done.pages, done.frames,
            memcmp(memory + 100, bytes, 300) == 0 ? "yes" : "no");
+    print_blank("after the driver", core);
     /* Four polls of 1,000 microseconds do not see the end of a cycle of 5,000: 9. The page in hand waits on in the
      * record */
     cartvesper_driver_answer early = drive(core, 1000, bytes, 1, 1000, 4);
@@ -171,12 +194,15 @@ static void retries(cartvesper_core *core)
 
 /* ---- images as Intel HEX */
 
-static void image(const cartvesper_core *core)
+static void image(cartvesper_core *core)
 {
     static uint8_t text[CARTVESPER_HEX_TEXT];
     static const char three[] = ":0300300002337A1E\n:00000001FF\n";
-    must_be_done("import",
-                 cartvesper_hex_import(*core, memory, MEMORY, (const uint8_t *)three, sizeof three - 1).number);
+    cartvesper_core_answer read =
+        cartvesper_hex_import(*core, memory, MEMORY, (const uint8_t *)three, sizeof three - 1);
+    must_be_done("import", read.number);
+    *core = read.core; /* as it was, but that the blank cells were counted afresh */
+    print_blank("after import", core);
     must_be_done("export", cartvesper_hex_export(*core, memory, MEMORY, text, sizeof text));
     printf("the line of cells 0030 to 003F: %.43s\n", (const char *)text + 3 * 44);
     printf("lower case: %u\n",
@@ -196,12 +222,15 @@ static void refusals(const cartvesper_core *core)
     cartvesper_core damaged = *core;
     damaged.wel = 2; /* a flag is 0 or 1 */
     printf("a record outside its ranges: %u\n", read_clock(&damaged, MEMORY, IDENTIFICATION));
+    damaged = *core;
+    damaged.blank = MEMORY + 1; /* there are not so many cells */
+    printf("65,537 blank cells: %u\n", read_clock(&damaged, MEMORY, IDENTIFICATION));
     printf("a memory one byte short: %u\n", read_clock(core, MEMORY - 1, IDENTIFICATION));
     printf("one byte past the memory: %u\n", drive(core, 65533, bytes, 4, 1000, 5001).number);
     printf("interval 0: %u\n", drive(core, 0, bytes, 4, 0, 5001).number);
     /* BP0 protects C000h to FFFFh: a write that ends below is done, one that touches the block is refused whole,
      * after the one poll that saw BP */
-    cartvesper_core_answer guarded = cartvesper_power_up(CARTVESPER_M95512, 0, CARTVESPER_LONGEST_CYCLE, 0, 0, 1, 0);
+    cartvesper_core_answer guarded = power_up(CARTVESPER_M95512, 0, CARTVESPER_LONGEST_CYCLE, 1, 0);
     must_be_done("power-up", guarded.number);
     printf("protected from %04X\n", cartvesper_core_lowest_protected(guarded.core).value);
     cartvesper_driver_answer stopped = drive(&guarded.core, 0xBFFE, bytes, 4, 1000, 5001);
@@ -210,6 +239,11 @@ static void refusals(const cartvesper_core *core)
     cartvesper_driver_answer below = drive(&guarded.core, 0xBFFE, bytes, 2, 1000, 5001);
     printf("up to it: %u, %u page, %u frames; cells BFFE %02X, BFFF %02X\n", below.number, below.pages, below.frames,
            memory[0xBFFE], memory[0xBFFF]);
+    /* a power-up that is refused has no record to give back, so it gives the delivered one; it has counted nothing */
+    cartvesper_core_answer unlent =
+        cartvesper_power_up(CARTVESPER_M95512, 0, CARTVESPER_LONGEST_CYCLE, 0, 0, 1, 0, memory, MEMORY - 1);
+    printf("power-up with a memory one byte short: %u, status %02X, %u blank cells\n", unlent.number,
+           poll(&unlent.core), unlent.core.blank);
 }
 
 /* ---- the M95512-D: an identification page, and a lock that closes it for good */
@@ -243,6 +277,7 @@ static void identification_page(cartvesper_core *core)
     pass_time(core, core->left);
     print_83h("83h at 7F, rolling to 00", core, 0x007F);
     printf("identification page 7F %02X, memory 007F %02X\n", identification[0x7F], memory[0x7F]);
+    print_blank("after the page's cycle", core); /* cells of the identification page do not count */
     /* address bit 10 at 1: the lock. Data bit 1 sets it, and it shows when the cycle has ended */
     print_83h("the lock, twice", core, CARTVESPER_LOCK_ADDRESS);
     printf("82h for the lock: status %02X\n", send_82h(core, CARTVESPER_LOCK_ADDRESS, CARTVESPER_LOCK_DATA));
@@ -255,18 +290,18 @@ static void identification_page(cartvesper_core *core)
 
 static void other_part(void)
 {
-    cartvesper_core_answer powered = cartvesper_power_up(CARTVESPER_M95512D, 0, CARTVESPER_LONGEST_CYCLE, 0, 0, 0, 0);
+    cartvesper_core_answer powered = power_up(CARTVESPER_M95512D, 0, CARTVESPER_LONGEST_CYCLE, 0, 0);
     must_be_done("power-up", powered.number);
     identification_page(&powered.core);
     /* the lock is the second argument, kept from one power-up to the next as the status bits are */
-    powered = cartvesper_power_up(CARTVESPER_M95512D, powered.core.lock, CARTVESPER_LONGEST_CYCLE, 0, 0, 0, 0);
+    powered = power_up(CARTVESPER_M95512D, powered.core.lock, CARTVESPER_LONGEST_CYCLE, 0, 0);
     must_be_done("power-up", powered.number);
     printf("an M95512-D: part %u, lock %u, status %02X\n", powered.core.part, powered.core.lock, poll(&powered.core));
     /* the page's length is judged as the memory's is, and by the same number */
     printf("an identification page one byte short: %u\n", read_clock(&powered.core, MEMORY, IDENTIFICATION - 1));
-    printf("part 3: %u\n", cartvesper_power_up(3, 0, CARTVESPER_LONGEST_CYCLE, 0, 0, 0, 0).number);
+    printf("part 3: %u\n", power_up(3, 0, CARTVESPER_LONGEST_CYCLE, 0, 0).number);
     /* the M95512 knows neither code */
-    powered = cartvesper_power_up(CARTVESPER_M95512, 0, CARTVESPER_LONGEST_CYCLE, 0, 0, 0, 0);
+    powered = power_up(CARTVESPER_M95512, 0, CARTVESPER_LONGEST_CYCLE, 0, 0);
     must_be_done("power-up", powered.number);
     printf("82h on an M95512: status %02X\n", send_82h(&powered.core, 0x007F, 0x2C));
     print_83h("83h on an M95512, not driven", &powered.core, 0x007F);
@@ -314,16 +349,16 @@ static void large_part(void)
     memset(memory, 0xFF, sizeof memory);
     memset(identification, 0xFF, sizeof identification);
     memcpy(identification, code, sizeof code);
-    cartvesper_core_answer powered =
-        cartvesper_power_up(CARTVESPER_M95M01, 0, CARTVESPER_M95M01_LONGEST_CYCLE, 0, 0, 0, 0);
+    cartvesper_core_answer powered = power_up(CARTVESPER_M95M01, 0, CARTVESPER_M95M01_LONGEST_CYCLE, 0, 0);
     must_be_done("power-up", powered.number);
+    print_blank("an M95M01 as delivered", &powered.core);
     write_above_ffff(&powered.core);
     disable_in_cycle(&powered.core);
+    print_blank("an M95M01 after three cycles", &powered.core);
     send("83h", &powered.core, rdid, 7, out);
     printf("83h at 00: %02X %02X %02X\n", out[4], out[5], out[6]);
     /* its own numbers: a cycle of at most 4,000 microseconds, its own lengths, and no HEX text for it */
-    printf("cycle length 5,000: %u\n",
-           cartvesper_power_up(CARTVESPER_M95M01, 0, CARTVESPER_LONGEST_CYCLE, 0, 0, 0, 0).number);
+    printf("cycle length 5,000: %u\n", power_up(CARTVESPER_M95M01, 0, CARTVESPER_LONGEST_CYCLE, 0, 0).number);
     printf("a memory of 65,536 bytes: %u\n", read_clock(&powered.core, MEMORY, IDENTIFICATION));
     printf("export: %u\n", cartvesper_hex_export(powered.core, memory, sizeof memory, NULL, 0));
 }
@@ -332,11 +367,11 @@ int main(void)
 {
     memset(memory, 0xFF, sizeof memory); /* as delivered */
     memset(identification, 0xFF, sizeof identification);
-    /* the M95512, lock 0, cycle length 5,000 microseconds, SRWD, BP1 and BP0 0, the clock just about to wrap */
-    cartvesper_core_answer powered =
-        cartvesper_power_up(CARTVESPER_M95512, 0, CARTVESPER_LONGEST_CYCLE, 0, 0, 0, 4294967290u);
+    /* the M95512, lock 0, cycle length 5,000 microseconds, BP0 0, the clock just about to wrap */
+    cartvesper_core_answer powered = power_up(CARTVESPER_M95512, 0, CARTVESPER_LONGEST_CYCLE, 0, 4294967290u);
     must_be_done("power-up", powered.number);
     cartvesper_core core = powered.core;
+    print_blank("as delivered", &core);
     write_by_hand(&core);
     write_by_driver(&core);
     retries(&core);

@@ -1,5 +1,6 @@
 // The library from C++: the driver writes a run, and a list of pin events reads the first cell back.
 #include "cartvesper.h"
+#include <algorithm>
 #include <cstdio>
 #include <vector>
 
@@ -12,18 +13,22 @@ static void frame_bit(std::vector<uint64_t> &events, bool bit) {
 int main() {
     std::vector<uint8_t> memory(CARTVESPER_MEMORY, 0xFF), identification(CARTVESPER_IDENTIFICATION, 0xFF);
     const uint8_t bytes[] = {0x2A, 0x2B};
-    auto powered = cartvesper_power_up(CARTVESPER_M95512, 0, CARTVESPER_LONGEST_CYCLE, 0, 0, 0, 0);
+    auto powered = cartvesper_power_up(CARTVESPER_M95512, 0, CARTVESPER_LONGEST_CYCLE, 0, 0, 0, 0, memory.data(),
+                                       memory.size());
     auto run = cartvesper_write(powered.core, memory.data(), memory.size(), identification.data(),
                                 identification.size(), 0x007F, bytes, sizeof bytes, 1000, CARTVESPER_MOST_POLLS);
-    std::printf("driver: number %u, pages %u, frames %u\n", run.number, run.pages, run.frames);
+    std::printf("driver: number %u, pages %u, frames %u, blank cells %u then %u, by a scan %u\n", run.number, run.pages,
+                run.frames, powered.core.blank, run.core.blank,
+                static_cast<unsigned>(std::count(memory.begin(), memory.end(), 0xFF)));
 
     // one poll does not see the end of the cycle: the page part waits in the record
     auto late = cartvesper_write(run.core, memory.data(), memory.size(), identification.data(), identification.size(),
                                  0x0100, bytes, sizeof bytes, 1000, 1);
     std::printf("limit 1: number %u, cells to be touched %u\n", late.number, cartvesper_core_touched(late.core).value);
 
-    auto device =
-        cartvesper_device_power_up(CARTVESPER_M95512, 0, CARTVESPER_LONGEST_CYCLE, 0, 0, 0, run.core.last).device;
+    auto device = cartvesper_device_power_up(CARTVESPER_M95512, 0, CARTVESPER_LONGEST_CYCLE, 0, 0, 0, run.core.last,
+                                             memory.data(), memory.size())
+                      .device;
     std::vector<uint64_t> events{cartvesper_event(CARTVESPER_EVENT_S, 0)};
     for (uint32_t head = (uint32_t)CARTVESPER_READ << 16 | 0x007F, bit = 1u << 23; bit != 0; bit >>= 1)
         frame_bit(events, (head & bit) != 0);
@@ -39,6 +44,6 @@ int main() {
     std::printf("pins: number %u, before the data Z is %d, cell 007F %02X\n", played.number, q[0] == CARTVESPER_Z,
                 cell);
 
-    auto refused = cartvesper_core_status(cartvesper_core{CARTVESPER_M95512, 0, 2, 0, 0, 0, 1, 0, 0, {}});
+    auto refused = cartvesper_core_status(cartvesper_core{CARTVESPER_M95512, 0, 2, 0, 0, 0, 1, 0, 0, 0, {}});
     std::printf("a flag of 2: number %u, value %u\n", refused.number, refused.value);
 }

@@ -1,5 +1,6 @@
 /* hex [seed] [rounds]: HEX texts through the library and through plain C, good, damaged and random ones; then each
- * alone against what it should be answered; then the time of export and import in both. */
+ * alone against what it should be answered; then the time of export and import in both. The number of blank cells that
+ * a record goes in with is seldom the right one; an import that is done hands back the right one. */
 #define _POSIX_C_SOURCE 199309L
 #include "plain.h"
 #include "plainhex.h"
@@ -15,6 +16,7 @@ static uint8_t text[MOST], scratch[MOST];
 static uint8_t memory[LARGEST], lib_memory[LARGEST], plain_memory[LARGEST];
 static uint8_t lib_out[ROOM + 1], plain_out[ROOM + 1];
 static cartvesper_core core;
+static uint32_t blank_left; /* the number of blank cells that the last import handed back */
 static unsigned long calls, counts[20];
 
 /* ---- numbers */
@@ -35,10 +37,27 @@ static void fail(const char *what)
     exit(1);
 }
 
+/* a third of them with about every other cell blank */
 static void draw_memory(uint8_t *cells)
 {
+    uint32_t blank = drawn(3) ? 0 : 128;
     for (size_t i = 0; i < LARGEST; i++)
-        cells[i] = (uint8_t)drawn(256);
+        cells[i] = (uint8_t)(drawn(256) < blank ? 0xFF : drawn(256));
+}
+
+/* the right number, both ends of its range, or any inside it */
+static uint32_t draw_blank(size_t size)
+{
+    switch (drawn(4)) {
+    case 0:
+        return plain_blank(memory, size);
+    case 1:
+        return 0;
+    case 2:
+        return (uint32_t)size;
+    default:
+        return drawn((uint32_t)size + 1);
+    }
 }
 
 /* ---- both sides on one input */
@@ -50,10 +69,18 @@ static uint32_t both_import(cartvesper_core given, size_t size, size_t length)
     cartvesper_core_answer a = cartvesper_hex_import(given, lib_memory, size, text, length);
     cartvesper_core_answer b = plain_hex_import_call(given, plain_memory, size, text, length);
     calls++;
+    blank_left = a.core.blank;
     if (a.number != b.number)
         fail("import's number");
-    if (!plain_core_same(&a.core, &b.core) || !plain_core_same(&a.core, &given))
+    if (!plain_core_same(&a.core, &b.core))
         fail("import's record");
+    if (a.number == 0) {
+        if (a.core.blank != plain_blank(lib_memory, size))
+            fail("import's number of blank cells (from the scan's)");
+        given.blank = a.core.blank;
+    }
+    if (!plain_core_same(&a.core, &given)) /* refused: as it was; done: but for the number */
+        fail("import's record (from the one given)");
     if (memcmp(lib_memory, plain_memory, LARGEST) || memcmp(lib_memory + MEMORY, memory + MEMORY, LARGEST - MEMORY))
         fail("import's memory, or what stands past it");
     if (a.number && memcmp(lib_memory, memory, LARGEST))
@@ -186,6 +213,47 @@ static void import_of(const char *what, const char *s, uint32_t want)
 
 #define END ":00000001FF\n"
 
+/* the number of blank cells that comes back where a record with some number of them goes in */
+static uint32_t blank_after(uint32_t given, const char *s)
+{
+    cartvesper_core one = core;
+    one.blank = given;
+    both_import(one, MEMORY, say(s));
+    return blank_left;
+}
+
+/* cells 0030h to 0032h of a blank memory take other bytes, and of a memory of 00h become FFh */
+static void each_blank(void)
+{
+    static const char three[] = ":0300300002337A1E\n" END, back[] = ":03003000FFFFFFD0\n" END;
+    cartvesper_core one = core;
+    memset(memory, 0xFF, LARGEST);
+    expect("blank cells after 3 bytes, from 65,536", blank_after(MEMORY, three), MEMORY - 3);
+    expect("blank cells after 3 bytes, from 0", blank_after(0, three), MEMORY - 3);
+    expect("blank cells after 3 bytes, from 12", blank_after(12, three), MEMORY - 3);
+    expect("blank cells after no byte, from 0", blank_after(0, END), MEMORY);
+    expect("blank cells after a bad text, from 12", blank_after(12, "x"), 12);
+    memset(memory, 0x00, MEMORY);
+    expect("blank cells after 3 bytes FFh in a memory of 00h", blank_after(MEMORY, back), 3);
+    one.blank = MEMORY;
+    expect("65,536 blank cells given", both_import(one, MEMORY, say(three)), 0);
+    one.blank = MEMORY + 1;
+    expect("65,537 blank cells given", both_import(one, MEMORY, say(three)), 2);
+    expect("65,537 blank cells given, and the text is bad", both_import(one, MEMORY, 5), 2);
+    expect("65,537 blank cells given, a short memory", both_import(one, MEMORY - 1, 5), 1);
+    expect("export of it", both_export(one, MEMORY, ROOM), 2);
+    one.blank = 4294967295u;
+    expect("4,294,967,295 blank cells given", both_import(one, MEMORY, say(three)), 2);
+    one.part = CARTVESPER_M95M01;
+    one.cycle = CARTVESPER_M95M01_LONGEST_CYCLE;
+    one.blank = LARGEST;
+    expect("an M95M01, 131,072 blank cells given", both_import(one, LARGEST, say(three)), 12);
+    expect("export of it", both_export(one, LARGEST, ROOM), 12);
+    one.blank = LARGEST + 1;
+    expect("an M95M01, 131,073 blank cells given", both_import(one, LARGEST, say(three)), 2);
+    expect("export of it", both_export(one, LARGEST, ROOM), 2);
+}
+
 static void each_alone(void)
 {
     cartvesper_core running = core, outside = core, other = core, none = core, large = core, past = core;
@@ -275,6 +343,7 @@ static void try_parts(size_t n)
     cartvesper_core given = core;
     given.part = (uint8_t)drawn(4);
     given.cycle = drawn(2) ? 1 : 4000 + drawn(1002);
+    given.blank = draw_blank(drawn(2) ? LARGEST : MEMORY) + !drawn(8);
     both_import(given, sizes[drawn(5)], n);
     both_export(given, sizes[drawn(5)], ROOM - drawn(2));
 }
@@ -338,13 +407,16 @@ int main(int argc, char **argv)
     unsigned rounds = argc > 2 ? (unsigned)strtoul(argv[2], 0, 10) : 20000;
     if (argc > 1)
         state = strtoull(argv[1], 0, 10) | 1;
-    plain_core_power_up(&core, CARTVESPER_M95512, 0, 5000, 0, 0, 0, 0);
     draw_memory(memory);
+    plain_core_power_up(&core, CARTVESPER_M95512, 0, 5000, 0, 0, 0, 0, plain_blank(memory, MEMORY));
     each_alone();
+    each_blank();
+    draw_memory(memory);
     for (unsigned k = 0; k < rounds; k++) {
         size_t n = draw_text(drawn(12), drawn(10) == 0);
         for (unsigned d = drawn(3); d > 0; d--)
             n = damage(n);
+        core.blank = draw_blank(MEMORY);
         both_import(core, MEMORY, n);
         if (k % 64 == 0)
             try_parts(n);

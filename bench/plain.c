@@ -76,7 +76,7 @@ int plain_core_same(const cartvesper_core *one, const cartvesper_core *other)
 {
     return one->part == other->part && one->lock == other->lock && one->srwd == other->srwd && one->bp1 == other->bp1 &&
            one->bp0 == other->bp0 && one->wel == other->wel && one->cycle == other->cycle && one->left == other->left &&
-           one->last == other->last && waiting_same(&one->waits, &other->waits);
+           one->last == other->last && one->blank == other->blank && waiting_same(&one->waits, &other->waits);
 }
 
 /* ---- ranges: 01 "What the device holds", reading "The record" */
@@ -173,6 +173,8 @@ int plain_core_ok(const cartvesper_core *core)
     if (core->srwd > 1 || core->bp1 > 1 || core->bp0 > 1 || core->wel > 1)
         return 0;
     if (core->cycle < 1 || core->cycle > row->longest_cycle || core->left > core->cycle)
+        return 0;
+    if (core->blank > row->size) /* 02, Item 6: whether it is right is not asked */
         return 0;
     return tied(core, row) && waiting_ok(&core->waits, row);
 }
@@ -321,8 +323,17 @@ uint32_t plain_touched(const cartvesper_core *core)
     return cells;
 }
 
+/* 02, Item 6: the scan is what the number means */
+uint32_t plain_blank(const uint8_t *memory, size_t size)
+{
+    uint32_t cells = 0;
+    for (size_t i = 0; i < size; i++)
+        cells += memory[i] == 0xFF;
+    return cells;
+}
+
 void plain_core_power_up(cartvesper_core *core, int part, int lock, uint32_t cycle, int srwd, int bp1, int bp0,
-                         uint32_t reading)
+                         uint32_t reading, uint32_t blank)
 {
     memset(core, 0, sizeof *core);
     core->part = (uint8_t)part;
@@ -332,6 +343,7 @@ void plain_core_power_up(cartvesper_core *core, int part, int lock, uint32_t cyc
     core->bp0 = (uint8_t)bp0;
     core->cycle = cycle;
     core->last = reading;
+    core->blank = blank;
 }
 
 static int all_marked(const cartvesper_latch *latch, size_t page)
@@ -356,6 +368,39 @@ static void store_page(uint8_t *restrict cells, const cartvesper_latch *restrict
     }
 }
 
+/* of eight cells: 01h for each that is FFh, 00h for any other */
+static uint64_t eight_blank(uint64_t bytes)
+{
+    const uint64_t ones = 0x0101010101010101;
+    return (((bytes & 0x7F * ones) + ones) & bytes) >> 7 & ones;
+}
+
+/* the sum of eight bytes */
+static uint32_t eight_sum(uint64_t bytes)
+{
+    const uint64_t low = 0x00FF00FF00FF00FF;
+    uint64_t pairs = (bytes & low) + (bytes >> 8 & low);
+    return (uint32_t)(pairs * 0x0001000100010001 >> 48);
+}
+
+/* 02, Item 6: before the page is stored. Gained are the marked cells that become FFh, lost those that no longer are; a
+ * cell that is not marked keeps its byte, so it is neither. The sum is held within 0 and the memory's size */
+static void count_page(cartvesper_core *core, const uint8_t *cells, const plain_row *row)
+{
+    const cartvesper_latch *latch = &core->waits.latch;
+    uint64_t gains = 0, losses = 0; /* in byte j those of the cells j, j + 8 and so on: at most 32 */
+    for (size_t i = 0; i < row->page; i += 8) {
+        uint64_t mask = eight_marked(latch, i);
+        uint64_t before = eight_blank(eight(cells + i)) & mask, after = eight_blank(eight(latch->bytes + i)) & mask;
+        gains += after & ~before;
+        losses += before & ~after;
+    }
+    uint32_t gained = eight_sum(gains), lost = eight_sum(losses);
+    uint32_t number = core->blank + gained; /* at most the sizes of a memory and of a page */
+    number = number > lost ? number - lost : 0;
+    core->blank = number < row->size ? number : row->size;
+}
+
 static void store_status(cartvesper_core *core, uint8_t status)
 {
     core->srwd = status >> 7;
@@ -365,16 +410,18 @@ static void store_status(cartvesper_core *core, uint8_t status)
 
 static void end_cycle(cartvesper_core *core, uint8_t *memory, uint8_t *identification)
 {
-    size_t page = row_of(core->part)->page;
+    const plain_row *row = row_of(core->part);
+    uint8_t *cells = memory + (size_t)row->page * core->waits.page;
     switch (core->waits.kind) {
     case STATUS:
         store_status(core, core->waits.status);
         break;
     case LATCHED:
-        store_page(memory + page * core->waits.page, &core->waits.latch, page);
+        count_page(core, cells, row);
+        store_page(cells, &core->waits.latch, row->page);
         break;
     case IDENTIFICATION:
-        store_page(identification, &core->waits.latch, page);
+        store_page(identification, &core->waits.latch, row->page); /* not counted */
         break;
     case LOCK:
         core->lock = 1;
@@ -610,13 +657,13 @@ uint64_t plain_frame(cartvesper_core *core, const uint8_t *memory, const uint8_t
 /* ---- the pin level */
 
 void plain_device_power_up(cartvesper_device *device, int part, int lock, uint32_t cycle, int srwd, int bp1, int bp0,
-                           uint32_t reading)
+                           uint32_t reading, uint32_t blank)
 {
     memset(device, 0, sizeof *device);
     device->pins.s = 1;
     device->pins.w = 1;
     device->pins.hold = 1;
-    plain_core_power_up(&device->core, part, lock, cycle, srwd, bp1, bp0, reading);
+    plain_core_power_up(&device->core, part, lock, cycle, srwd, bp1, bp0, reading, blank);
 }
 
 /* the cell after this one: at the page's end its start, not the next page */
@@ -1023,22 +1070,26 @@ static int lent_ok(const cartvesper_core *core, size_t size, size_t cells)
     return size == row->size && cells == row->page;
 }
 
-static uint32_t power_up_refusal(uint8_t part, uint8_t lock, uint32_t cycle, uint8_t srwd, uint8_t bp1, uint8_t bp0)
+/* the memory alone is lent, to be counted */
+static uint32_t power_up_refusal(uint8_t part, uint8_t lock, uint32_t cycle, uint8_t srwd, uint8_t bp1, uint8_t bp0,
+                                 size_t size)
 {
+    if (size != row_of(part)->size)
+        return 1;
     if (part >= PLAIN_PARTS || lock > 1 || srwd > 1 || bp1 > 1 || bp0 > 1)
         return 2;
     return cycle < 1 || cycle > row_of(part)->longest_cycle ? 6 : 0;
 }
 
 cartvesper_core_answer plain_power_up_call(uint8_t part, uint8_t lock, uint32_t cycle, uint8_t srwd, uint8_t bp1,
-                                           uint8_t bp0, uint32_t reading)
+                                           uint8_t bp0, uint32_t reading, const uint8_t *memory, size_t size)
 {
     cartvesper_core_answer answer;
-    answer.number = power_up_refusal(part, lock, cycle, srwd, bp1, bp0);
-    if (answer.number)
-        plain_core_power_up(&answer.core, M95512, 0, rows[M95512].longest_cycle, 0, 0, 0, 0); /* as delivered */
+    answer.number = power_up_refusal(part, lock, cycle, srwd, bp1, bp0, size);
+    if (answer.number) /* as delivered, but that nothing was counted */
+        plain_core_power_up(&answer.core, M95512, 0, rows[M95512].longest_cycle, 0, 0, 0, 0, 0);
     else
-        plain_core_power_up(&answer.core, part, lock, cycle, srwd, bp1, bp0, reading);
+        plain_core_power_up(&answer.core, part, lock, cycle, srwd, bp1, bp0, reading, plain_blank(memory, size));
     return answer;
 }
 
@@ -1110,14 +1161,15 @@ cartvesper_value plain_core_touched_call(cartvesper_core core)
 }
 
 cartvesper_device_answer plain_device_power_up_call(uint8_t part, uint8_t lock, uint32_t cycle, uint8_t srwd,
-                                                    uint8_t bp1, uint8_t bp0, uint32_t reading)
+                                                    uint8_t bp1, uint8_t bp0, uint32_t reading, const uint8_t *memory,
+                                                    size_t size)
 {
     cartvesper_device_answer answer;
-    answer.number = power_up_refusal(part, lock, cycle, srwd, bp1, bp0);
+    answer.number = power_up_refusal(part, lock, cycle, srwd, bp1, bp0, size);
     if (answer.number)
-        plain_device_power_up(&answer.device, M95512, 0, rows[M95512].longest_cycle, 0, 0, 0, 0);
+        plain_device_power_up(&answer.device, M95512, 0, rows[M95512].longest_cycle, 0, 0, 0, 0, 0);
     else
-        plain_device_power_up(&answer.device, part, lock, cycle, srwd, bp1, bp0, reading);
+        plain_device_power_up(&answer.device, part, lock, cycle, srwd, bp1, bp0, reading, plain_blank(memory, size));
     return answer;
 }
 

@@ -36,11 +36,13 @@ uint8_t plain_status(const cartvesper_core *core);
 uint32_t plain_lowest_protected(const cartvesper_core *core); /* the memory's size where nothing is protected */
 int plain_protected(const cartvesper_core *core, uint32_t address);
 uint32_t plain_touched(const cartvesper_core *core); /* cells that the running cycle will touch */
+uint32_t plain_blank(const uint8_t *memory, size_t size); /* FFh cells of a memory, by looking at each */
 
 /* ---- the frame level */
 
+/* `blank` is the number for the memory, by plain_blank */
 void plain_core_power_up(cartvesper_core *core, int part, int lock, uint32_t cycle, int srwd, int bp1, int bp0,
-                         uint32_t reading);
+                         uint32_t reading, uint32_t blank);
 void plain_time(cartvesper_core *core, uint8_t *memory, uint8_t *identification, uint32_t reading);
 /* a whole frame; out has the slice's length; gives back how many leading bits were undriven */
 uint64_t plain_frame(cartvesper_core *core, const uint8_t *memory, const uint8_t *identification, int w,
@@ -49,7 +51,7 @@ uint64_t plain_frame(cartvesper_core *core, const uint8_t *memory, const uint8_t
 /* ---- the pin level */
 
 void plain_device_power_up(cartvesper_device *device, int part, int lock, uint32_t cycle, int srwd, int bp1, int bp0,
-                           uint32_t reading);
+                           uint32_t reading, uint32_t blank);
 void plain_s(cartvesper_device *device, int level);
 void plain_c(cartvesper_device *device, int level, const uint8_t *memory, const uint8_t *identification);
 void plain_d(cartvesper_device *device, int level);
@@ -85,7 +87,7 @@ uint64_t plain_part_length(uint8_t chip, uint64_t address, uint64_t length, uint
 /* ---- every input answered, call by call as cartvesper.h */
 
 cartvesper_core_answer plain_power_up_call(uint8_t part, uint8_t lock, uint32_t cycle, uint8_t srwd, uint8_t bp1,
-                                           uint8_t bp0, uint32_t reading);
+                                           uint8_t bp0, uint32_t reading, const uint8_t *memory, size_t size);
 cartvesper_core_answer plain_clock_reading_call(cartvesper_core core, uint32_t reading, uint8_t *memory, size_t size,
                                                 uint8_t *identification, size_t cells);
 cartvesper_frame_answer plain_frame_call(cartvesper_core core, const uint8_t *memory, size_t size,
@@ -98,7 +100,8 @@ cartvesper_value plain_core_protected_call(cartvesper_core core, uint32_t addres
 cartvesper_value plain_core_touched_call(cartvesper_core core);
 
 cartvesper_device_answer plain_device_power_up_call(uint8_t part, uint8_t lock, uint32_t cycle, uint8_t srwd,
-                                                    uint8_t bp1, uint8_t bp0, uint32_t reading);
+                                                    uint8_t bp1, uint8_t bp0, uint32_t reading, const uint8_t *memory,
+                                                    size_t size);
 cartvesper_device_answer plain_device_set_s_call(cartvesper_device device, uint8_t level);
 cartvesper_device_answer plain_device_set_c_call(cartvesper_device device, uint8_t level, const uint8_t *memory,
                                                  size_t size, const uint8_t *identification, size_t cells);

@@ -111,5 +111,6 @@ cartvesper_core_answer plain_hex_import_call(cartvesper_core core, uint8_t *memo
         return answer;
     }
     memcpy(memory, next, MEMORY);
+    answer.core.blank = plain_blank(memory, MEMORY); /* afresh, whatever it was */
     return answer;
 }

@@ -109,7 +109,8 @@ static int one(uint32_t whole)
     return 0;
 }
 
-/* as delivered, with the part's longest cycle; the identification page of the M95M01 has its code (001, table 5) */
+/* as delivered, with the part's longest cycle and every cell blank; the identification page of the M95M01 has its code
+ * (001, table 5) */
 static void start(uint8_t part)
 {
     static const uint8_t code[3] = {0x20, 0x00, 0x11};
@@ -117,7 +118,7 @@ static void start(uint8_t part)
     memset(identification, 0xFF, sizeof identification);
     if (part == CARTVESPER_M95M01)
         memcpy(identification, code, sizeof code);
-    plain_device_power_up(&device, part, 0, plain_row_of(part)->longest_cycle, 0, 0, 0, 0);
+    plain_device_power_up(&device, part, 0, plain_row_of(part)->longest_cycle, 0, 0, 0, 0, plain_row_of(part)->size);
 }
 
 /* the part that the words name, the M95512 where there are none; PLAIN_PARTS for other words */

@@ -20,6 +20,7 @@ enum { WREN = CARTVESPER_WREN, RDSR = CARTVESPER_RDSR, READ = CARTVESPER_READ, W
 enum { M95512 = CARTVESPER_M95512, M95M01 = CARTVESPER_M95M01 };
 enum { LARGEST = CARTVESPER_LARGEST_MEMORY, CELLS = CARTVESPER_LARGEST_PAGE, LONGEST = LARGEST + 4, EVENTS = 1 << 15 };
 enum { HEAD = 4, DATA = 64 }; /* bytes before the data, at most; data bytes of a drawn frame */
+enum { PAGES = 512 };         /* of every part */
 enum { SET_S, SET_C, SET_D, SET_W, SET_HOLD, CLOCK };
 
 /* one side: what it works on */
@@ -56,8 +57,9 @@ static void reset_side(side *one)
     memset(one, 0, sizeof *one);
     for (size_t i = 0; i < LARGEST; i++)
         one->memory[i] = (uint8_t)(i * 31 + (i >> 8));
-    plain_core_power_up(&one->core, part, 0, row.longest_cycle, 0, 0, 0, 0);
-    plain_device_power_up(&one->device, part, 0, row.longest_cycle, 0, 0, 0, 0);
+    uint32_t blank = plain_blank(one->memory, row.size);
+    plain_core_power_up(&one->core, part, 0, row.longest_cycle, 0, 0, 0, 0, blank);
+    plain_device_power_up(&one->device, part, 0, row.longest_cycle, 0, 0, 0, 0, blank);
 }
 
 static void choose_part(uint8_t chosen)
@@ -217,6 +219,75 @@ static void call_writes(size_t n)
         cartvesper_core_answer end =
             plain_clock_reading_call(write.core, write.core.last + row.longest_cycle, LENT(plain));
         if (wren.number || write.number || end.number)
+            refused();
+        plain.core = end.core;
+    }
+}
+
+/* ---- the reading alone that ends the cycle of a whole page; operation = the reading. Each side copies the record
+ * whose page waits. All pages in turn, by turns with two page writes: where one is FFh the other is not, so that cells
+ * are gained and lost */
+
+static cartvesper_core waiting[2];
+
+static void set_up_ends(void)
+{
+    for (size_t k = 0; k < 2; k++) {
+        cartvesper_core *one = &waiting[k];
+        plain_core_power_up(one, part, 0, row.longest_cycle, 0, 0, 0, 0, 0);
+        one->wel = 1;
+        one->left = one->cycle;
+        one->waits.kind = 2;
+        for (size_t i = 0; i < row.page; i++) {
+            one->waits.latch.bytes[i] = i % 2 == k ? 0xFF : (uint8_t)(i * 7);
+            one->waits.latch.marks[i / 64] |= 1ULL << i % 64;
+        }
+    }
+}
+
+/* the record for the n-th reading, with the number of blank cells that the last one left */
+static void next_waiting(cartvesper_core *core, size_t n)
+{
+    uint32_t blank = core->blank;
+    *core = waiting[n / PAGES % 2];
+    core->blank = blank;
+    core->waits.page = (uint32_t)(n % PAGES);
+}
+
+static void lib_ends(size_t n)
+{
+    while (n-- > 0) {
+        next_waiting(&lib.core, n);
+        cartvesper_core_answer end = cartvesper_clock_reading(lib.core, row.longest_cycle, LENT(lib));
+        if (end.number)
+            refused();
+        lib.core = end.core;
+    }
+}
+
+static void plain_ends(size_t n)
+{
+    while (n-- > 0) {
+        next_waiting(&plain.core, n);
+        plain_time(&plain.core, plain.memory, plain.identification, row.longest_cycle);
+    }
+}
+
+static void tested_ends(size_t n)
+{
+    while (n-- > 0) {
+        next_waiting(&plain.core, n);
+        test_core();
+        plain_time(&plain.core, plain.memory, plain.identification, row.longest_cycle);
+    }
+}
+
+static void call_ends(size_t n)
+{
+    while (n-- > 0) {
+        next_waiting(&plain.core, n);
+        cartvesper_core_answer end = plain_clock_reading_call(plain.core, row.longest_cycle, LENT(plain));
+        if (end.number)
             refused();
         plain.core = end.core;
     }
@@ -467,6 +538,7 @@ typedef struct {
 
 #define FRAMES lib_frames, plain_frames, call_frames, tested_frames, 512, 0
 #define WRITES lib_writes, plain_writes, call_writes, tested_writes, 512, 0
+#define ENDS lib_ends, plain_ends, call_ends, tested_ends, 512, 0
 #define SINGLES lib_events, plain_events, call_events, tested_events, 512, 1
 #define LISTS lib_play, plain_plays, call_plays, tested_plays, 512, 1
 #define RUNS lib_runs, plain_runs, call_runs, tested_runs, 1, 0
@@ -476,6 +548,7 @@ static const speed_case cases[] = {
     {"frame READ, 259 bytes", M95512, set_up_read, FRAMES},
     {"frame READ, 65,539 bytes", M95512, set_up_long_read, FRAMES},
     {"WREN, WRITE of 128 bytes, cycle's end", M95512, set_up_write, WRITES},
+    {"clock reading that ends a page cycle", M95512, set_up_ends, ENDS},
     {"pin event, READ frames, one by one", M95512, set_up_read_stream, SINGLES},
     {"pin event, WRITE frames, one by one", M95512, set_up_write_stream, SINGLES},
     {"pin event, READ frames, as a list", M95512, set_up_read_stream, LISTS},
@@ -485,6 +558,7 @@ static const speed_case cases[] = {
     {"driver, 65,536 bytes, interval 1", M95512, set_up_fine_run, RUNS},
     {"M95M01, frame READ, 259 bytes", M95M01, set_up_read, FRAMES},
     {"M95M01, WREN, WRITE of 256 bytes, cycle's end", M95M01, set_up_write, WRITES},
+    {"M95M01, clock reading that ends a page cycle", M95M01, set_up_ends, ENDS},
     {"M95M01, pin event, READ frames, as a list", M95M01, set_up_read_stream, LISTS},
     {"M95M01, pin event, WRITE frames, as a list", M95M01, set_up_write_stream, LISTS},
     {"M95M01, driver, 131,072 bytes, interval 1,000", M95M01, set_up_run, RUNS},
@@ -506,10 +580,18 @@ static size_t calibrate(void (*run)(size_t))
     return n;
 }
 
-static void check_same(const char *name)
+/* the record that a case works on has the right number of blank cells, after all its cycles */
+static uint32_t blank_of(const side *one, int is_stream)
 {
+    return is_stream ? one->device.core.blank : one->core.blank;
+}
+
+static void check_same(const char *name, int is_stream)
+{
+    uint32_t scanned = plain_blank(plain.memory, row.size);
     if (memcmp(lib.memory, plain.memory, LARGEST) != 0 || memcmp(lib.out, plain.out, LONGEST) != 0 ||
-        memcmp(lib.identification, plain.identification, CELLS) != 0) {
+        memcmp(lib.identification, plain.identification, CELLS) != 0 || blank_of(&lib, is_stream) != scanned ||
+        blank_of(&plain, is_stream) != scanned) {
         fprintf(stderr, "speed: the two sides differ after: %s\n", name);
         exit(1);
     }
@@ -543,7 +625,7 @@ static void run_case(const speed_case *one, int through_call)
     while (sides[0].time < 3e8 || sides[1].time < 3e8 || sides[2].time < 3e8)
         for (int k = 0; k < 3; k++)
             go(&sides[k]);
-    check_same(one->name);
+    check_same(one->name, one->is_stream);
     each = one->is_stream ? (double)event_count : 1;
     for (int k = 0; k < 3; k++)
         ns[k] = sides[k].time / sides[k].runs / each;

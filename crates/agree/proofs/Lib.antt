@@ -12,5 +12,6 @@ pub mod Levels
 pub mod Agree
 pub mod Counted
 pub mod Drawn
+pub mod Fresh
 pub mod Shown
 pub mod Starred

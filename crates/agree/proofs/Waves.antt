@@ -14,12 +14,13 @@ use Rattle.codes.specs.Verdicts.{verdict, isExecuted}
 use Rattle.chip.specs.Effects.{effect}
 use Rattle.codes.specs.Instructions.{decode}
 use Rattle.chip.specs.Records.{running, waitsPage, waitsIdentification}
-use Rattle.chip.specs.Time.{timed, timedMemory, timedIdentification}
+use Rattle.chip.specs.Time.{timedIn, timedMemory, timedIdentification}
 use Rattle.chip.specs.declared.Core.{Core}
 use Rattle.codes.specs.declared.Instruction.{Instruction}
 use Rattle.codes.specs.declared.Instruction.the-variants.{Wren, Wrdi, Rdsr, Wrsr, Read, Write, Rdid, Wrid, Silence}
 use Rattle.chip.proofs.Within.{Within}
-use Rattle.chip.proofs.Passing.{timed-within, timed-length}
+use Rattle.chip.proofs.Passing.{timed-length}
+use Rattle.chip.proofs.Recounts.{timed-in-within}
 use Rattle.frames.specs.After.{after}
 use Rattle.frames.specs.Play.{Act, FrameBench, frameBench}
 use Rattle.edges.specs.declared.Frame.{Frame}
@@ -205,7 +206,7 @@ module _ {A : Type 0} (look : Level → A) (note : Part → FrameBench → List 
     says (clock′ {l = true} false r) = λ f c m k e. says r f c m k e
     says (clock′ {l = true} true r) = λ f c m k e. says r f c m k e
     says (reading′ t r) = λ f c m k e.
-        says r f (timed t c) (lent (timedMemory P t c (m .memory)) (timedIdentification P t c (m .identification))) (timed-within P t c k)
+        says r f (timedIn P t c (m .memory)) (lent (timedMemory P t c (m .memory)) (timedIdentification P t c (m .identification))) (timed-in-within P t c (m .memory) k)
         (timed-length waitsPage P t c (m .memory) ∙ e .0, timed-length waitsIdentification P t c (m .identification) ∙ e .1)
     says (protect′ v r) = λ f c m k e. says r f c m k e
     says (select′ {w = w} {ks = ks} mode0 s n h r) = λ f c m k e.

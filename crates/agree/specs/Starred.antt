@@ -9,7 +9,8 @@ use lib.ListN.{length, getD}
 use Rattle.laws.specs.Table.{table}
 use Rattle.codes.specs.Part.{m95512}
 use Rattle.codes.specs.Refusals.{number}
-use Rattle.chip.specs.Records.{status}
+use Rattle.codes.specs.declared.Outcome.the-variants as outcome
+use Rattle.chip.specs.Records.{status, idle}
 use Rattle.chip.specs.Time.{elapsed, clockReading, clockMemory, clockIdentification}
 use Rattle.chip.specs.Power.{delivered, deliveredMemory, deliveredIdentification, poweredUp}
 use Rattle.chip.specs.Questions.{protection}
@@ -87,9 +88,9 @@ writeOne high low = frame true (0x02 ∷ high ∷ low ∷ 0x55 ∷ []) 32
 abbrev pub bytesF : List ℕ
 bytesF = 0x03 ∷ 0xff ∷ 0xff ∷ 0x00 ∷ 0x00 ∷ []
 
--- powered up with SRWD, BP1, BP0 and a clock reading, cycle length 5,000
+-- powered up over a blank memory with SRWD, BP1, BP0 and a clock reading, cycle length 5,000
 abbrev pub powered : Bool → Bool → Bool → ℕ → Core
-powered srwd bp1 bp0 t = poweredUp 0 false 5000 srwd bp1 bp0 t .core
+powered srwd bp1 bp0 t = idle 0 false srwd bp1 bp0 5000 t (m95512 .size)
 
 abbrev pub upperQuarter : Core
 upperQuarter = powered false false true 0
@@ -98,19 +99,23 @@ abbrev pub allBitsSet : Core
 allBitsSet = powered true true true 0
 
 pub record Starred : Type 0 where
+  -- what power-up gives, of which d, e and i speak
+  pub powered-up : (srwd bp1 bp0 : Bool) (t : ℕ)
+      → poweredUp 0 false 5000 srwd bp1 bp0 t (deliveredMemory m95512)
+      ≡ record { outcome = outcome.Done; core = powered srwd bp1 bp0 t }
   -- a: WREN, then 02 00 7E 11 22 33 44, then a cycle: 007Eh=11h, 007Fh=22h, 0000h=33h, 0001h=44h. The cell after it is
   -- as delivered
   pub a :
-      cellsAfter (wren ∷ frame true bytesA 56 ∷ reading 5000 ∷ []) delivered
+      cellsAfter (wren ∷ frame true bytesA 56 ∷ reading 5000 ∷ []) (delivered 0)
       (0x007e ∷ 0x007f ∷ 0x0000 ∷ 0x0001 ∷ 0x0002 ∷ [])
       ≡ (0 ∷ 0 ∷ 0 ∷ [], 0x11 ∷ 0x22 ∷ 0x33 ∷ 0x44 ∷ 0xff ∷ [])
   -- b: the same with 55 or 57 bits: no cycle. With 56 there is one
-  pub b-55 : leftAfter (wren ∷ frame true bytesA 55 ∷ []) delivered ≡ (0 ∷ 0 ∷ [], 0)
-  pub b-57 : leftAfter (wren ∷ frame true (bytesA ++ (0x55 ∷ [])) 57 ∷ []) delivered ≡ (0 ∷ 0 ∷ [], 0)
-  pub b-56 : leftAfter (wren ∷ frame true bytesA 56 ∷ []) delivered ≡ (0 ∷ 0 ∷ [], 5000)
+  pub b-55 : leftAfter (wren ∷ frame true bytesA 55 ∷ []) (delivered 0) ≡ (0 ∷ 0 ∷ [], 0)
+  pub b-57 : leftAfter (wren ∷ frame true (bytesA ++ (0x55 ∷ [])) 57 ∷ []) (delivered 0) ≡ (0 ∷ 0 ∷ [], 0)
+  pub b-56 : leftAfter (wren ∷ frame true bytesA 56 ∷ []) (delivered 0) ≡ (0 ∷ 0 ∷ [], 5000)
   -- c: 130 data bytes 0, 1, .. 129 at 0000h: cell 0 is 80h, cell 1 is 81h, cell 2 is 02h
   pub c :
-      cellsAfter (wren ∷ frame true bytesC (8 * 133) ∷ reading 5000 ∷ []) delivered (0 ∷ 1 ∷ 2 ∷ [])
+      cellsAfter (wren ∷ frame true bytesC (8 * 133) ∷ reading 5000 ∷ []) (delivered 0) (0 ∷ 1 ∷ 2 ∷ [])
       ≡ (0 ∷ 0 ∷ 0 ∷ [], 0x80 ∷ 0x81 ∷ 0x02 ∷ [])
   -- d: BP 01: BFFFh is taken, C000h is not
   pub d-taken : leftAfter (wren ∷ writeOne 0xbf 0xff ∷ []) upperQuarter ≡ (0 ∷ 0 ∷ [], 5000)
@@ -123,9 +128,9 @@ pub record Starred : Type 0 where
   pub e-cycle : statusAfter (wren ∷ frame true (0x01 ∷ 0x8c ∷ []) 16 ∷ []) allBitsSet ≡ (0 ∷ 0 ∷ [], 0x8f)
   -- f: READ at FFFFh for two bytes gives cells FFFFh and 0000h, of any memory. The code and the address are undriven
   pub f-answer : (m d : List ℕ) → length m ≡ m95512 .size → length d ≡ m95512 .page
-      → framed m95512 delivered m d true bytesF 40 5 .answer ≡ Shown 24
+      → framed m95512 (delivered 0) m d true bytesF 40 5 .answer ≡ Shown 24
   pub f-output : (m d out : List ℕ) → length m ≡ m95512 .size → length d ≡ m95512 .page → length out ≡ 5
-      → framedOutput m95512 delivered m d bytesF 40 out
+      → framedOutput m95512 (delivered 0) m d bytesF 40 out
       ≡ 0xff ∷ 0xff ∷ 0xff ∷ getD m 0xffff 0 ∷ getD m 0x0000 0 ∷ []
   -- g: address 100, 300 bytes: parts of 28, 128, 128 and 16
   pub g-parts : splitParts (m95512 .size) (m95512 .page) 100 300 0 ≡ 4
@@ -134,11 +139,11 @@ pub record Starred : Type 0 where
   -- h: that write, idle, cycle 5,000, interval 1,000: 29 frames. Interval 700: 8 polls a page. Whatever the bytes and
   -- the memory. The polls are those of the run that `driven` answers for; its frames at 700 are 1 + 4 · (2 + 8)
   pub h-1000 : (m d bytes : List ℕ) → length m ≡ m95512 .size → length d ≡ m95512 .page → length bytes ≡ 300
-      → driven m95512 delivered m d 100 bytes 1000 5001 .answer ≡ Done (record { pages = 4; frames = 29 })
+      → driven m95512 (delivered 0) m d 100 bytes 1000 5001 .answer ≡ Done (record { pages = 4; frames = 29 })
   pub h-700 : (m d bytes : List ℕ) → length m ≡ m95512 .size → length d ≡ m95512 .page → length bytes ≡ 300
-      → driven m95512 delivered m d 100 bytes 700 5001 .answer ≡ Done (record { pages = 4; frames = 41 })
+      → driven m95512 (delivered 0) m d 100 bytes 700 5001 .answer ≡ Done (record { pages = 4; frames = 41 })
   pub h-polls : (m d bytes : List ℕ) → length m ≡ m95512 .size → length d ≡ m95512 .page → length bytes ≡ 300
-      → pagePolls (run m95512 700 5001 100 bytes (frameBench delivered m d) .acts) ≡ 8 ∷ 8 ∷ 8 ∷ 8 ∷ []
+      → pagePolls (run m95512 700 5001 100 bytes (frameBench (delivered 0) m d) .acts) ≡ 8 ∷ 8 ∷ 8 ∷ 8 ∷ []
   -- i: old reading 4294967290, new 10: 16 elapsed. So much less is left of a cycle that began at the old one
   pub i : elapsed 4294967290 10 ≡ 16
   pub i-left :

@@ -5,7 +5,7 @@ use mathlib.Core.List.{List}
 use lib.ListN.{length}
 use lib.Dec.{eqb, leb}
 use Rattle.laws.specs.Pick.{pick}
-use Rattle.codes.specs.Part.{Part}
+use Rattle.codes.specs.Part.{Part, partOf}
 use Rattle.codes.specs.Status.{on}
 use Rattle.chip.specs.Lents.{Lent}
 use Rattle.chip.specs.Records.{status}
@@ -14,7 +14,7 @@ use Rattle.latch.specs.declared.Latch.{Latch}
 use Rattle.laying.specs.Laying.{laidOver, layNumber}
 use Rattle.chip.specs.Touched.{cellsMarked, touchedChoice}
 use Rattle.chip.specs.Questions.{lowestNumber, lowestValue, questionNumber, questionValue}
-use Rattle.chip.specs.Power.{delivered, poweredUp, powerUpNumber}
+use Rattle.chip.specs.Power.{unpowered, poweredUp, powerUpNumber}
 use Rattle.chip.specs.Time.{lentFits, readingNumber, clockReading}
 use Rattle.chip.specs.declared.Core.{Core}
 use Rattle.bench.specs.declared.CoreAnswer.{CoreAnswer}
@@ -44,12 +44,16 @@ valueAnswer n v = record { number = n; value = v }
 
 -- ---- the frame model
 
--- 2 for a part that is none, or a lock or flag that is not 0 or 1, with the delivered record
-abbrev pub powerUpCall : ℕ → ℕ → ℕ → ℕ → ℕ → ℕ → ℕ → CoreAnswer
-powerUpCall part k cycle s b a t =
+-- a lock or a flag that is not 0 or 1 is outside its range, after a memory of another length
+abbrev pub badFlag : Part → ℕ → ℕ
+badFlag P size = pick (eqb size (P .size)) 2 1
+
+-- each refusal leaves the M95512 with no cell counted
+abbrev pub powerUpCall : ℕ → ℕ → ℕ → ℕ → ℕ → ℕ → ℕ → List ℕ → CoreAnswer
+powerUpCall part k cycle s b a t m =
     pick (leb k 1 && leb s 1 && leb b 1 && leb a 1)
-    (coreAnswer (powerUpNumber part cycle) (poweredUp part (on k) cycle (on s) (on b) (on a) t .core))
-    (coreAnswer 2 delivered)
+    (coreAnswer (powerUpNumber part cycle m) (poweredUp part (on k) cycle (on s) (on b) (on a) t m .core))
+    (coreAnswer (badFlag (partOf part) (length m)) unpowered)
 
 abbrev pub readingCall : Part → Core → ℕ → List ℕ → List ℕ → CoreAnswer
 readingCall P c t m d = coreAnswer (readingNumber P c m d) (clockReading P t c m d .core)
@@ -92,11 +96,11 @@ frameCallOutput P c m d w s n out = pick (leb w 1) (framedOutput P c m d s n out
 abbrev pub deviceAnswer : ℕ → Device → DeviceAnswer
 deviceAnswer n x = record { number = n; device = x }
 
-abbrev pub devicePowerUpCall : ℕ → ℕ → ℕ → ℕ → ℕ → ℕ → ℕ → DeviceAnswer
-devicePowerUpCall part k cycle s b a t =
+abbrev pub devicePowerUpCall : ℕ → ℕ → ℕ → ℕ → ℕ → ℕ → ℕ → List ℕ → DeviceAnswer
+devicePowerUpCall part k cycle s b a t m =
     pick (leb k 1 && leb s 1 && leb b 1 && leb a 1)
-    (deviceAnswer (powerUpNumber part cycle) (powered part (on k) cycle (on s) (on b) (on a) t .device))
-    (deviceAnswer 2 (resting delivered))
+    (deviceAnswer (powerUpNumber part cycle m) (powered part (on k) cycle (on s) (on b) (on a) t m .device))
+    (deviceAnswer (badFlag (partOf part) (length m)) (resting unpowered))
 
 -- an event that sets a pin: y follows, or the device as it was
 abbrev pub pinCall : Part → ℕ → Device → Device → DeviceAnswer
@@ -110,7 +114,9 @@ clockPinCall P level y x m =
     (deviceAnswer (badLevel P (length (m .memory)) (length (m .identification))) x)
 
 abbrev pub deviceReadingCall : Part → Device → ℕ → Lent → DeviceAnswer
-deviceReadingCall P x t m = deviceAnswer (memoryNumber P x m) (answer (memoryOutcome P x m) (onTime t x) x .device)
+deviceReadingCall P x t m =
+    deviceAnswer (memoryNumber P x m)
+    (answer (memoryOutcome P x m) (onTime P t (m .memory) x) x .device)
 
 abbrev pub qCall : Part → Device → Value
 qCall P x = valueAnswer (recordNumber P x) (qAsked P x)

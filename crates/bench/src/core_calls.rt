@@ -1,17 +1,31 @@
 // The frame model's device for C: power-up, a clock reading, and what a record says.
 ghost use mathlib.Core.Path.{_≡_};
+ghost use Rattle.codes.specs.Part.{partOf};
 ghost use Rattle.chip.specs.Records.{ownPart};
 ghost use Rattle.chip.specs.Time.{clockMemory, clockIdentification};
 ghost use Rattle.chip.specs.Ranges.{inRanges};
 ghost use Rattle.bench.specs.Calls.{powerUpCall, readingCall, inRangesCall, statusCall, lowestProtectedCall};
-ghost use Rattle.bench.specs.Calls.{protectedCall, touchedCall};
+ghost use Rattle.bench.specs.Calls.{badFlag, protectedCall, touchedCall};
 use crate::CoreAnswer;
 use crate::Value;
 use chip::Core;
+use codes::size_of;
 use codes::wide;
 
-// Power-up. Refusal 2 for a part that is none, a lock or a flag that is not 0 or 1, then 6 for the cycle length; both
-// leave the delivered record.
+// What a lock or a flag of 2 gets at power-up, with a memory of this length: 1 for another length than the part's, else
+// 2.
+pub(crate) fn bad_flag(part: u8, size: usize) -> u32
+    ensures { λ r. ⌜ r ≡ badFlag (partOf part) size ⌝ }
+{
+    if size == size_of(part) {
+        return 2;
+    }
+    1
+}
+
+// Power-up: the blank cells of the memory are counted. Refusal 1 for a memory that is not as long as the part has it,
+// then 2 for a part that is none, a lock or a flag that is not 0 or 1, then 6 for the cycle length; each leaves the
+// M95512 with no cell counted.
 #[no_mangle]
 pub extern "C" fn cartvesper_power_up(
     part: u8,
@@ -21,8 +35,9 @@ pub extern "C" fn cartvesper_power_up(
     bp1: u8,
     bp0: u8,
     reading: u32,
+    memory: &[u8],
 ) -> CoreAnswer
-    ensures { λ r. ⌜ r ≡ powerUpCall part lock cycle srwd bp1 bp0 reading ⌝ }
+    ensures { λ r. ⌜ r ≡ powerUpCall part lock cycle srwd bp1 bp0 reading (now (memory .entry)) ⌝ }
 {
     if (lock <= 1) & (srwd <= 1) & (bp1 <= 1) & (bp0 <= 1) {
         let powered = chip::power_up(
@@ -33,6 +48,7 @@ pub extern "C" fn cartvesper_power_up(
             bp1 == 1,
             bp0 == 1,
             reading,
+            memory,
         );
         let outcome = powered.outcome;
         let core = powered.core;
@@ -42,8 +58,8 @@ pub extern "C" fn cartvesper_power_up(
         };
     }
     CoreAnswer {
-        number: 2,
-        core: Core::delivered(),
+        number: bad_flag(part, memory.len()),
+        core: Core::unpowered(),
     }
 }
 

@@ -17,6 +17,7 @@ ghost use Rattle.bench.specs.Calls.{deviceReadingCall};
 ghost use Rattle.bench.specs.Calls.{qCall, deviceStatusCall, deviceInRangesCall, playCall, touchedCall};
 use crate::DeviceAnswer;
 use crate::Value;
+use crate::core_calls::bad_flag;
 use chip::Core;
 use chip::lent_fits;
 use pins::Device;
@@ -43,8 +44,9 @@ fn refused(number: u32, device: Device) -> DeviceAnswer
     }
 }
 
-// Power-up. Refusal 2 for a part that is none, a lock or a flag that is not 0 or 1, then 6 for the cycle length; both
-// leave the delivered record, at rest.
+// Power-up, at rest: the blank cells of the memory are counted. Refusal 1 for a memory that is not as long as the part
+// has it, then 2 for a part that is none, a lock or a flag that is not 0 or 1, then 6 for the cycle length; each leaves
+// the M95512 with no cell counted.
 #[no_mangle]
 pub extern "C" fn cartvesper_device_power_up(
     part: u8,
@@ -54,8 +56,9 @@ pub extern "C" fn cartvesper_device_power_up(
     bp1: u8,
     bp0: u8,
     reading: u32,
+    memory: &[u8],
 ) -> DeviceAnswer
-    ensures { λ r. ⌜ r ≡ devicePowerUpCall part lock cycle srwd bp1 bp0 reading ⌝ }
+    ensures { λ r. ⌜ r ≡ devicePowerUpCall part lock cycle srwd bp1 bp0 reading (now (memory .entry)) ⌝ }
 {
     if (lock <= 1) & (srwd <= 1) & (bp1 <= 1) & (bp0 <= 1) {
         return answered(pins::power_up(
@@ -66,9 +69,13 @@ pub extern "C" fn cartvesper_device_power_up(
             bp1 == 1,
             bp0 == 1,
             reading,
+            memory,
         ));
     }
-    refused(2, Device::resting(Core::delivered()))
+    refused(
+        bad_flag(part, memory.len()),
+        Device::resting(Core::unpowered()),
+    )
 }
 
 // S to a level. Refusal 2 for a level that is not 0 or 1, or a device outside its ranges.

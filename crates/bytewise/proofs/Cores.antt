@@ -15,10 +15,10 @@ use Rattle.codes.specs.declared.Instruction.the-variants.{Wren, Wrdi, Rdsr, Wrs
 use Rattle.latch.specs.Latches.{noLatch, latchFits}
 use Rattle.latch.specs.declared.Latch.{Latch}
 use Rattle.latch.proofs.Fitting.{none-latched}
-use Rattle.chip.specs.Records.{waitsLatch, waitsStatus, waitsLock, withTime, withoutCycle}
-use Rattle.chip.specs.Ranges.{flagsFit, timeFits, tied, valueFits, pageFits, waitFits, inRanges}
+use Rattle.chip.specs.Records.{waitsLatch, waitsStatus, waitsLock, withTime, withBlank, withoutCycle}
+use Rattle.chip.specs.Ranges.{flagsFit, timeFits, tied, valueFits, pageFits, waitFits, blankFits, inRanges}
 use Rattle.chip.specs.Effects.{effect}
-use Rattle.chip.specs.Time.{ends, timed}
+use Rattle.chip.specs.Time.{ends, timed, timedIn}
 use Rattle.chip.specs.declared.Waiting.{Waiting}
 use Rattle.chip.specs.declared.Core.{Core}
 use Rattle.edges.specs.Frames.{withLatch}
@@ -33,7 +33,7 @@ use Rattle.bytewise.specs.Forms.{coreWith, latchesWith, restOf, apart, C
 use Rattle.bytewise.specs.Deeds.{waitsAfter, executedDeed, formFits, formFramed, formRead, formCoreFits, writtenIn}
 use Rattle.bytewise.specs.Bytewise.{Bytewise, noBytes, byteForm, view, viewed, coreViewed}
 use Rattle.bytewise.proofs.View.{view-none, view-fits, view-written}
-use Rattle.bytewise.proofs.Same.{waits-viewed}
+use Rattle.bytewise.proofs.Same.{waits-viewed, read-blank-same}
 
 -- what holds of both sides of a choice, through two functions
 both-ways : {A B D : Type 0} (t : Bool) (G : A → D) (K : B → D) {a b : A} {c d : B} → G a ≡ K c → G b ≡ K d
@@ -68,6 +68,12 @@ both-first true true true false r i false = refl
 both-first true true true true false i false = refl
 both-first true true true true true i false = refl
 
+regrouped : (a b c : Bool) → (a && b && c) ≡ (a && (b && c))
+regrouped true b c = refl
+regrouped false true c = refl
+regrouped false false true = refl
+regrouped false false false = refl
+
 module _ (P : Part) (sound : Sound P) where
   -- an empty latch passes its test
   empty-true : (may : Bool) → true ≡ latchFits P may noLatch
@@ -79,7 +85,10 @@ module _ (P : Part) (sound : Sound P) where
       let others = flagsFit c && timeFits P c && tied P c in
       let waiting = valueFits (c .waits) && pageFits P (c .waits) in
       let l = latchFits P (waitsLatch (c .waits)) (c .waits .latch) in
-      last-first others waiting l ∙ ap (λ (t : Bool). l && (others && (waiting && t))) (empty-true (waitsLatch (c .waits)))
+      let all = others && (waiting && latchFits P (waitsLatch (c .waits)) noLatch) in
+      ap (λ (t : Bool). t && blankFits P c)
+      (last-first others waiting l ∙ ap (λ (t : Bool). l && (others && (waiting && t))) (empty-true (waitsLatch (c .waits))))
+      ∙ regrouped l all (blankFits P c)
 
   frame-first : (f : Frame) → frameFits P f ≡ (latchFits P (latches P (decode P (f .code)) (f .address) (f .taken)) (f .latch) && frameFits P (withLatch noLatch f))
   frame-first f =
@@ -171,6 +180,7 @@ module _ (P : Part) (sound : Sound P) where
   unfolding timed
   stopped-waits t c = both-ways (ends t c) (λ (d : Core). view (d .waits .latch)) (λ b. b) (view-none P sound) refl
 
-  pub read-same : (t : ℕ) (c : Core)
-      → coreViewed (coreApart (timed t c)) ≡ formRead (byteForm P) t (coreViewed (coreApart c))
-  read-same t c = ap₂ apartOf (stopped-rest t c) (stopped-waits t c)
+  pub read-same : (t : ℕ) (c : Core) (m : List ℕ)
+      → coreViewed (coreApart (timedIn P t c m)) ≡ formRead (byteForm P) P t m (coreViewed (coreApart c))
+  read-same t c m =
+      ap₂ apartOf (ap₂ withBlank (read-blank-same P sound t c m) (stopped-rest t c)) (stopped-waits t c)

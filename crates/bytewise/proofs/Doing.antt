@@ -14,10 +14,10 @@ use Rattle.codes.specs.declared.Instruction.{Instruction}
 use Rattle.codes.specs.declared.Instruction.the-variants.{Wren, Wrdi, Rdsr, Wrsr, Read, Write, Rdid, Wrid, Silence}
 use Rattle.latch.specs.declared.Latch.{Latch}
 use Rattle.chip.specs.Lents.{Lent}
-use Rattle.chip.specs.Records.{running, waitsStatus, waitsLock, withCycle, withTime, withoutCycle}
+use Rattle.chip.specs.Records.{running, waitsStatus, waitsLock, withCycle, withTime, withBlank, withoutCycle}
 use Rattle.chip.specs.declared.Waiting.{Waiting}
 use Rattle.chip.specs.Effects.{effect}
-use Rattle.chip.specs.Time.{ends, timed}
+use Rattle.chip.specs.Time.{ends, timed, timedBlank}
 use Rattle.chip.specs.declared.Core.{Core}
 use Rattle.edges.specs.Frames.{noFrame, withByte}
 use Rattle.edges.specs.Rising.{shiftedIn, taking, wholeByte, risen}
@@ -29,7 +29,7 @@ use Rattle.pins.specs.declared.Device.{Device}
 use Rattle.pins.specs.declared.Event.{Event}
 use Rattle.pins.specs.declared.Event.the-variants.{S, C, D, W, Hold, Time}
 use Rattle.bytewise.specs.Forms.{words, coreWith, latchesWith}
-use Rattle.bytewise.specs.Deeds.{Deed, keep, empty, finish, handAfter, waitsAfter, executedDeed, byteDeed, risingDeed, deedOf}
+use Rattle.bytewise.specs.Deeds.{Deed, keep, empty, finish, handAfter, waitsAfter, executedDeed, byteDeed, risingDeed, deedOf, renumbered, formRest}
 
 module _ (P : Part) (h w : Latch) where
   -- y is z with the deed done to the latches
@@ -154,26 +154,28 @@ module _ (P : Part) (h w : Latch) where
     unfolding onHold
     does-hold level = does-same (on (x .pins .c)) self self (record { done = refl }) (record { done = refl })
 
-    abbrev timedTo : Device → Core → Device
-    timedTo z c = withCore c z
+    -- the number of blank cells is y's: its latch says what is stored
+    abbrev timedTo : ℕ → Device → Core → Device
+    timedTo n z c = withCore (withBlank n c) z
 
-    abbrev stoppedTo : ℕ → Device → Core → Device
-    stoppedTo t z c = withCore (withTime t 0 (withoutCycle c)) z
+    abbrev stoppedTo : ℕ → ℕ → Device → Core → Device
+    stoppedTo n t z c = withCore (withBlank n (withTime t 0 (withoutCycle c))) z
 
-    does-time : (t : ℕ) → Does (onTime t y) (onTime t x) (deedOf P (Time t) x)
+    does-time : (m : List ℕ) (t : ℕ) → let n = timedBlank P t (y .core) m in Does (onTime P t m y) (renumbered n (onTime P t m x)) (deedOf P (Time t) x)
     unfolding onTime timed
-    does-time t =
-        does-in (ends t (x .core)) (timedTo y) (timedTo x)
-        (does-same (waitsStatus (x .core .waits)) (stoppedTo t y) (stoppedTo t x) (record { done = refl })
-        (does-same (waitsLock (x .core .waits)) (stoppedTo t y) (stoppedTo t x) (record { done = refl }) (record { done = refl }))) (record { done = refl })
+    does-time m t =
+        let n = timedBlank P t (y .core) m in
+        does-in (ends t (x .core)) (timedTo n y) (timedTo n x)
+        (does-same (waitsStatus (x .core .waits)) (stoppedTo n t y) (stoppedTo n t x) (record { done = refl })
+        (does-same (waitsLock (x .core .waits)) (stoppedTo n t y) (stoppedTo n t x) (record { done = refl }) (record { done = refl }))) (record { done = refl })
 
     -- ---- every event
 
-    pub stepped-does : (m : Lent) (e : Event) → Does (stepped P m e y) (stepped P m e x) (deedOf P e x)
-    unfolding onD onW
-    stepped-does m (S level) = does-s level
-    stepped-does m (C level) = does-c level m
+    pub stepped-does : (m : Lent) (e : Event) → Does (stepped P m e y) (formRest (words P) P m e (record { rest = x; hand = h; waits = w })) (deedOf P e x)
+    unfolding onD onW timedBlank
+    stepped-does m (S level) = record { done = does-s level .done }
+    stepped-does m (C level) = record { done = does-c level m .done }
     stepped-does m (D level) = record { done = refl }
     stepped-does m (W level) = record { done = refl }
-    stepped-does m (Hold level) = does-hold level
-    stepped-does m (Time t) = does-time t
+    stepped-does m (Hold level) = record { done = does-hold level .done }
+    stepped-does m (Time t) = record { done = does-time (m .memory) t .done }

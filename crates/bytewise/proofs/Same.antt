@@ -22,7 +22,8 @@ use Rattle.chip.specs.Lents.{Lent, lent}
 use Rattle.chip.specs.Records.{waitsPage, waitsIdentification, waitsStatus, withTime, withoutCycle}
 use Rattle.chip.specs.Ranges.{flagsFit, timeFits, tied, valueFits, pageFits, inRanges}
 use Rattle.chip.specs.Effects.{effect}
-use Rattle.chip.specs.Time.{ends, timed, timedCells}
+use Rattle.chip.specs.Blanks.{recounted}
+use Rattle.chip.specs.Time.{ends, timed, timedCells, timedBlank}
 use Rattle.chip.specs.declared.Waiting.{Waiting}
 use Rattle.chip.specs.declared.Core.{Core}
 use Rattle.edges.specs.Rising.{shiftedIn}
@@ -40,7 +41,7 @@ use Rattle.pins.specs.declared.Event.the-variants.{S, C, D, W, Hold, Time}
 use Rattle.bytewise.specs.Forms as forms
 use Rattle.bytewise.specs.Forms.{Apart, waitsWith, coreWith, latchesWith, restOf, apart, CoreApart, coreApart}
 use Rattle.bytewise.specs.Deeds.{Deed, keep, empty, latching, send, clear, finish, handAfter, waitsAfter, executedDeed, byteDeed, risingDeed, deedOf}
-use Rattle.bytewise.specs.Deeds.{formStepped, formCells, formFits, FormBench, formNext, formPlayed, formFramed, formRead, readCells, formCoreFits}
+use Rattle.bytewise.specs.Deeds.{readBlank, renumbered, formRest, formStepped, formCells, formFits, FormBench, formNext, formPlayed, formFramed, formRead, readCells, formCoreFits}
 use Rattle.bytewise.specs.Bytewise.{Bytewise, byteForm, view, viewed, coreViewed}
 use Rattle.bytewise.proofs.View.{view-none, view-latched, view-fits, view-stored, view-written}
 use Rattle.bytewise.proofs.Doing.{stepped-does}
@@ -143,17 +144,49 @@ module _ (P : Part) (sound : Sound P) where
 
   -- ---- an event
 
+  -- the number of blank cells
+  blank-same : (t : ℕ) (c : Core) (w : Latch) (m : List ℕ) → readBlank (forms.words P) P t c w m ≡ readBlank (byteForm P) P t c (view w) m
+  blank-same t c w m =
+      ap (λ (s : List ℕ). pick (ends t c) (pick (waitsPage (c .waits)) (recounted P (c .blank) m (pick (waitsPage (c .waits)) s m)) (c .blank)) (c .blank))
+      (sym (view-stored P sound (c .waits .page) w m))
+
+  pub read-blank-same : (t : ℕ) (c : Core) (m : List ℕ)
+      → timedBlank P t c m ≡ readBlank (byteForm P) P t (coreWith noLatch c) (view (c .waits .latch)) m
+  unfolding timedBlank
+  read-blank-same t c m = blank-same t (coreWith noLatch c) (c .waits .latch) m
+
+  module _ (m : Lent) (x : Device) where
+    in-words : (e : Event) → apart (stepped P m e x) ≡ formStepped (forms.words P) P m e (apart x)
+    in-words (S level) = ap apart (stepped-does P (x .frame .latch) (x .core .waits .latch) (restOf x) m (S level) .done)
+    in-words (C level) = ap apart (stepped-does P (x .frame .latch) (x .core .waits .latch) (restOf x) m (C level) .done)
+    in-words (D level) = ap apart (stepped-does P (x .frame .latch) (x .core .waits .latch) (restOf x) m (D level) .done)
+    in-words (W level) = ap apart (stepped-does P (x .frame .latch) (x .core .waits .latch) (restOf x) m (W level) .done)
+    in-words (Hold level) = ap apart (stepped-does P (x .frame .latch) (x .core .waits .latch) (restOf x) m (Hold level) .done)
+    in-words (Time t) = ap apart (stepped-does P (x .frame .latch) (x .core .waits .latch) (restOf x) m (Time t) .done)
+
+    rest-same : (e : Event) → formRest (forms.words P) P m e (apart x) ≡ formRest (byteForm P) P m e (viewed (apart x))
+    rest-same (S level) = refl
+    rest-same (C level) = refl
+    rest-same (D level) = refl
+    rest-same (W level) = refl
+    rest-same (Hold level) = refl
+    rest-same (Time t) =
+        ap (λ (n : ℕ). renumbered n (restOf (stepped P m (Time t) (restOf x)))) (blank-same t (restOf x .core) (x .core .waits .latch) (m .memory))
+
   module _ (m : Lent) (e : Event) (x : Device) where
     -- marks as words are a form like any other
     pub words-stepped : apart (stepped P m e x) ≡ formStepped (forms.words P) P m e (apart x)
-    words-stepped = ap apart (stepped-does P (x .frame .latch) (x .core .waits .latch) (restOf x) m e .done)
+    words-stepped = in-words m x e
 
     -- and marks as bytes do the same, seen through the view
     pub stepped-same : Whole (x .frame .latch)
         → viewed (apart (stepped P m e x)) ≡ formStepped (byteForm P) P m e (viewed (apart x))
     stepped-same s =
+        let hand = view (handAfter (forms.words P) (deedOf P e (restOf x)) (x .frame .latch)) in
+        let waits = view (waitsAfter (forms.words P) (deedOf P e (restOf x)) (x .frame .latch) (x .core .waits .latch)) in
         ap viewed words-stepped
-        ∙ ap₂ (λ (h w : Bytewise). record { rest = restOf (stepped P m e (restOf x)); hand = h; waits = w })
+        ∙ ap (λ (r : Device). record { rest = r; hand = hand; waits = waits }) (rest-same m x e)
+        ∙ ap₂ (λ (h w : Bytewise). record { rest = formRest (byteForm P) P m e (viewed (apart x)); hand = h; waits = w })
         (hand-viewed (deedOf P e (restOf x)) (x .frame .latch) (deed-small e (restOf x)) s)
         (waits-viewed (deedOf P e (restOf x)) (x .frame .latch) (x .core .waits .latch))
 

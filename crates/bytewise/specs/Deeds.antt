@@ -14,8 +14,9 @@ use Rattle.codes.specs.declared.Instruction.the-variants.{Wren, Wrdi, Rdsr, Wrs
 use Rattle.codes.specs.declared.Instruction.the-variants.{Wrid, Silence}
 use Rattle.latch.specs.Latches.{noLatch}
 use Rattle.chip.specs.Lents.{Lent, lent}
-use Rattle.chip.specs.Records.{waitsPage, waitsIdentification, waitsLatch}
+use Rattle.chip.specs.Records.{waitsPage, waitsIdentification, waitsLatch, withBlank}
 use Rattle.chip.specs.Ranges.{inRanges}
+use Rattle.chip.specs.Blanks.{recounted}
 use Rattle.chip.specs.Time.{ends, timed}
 use Rattle.chip.specs.declared.Waiting.{Waiting}
 use Rattle.chip.specs.declared.Core.{Core}
@@ -23,7 +24,7 @@ use Rattle.edges.specs.Rising.{shiftedIn}
 use Rattle.edges.specs.Ranges.{latches}
 use Rattle.fields.specs.Bytes.{instruction, address, payload}
 use Rattle.frames.specs.After.{judged, after}
-use Rattle.pins.specs.Devices.{counting}
+use Rattle.pins.specs.Devices.{counting, withCore}
 use Rattle.pins.specs.Events.{judgedNow, stepped, eventOf}
 use Rattle.pins.specs.Ranges.{deviceFits}
 use Rattle.pins.specs.declared.Device.{Device}
@@ -110,18 +111,39 @@ deedOf P (Time t) x = pick (ends t (x .core)) finish keep
 
 -- ---- a device in any form: after an event, the lent cells after it, its ranges
 
+-- what the end of a cycle leaves in lent cells; `theirs` says whether what waits is theirs
+abbrev pub storedCells : {L : Type 0} → (Waiting → Bool) → Form L → Core → L → List ℕ → List ℕ
+storedCells theirs F c w m = pick (theirs (c .waits)) (F .store (c .waits .page) w m) m
+
+-- and of the number of blank cells, which is the one thing beside the cells that a latch moves
+abbrev pub readBlank : {L : Type 0} → Form L → Part → ℕ → Core → L → List ℕ → ℕ
+readBlank F P t c w m =
+    pick (ends t c) (pick (waitsPage (c .waits)) (recounted P (c .blank) m (storedCells waitsPage F c w m)) (c .blank))
+    (c .blank)
+
+abbrev pub renumbered : ℕ → Device → Device
+renumbered n x = withCore (withBlank n (x .core)) x
+
+abbrev pub formRest : {L : Type 0} → Form L → Part → Lent → Event → Apart L → Device
+formRest F P m (S level) a = restOf (stepped P m (S level) (a .rest))
+formRest F P m (C level) a = restOf (stepped P m (C level) (a .rest))
+formRest F P m (D level) a = restOf (stepped P m (D level) (a .rest))
+formRest F P m (W level) a = restOf (stepped P m (W level) (a .rest))
+formRest F P m (Hold level) a = restOf (stepped P m (Hold level) (a .rest))
+formRest F P m (Time t) a =
+    renumbered (readBlank F P t (a .rest .core) (a .waits) (m .memory)) (restOf (stepped P m (Time t) (a .rest)))
+
 abbrev pub formStepped : {L : Type 0} → Form L → Part → Lent → Event → Apart L → Apart L
 formStepped F P m e a =
     let d = deedOf P e (a .rest) in
     record {
-      rest = restOf (stepped P m e (a .rest));
+      rest = formRest F P m e a;
       hand = handAfter F d (a .hand);
       waits = waitsAfter F d (a .hand) (a .waits);
     }
 
--- what a reading that ends a cycle leaves in lent cells; `theirs` says whether what waits is theirs
 abbrev pub readCells : {L : Type 0} → (Waiting → Bool) → Form L → ℕ → Core → L → List ℕ → List ℕ
-readCells theirs F t c w m = pick (ends t c) (pick (theirs (c .waits)) (F .store (c .waits .page) w m) m) m
+readCells theirs F t c w m = pick (ends t c) (storedCells theirs F c w m) m
 
 abbrev pub formCells : {L : Type 0} → (Waiting → Bool) → Form L → Event → Apart L → List ℕ → List ℕ
 formCells theirs F (S level) a m = m
@@ -176,9 +198,12 @@ formFramed F P ran w s n a =
           (waitsAfter F (executedDeed (instruction P s) (address P s)) (writtenIn F P s) (a .waits)) (a .waits);
     }
 
-abbrev pub formRead : {L : Type 0} → Form L → ℕ → CoreApart L → CoreApart L
-formRead F t a =
-    record { rest = timed t (a .rest); waits = pick (ends t (a .rest)) (F .none) (a .waits) }
+abbrev pub formRead : {L : Type 0} → Form L → Part → ℕ → List ℕ → CoreApart L → CoreApart L
+formRead F P t m a =
+    record {
+      rest = withBlank (readBlank F P t (a .rest) (a .waits) m) (timed t (a .rest));
+      waits = pick (ends t (a .rest)) (F .none) (a .waits);
+    }
 
 abbrev pub formCoreFits : {L : Type 0} → Form L → Part → CoreApart L → Bool
 formCoreFits F P a = F .fits (waitsLatch (a .rest .waits)) (a .waits) && inRanges P (a .rest)

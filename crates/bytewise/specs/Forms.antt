@@ -38,6 +38,7 @@ coreWith l c =
       cycle = c .cycle;
       left = c .left;
       last = c .last;
+      blank = c .blank;
       waits = waitsWith l (c .waits);
     }
 

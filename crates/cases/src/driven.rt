@@ -1,9 +1,9 @@
 // Cases of the driver: g, h and l, a running cycle, runs at the edge of the protected block, and what is refused.
 use crate::identification;
+use crate::powered;
 use crate::say;
 use crate::with_bp;
 use chip::Core;
-use chip::power_up;
 use codes::M95512;
 use codes::wide;
 
@@ -74,12 +74,12 @@ fn run_300(what: &[u8], core: Core, interval: u32, limit: u32) {
 }
 
 fn whole_runs() {
-    let fresh = Core::delivered();
+    let fresh = Core::delivered(M95512);
     run_300(b"h: 300 bytes at 100, interval 1000", fresh, 1000, 5001);
     run_300(b"h: interval 700", fresh, 700, 5001);
     run_300(b"interval 1000, limit 5", fresh, 1000, 5);
     run_300(b"l: interval 1000, limit 4", fresh, 1000, 4);
-    let late = power_up(M95512, false, 5000, false, false, false, 4294967290).core;
+    let late = powered(M95512, 5000, false, false, false, 4294967290).core;
     run_300(b"the counter wraps", late, 5000, 1);
 }
 
@@ -88,7 +88,7 @@ fn busy() -> Core {
     let memory = io::large_buffer();
     let page = identification();
     let mut out = [0u8; 4];
-    let enabled = Core::delivered().with_wel(1);
+    let enabled = Core::delivered(M95512).with_wel(1);
     let framed = frames::frame(
         enabled,
         &memory,
@@ -158,7 +158,7 @@ fn moved_block() {
 
 fn nothing_to_write() {
     let mut memory = io::large_buffer();
-    let fresh = Core::delivered();
+    let fresh = Core::delivered(M95512);
     run(b"no data at 65536", fresh, &mut memory, 65536, b"", 1, 1);
     run(
         b"one byte at 65535",
@@ -209,7 +209,7 @@ fn refused(
 }
 
 fn with_left() -> Core {
-    let mut core = Core::delivered();
+    let mut core = Core::delivered(M95512);
     core.left = 1;
     core
 }
@@ -217,7 +217,7 @@ fn with_left() -> Core {
 // Refusals 1, 2, 7 and 8, also with no data, and the first in the order where several apply.
 fn bad_address() {
     let mut memory = io::large_buffer();
-    let fresh = Core::delivered();
+    let fresh = Core::delivered(M95512);
     refused(
         b"one byte at 65536",
         fresh,
@@ -250,7 +250,7 @@ fn bad_address() {
 
 fn bad_polls() {
     let mut memory = io::large_buffer();
-    let fresh = Core::delivered();
+    let fresh = Core::delivered(M95512);
     refused(b"interval 0", fresh, &mut memory, 0, b"", 0, 1);
     refused(b"interval 5001", fresh, &mut memory, 0, b"", 5001, 1);
     refused(b"limit 0", fresh, &mut memory, 0, b"", 1, 0);
@@ -259,7 +259,7 @@ fn bad_polls() {
 
 fn bad_record() {
     let mut memory = io::large_buffer();
-    let fresh = Core::delivered();
+    let fresh = Core::delivered(M95512);
     refused(
         b"time left and nothing waiting",
         with_left(),
@@ -293,7 +293,7 @@ fn bad_memory() {
     let mut memory = io::large_buffer();
     refused(
         b"a memory one short",
-        Core::delivered(),
+        Core::delivered(M95512),
         &mut memory[0..65535],
         0,
         b"\x77",

@@ -1,14 +1,18 @@
 // Worked cases through the public calls, a line each: what was asked, and the number given back. The gate compares
 // them with the file stdout, whose numbers were worked out by hand from the rules.
 use chip::Core;
+use chip::PoweredUp;
 use chip::clock_reading;
 use chip::power_up;
+use codes::LARGE_SIZE;
 use codes::M95512;
 use codes::longest_of;
+use codes::size_of;
 use codes::wide;
 use frames::frame;
 use libc::STDOUT_FILENO;
 
+mod blank;
 mod driven;
 mod parts;
 
@@ -27,8 +31,27 @@ pub(crate) fn identification() -> [u8; PAGE] {
     [0xffu8; PAGE]
 }
 
+// A memory with every byte 0; as many cells are lent as the part has.
+pub(crate) fn cells() -> [u8; LARGE_SIZE] {
+    [0; LARGE_SIZE]
+}
+
+// Power-up over a memory of the part's size, every byte 0.
+pub(crate) fn powered(
+    part: u8,
+    cycle: u32,
+    srwd: bool,
+    bp1: bool,
+    bp0: bool,
+    reading: u32,
+) -> PoweredUp {
+    let size = size_of(part);
+    let memory = cells();
+    power_up(part, false, cycle, srwd, bp1, bp0, reading, &memory[..size])
+}
+
 pub(crate) fn power(what: &[u8], part: u8, cycle: u32) {
-    let p = power_up(part, false, cycle, true, true, true, 7);
+    let p = powered(part, cycle, true, true, true, 7);
     let outcome = p.outcome;
     let core = p.core;
     say(what, outcome.number());
@@ -36,9 +59,9 @@ pub(crate) fn power(what: &[u8], part: u8, cycle: u32) {
     say(b"  its last reading", core.last);
 }
 
-// A part with the given bits, as delivered otherwise.
+// A part with the given bits, no lock and its longest cycle.
 pub(crate) fn with_bp(part: u8, bp1: bool, bp0: bool) -> Core {
-    power_up(part, false, longest_of(part), false, bp1, bp0, 0).core
+    powered(part, longest_of(part), false, bp1, bp0, 0).core
 }
 
 pub(crate) fn protect(what: &[u8], core: Core, address: u32) {
@@ -55,8 +78,7 @@ pub(crate) fn lowest(what: &[u8], core: Core) {
 
 // A cycle of 5,000 that began at reading 4294967290, with page 1 waiting: cell 128 gets 11h.
 fn waiting() -> Core {
-    let p = power_up(M95512, false, 5000, false, false, false, 4294967290);
-    let mut core = p.core;
+    let mut core = powered(M95512, 5000, false, false, false, 4294967290).core;
     let mut waits = core.waits;
     let mut latch = waits.latch;
     latch.bytes[0] = 0x11;
@@ -112,7 +134,7 @@ fn guarded(core: Core) -> Core {
 
 // Cases of the frame model: j, k, and a write that is taken, ignored, cut short.
 fn frames_sent() {
-    let fresh = Core::delivered();
+    let fresh = Core::delivered(M95512);
     send(b"j: WREN with 16 bits", fresh, b"\x06\x00", 16);
     let enabled = send(b"WREN", fresh, b"\x06", 8);
     send(
@@ -155,7 +177,7 @@ fn refused(what: &[u8], core: Core, memory: &[u8], bytes: &[u8], bits: usize, ro
 }
 
 fn with_srwd_2() -> Core {
-    let mut core = Core::delivered();
+    let mut core = Core::delivered(M95512);
     core.srwd = 2;
     core
 }
@@ -164,7 +186,7 @@ fn bad_memory() {
     let long_memory = [0u8; 65537];
     refused(
         b"memory of 65537",
-        Core::delivered(),
+        Core::delivered(M95512),
         &long_memory,
         b"\x05\x00",
         16,
@@ -172,7 +194,7 @@ fn bad_memory() {
     );
     refused(
         b"memory of 65535",
-        Core::delivered(),
+        Core::delivered(M95512),
         &long_memory[0..65535],
         b"\x05\x00",
         16,
@@ -205,7 +227,7 @@ fn bad_count() {
     let memory = io::large_buffer();
     refused(
         b"a bit too many",
-        Core::delivered(),
+        Core::delivered(M95512),
         &memory,
         b"\x05\x00",
         17,
@@ -213,20 +235,27 @@ fn bad_count() {
     );
     refused(
         b"a bit too few",
-        Core::delivered(),
+        Core::delivered(M95512),
         &memory,
         b"\x05\x00",
         8,
         2,
     );
-    refused(b"a bit of no bytes", Core::delivered(), &memory, b"", 1, 0);
+    refused(
+        b"a bit of no bytes",
+        Core::delivered(M95512),
+        &memory,
+        b"",
+        1,
+        0,
+    );
 }
 
 fn bad_output() {
     let memory = io::large_buffer();
     refused(
         b"an output too long",
-        Core::delivered(),
+        Core::delivered(M95512),
         &memory,
         b"\x05\x00",
         16,
@@ -234,7 +263,7 @@ fn bad_output() {
     );
     refused(
         b"an output too short",
-        Core::delivered(),
+        Core::delivered(M95512),
         &memory,
         b"\x05\x00",
         16,
@@ -243,7 +272,7 @@ fn bad_output() {
 }
 
 fn too_long() {
-    let fresh = Core::delivered();
+    let fresh = Core::delivered(M95512);
     let memory = io::large_buffer();
     let bytes = [5u8; 65541];
     refused(b"65541 bytes", fresh, &memory, &bytes, 1, 8);
@@ -261,7 +290,7 @@ fn main() {
     protect(b"BP 11, 0000h", with_bp(M95512, true, true), 0);
     protect(b"BP 00, FFFFh", with_bp(M95512, false, false), 0xffff);
     protect(b"BP 00, 10000h", with_bp(M95512, false, false), 0x10000);
-    lowest(b"BP 00", Core::delivered());
+    lowest(b"BP 00", Core::delivered(M95512));
     lowest(b"BP 01", with_bp(M95512, false, true));
     lowest(b"BP 10", with_bp(M95512, true, false));
     lowest(b"BP 11", with_bp(M95512, true, true));
@@ -284,4 +313,5 @@ fn main() {
     too_long();
     driven::all();
     parts::all();
+    blank::all();
 }

@@ -1,5 +1,6 @@
 // Cases that the parts answer differently: WRDI in a cycle on each of them; of the M95M01 its longest cycle, where its
 // protection starts, and driver runs over FFFFh.
+use crate::cells;
 use crate::driven::bytes_300;
 use crate::driven::refused_with;
 use crate::driven::run_with;
@@ -10,7 +11,6 @@ use crate::say;
 use crate::with_bp;
 use chip::Core;
 use chip::clock_reading;
-use codes::LARGE_SIZE;
 use codes::M95M01;
 use codes::M95512;
 use codes::M95512D;
@@ -22,19 +22,15 @@ use codes::wide;
 use frames::frame;
 use latch::ROOM;
 
-// A memory with every byte 0 and an identification page with every byte FFh; as many cells are lent as the part has.
-fn cells() -> [u8; LARGE_SIZE] {
-    [0; LARGE_SIZE]
-}
-
-fn page_cells() -> [u8; ROOM] {
+// An identification page with every byte FFh; as many cells are lent as the part has.
+pub(crate) fn page_cells() -> [u8; ROOM] {
     [0xff; ROOM]
 }
 
 // ---- WRDI in a cycle
 
 // A frame of up to eight whole bytes with W high: the record that it leaves.
-fn sent(core: Core, bytes: &[u8], memory: &[u8], page: &[u8]) -> Core {
+pub(crate) fn sent(core: Core, bytes: &[u8], memory: &[u8], page: &[u8]) -> Core {
     let mut out = [0u8; 8];
     let n = bytes.len();
     if n > 8 {

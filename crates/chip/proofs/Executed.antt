@@ -90,6 +90,7 @@ module _ (P : Part) (c : Core) where
         left = w .left;
         tie = tie-kept (P .wrdiInCycle) (running c) (on (c .wel)) (on v) (waitsOne P (c .waits)) (waitsNothing (c .waits)) free (w .tie);
         waits = w .waits;
+        blank = w .blank;
       }
 
   -- a cycle begun while WEL is on
@@ -102,6 +103,7 @@ module _ (P : Part) (c : Core) where
         left = omega arith;
         tie = at-yes _ _ (lt-ltb 0 (c .cycle) some) ∙ and-both (P .wrdiInCycle || on (c .wel)) (waitsOne P x) (or-right (P .wrdiInCycle) (on (c .wel)) wel) one;
         waits = fits;
+        blank = w .blank;
       }
 
 -- the record, by the instruction: no cycle runs where there must be none, WEL is on where it must be

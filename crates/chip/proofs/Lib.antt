@@ -2,6 +2,8 @@
 pub mod Readings
 pub mod Within
 pub mod Passing
+pub mod Blanking
+pub mod Recounts
 pub mod Locking
 pub mod Plain
 pub mod Awaiting

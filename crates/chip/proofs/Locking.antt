@@ -17,7 +17,7 @@ use Rattle.latch.specs.declared.Latch.{Latch}
 use Rattle.chip.specs.Records.{waitsIdentification, waitsLock, identificationWaits, lockWaits}
 use Rattle.chip.specs.Questions.{barred}
 use Rattle.chip.specs.Effects.{effect}
-use Rattle.chip.specs.Time.{ends, timed, timedIdentification}
+use Rattle.chip.specs.Time.{ends, timed, timedIn, timedIdentification}
 use Rattle.chip.specs.declared.Waiting.{Waiting}
 use Rattle.chip.specs.declared.Core.{Core}
 use Rattle.chip.proofs.Passing.{not-theirs, lock-rule}
@@ -46,8 +46,8 @@ module _ (P : Part) (t : ℕ) (c : Core) (k : Locked c) where
   unfolding timed
   still-quiet = pick-case (λ (d : Core). waitsIdentification (d .waits) ≡ false) (ends t c) (λ e. refl) (λ e. k .quiet)
 
-  pub locked-timed : Locked (timed t c)
-  locked-timed =
+  pub locked-timed : (m : List ℕ) → Locked (timedIn P t c m)
+  locked-timed m =
       record { lock = lock-rule P t c ∙ ap (pick (ends t c && waitsLock (c .waits)) 1) (k .lock) ∙ pick-same _ 1; quiet = still-quiet }
 
   -- and its cells stay

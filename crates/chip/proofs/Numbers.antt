@@ -22,12 +22,16 @@ use Rattle.chip.specs.declared.Protection.the-variants.{Open, Protected,
 use Rattle.codes.specs.declared.Refusal.the-variants.{RecordRange, AddressRange}
 use Rattle.laws.specs.Flags.{pick-bit}
 
-module _ (part : ℕ) (k : Bool) (n : ℕ) (s b a : Bool) (t : ℕ) where
+module _ (part : ℕ) (k : Bool) (n : ℕ) (s b a : Bool) (t : ℕ) (m : List ℕ) where
   -- an answer that is the right one has the right number
-  pub powered : {r : PoweredUp} → r ≡ poweredUp part k n s b a t → (r ≡ poweredUp part k n s b a t) × (number (r .outcome) ≡ powerUpNumber part n)
+  pub powered : {r : PoweredUp} → r ≡ poweredUp part k n s b a t m
+      → (r ≡ poweredUp part k n s b a t m) × (number (r .outcome) ≡ powerUpNumber part n m)
   powered e = (
     e,
-    ap its e ∙ pick-ap its (isPart part) _ _ ∙ pick-cong (isPart part) 2 (λ q. pick-ap its (cycleFits (partOf part) n) _ _),
+    ap its e
+        ∙ pick-ap its (eqb (length m) (partOf part .size)) _ _
+        ∙ pick-cong (eqb (length m) (partOf part .size)) 1 (λ h. pick-ap its (isPart part) _ _
+        ∙ pick-cong (isPart part) 2 (λ q. pick-ap its (cycleFits (partOf part) n) _ _)),
   )
     where
       its : PoweredUp → ℕ

@@ -62,10 +62,10 @@ module _ (P : Part) (t : ℕ) (c : Core) where
   timed-within w =
       pick-case (Within P) (ends t c)
       (λ e. pick-case (λ x. Within P (withTime t 0 (withoutCycle x))) (waitsStatus (c .waits))
-      (λ s. quiet-within P _ (flags-cleared P (withStatus (c .waits .status) c) (flags-status (c .waits .status) c (w .flags))) (w .cycle) refl refl)
+      (λ s. quiet-within P _ (flags-cleared P (withStatus (c .waits .status) c) (flags-status (c .waits .status) c (w .flags))) (w .cycle) refl refl (w .blank))
       (λ s. pick-case (λ x. Within P (withTime t 0 (withoutCycle x))) (waitsLock (c .waits))
-      (λ k. quiet-within P _ (flags-cleared P (withLock c) (flags-locked c (w .flags))) (w .cycle) refl refl)
-      (λ k. quiet-within P _ (flags-cleared P c (w .flags)) (w .cycle) refl refl)))
+      (λ k. quiet-within P _ (flags-cleared P (withLock c) (flags-locked c (w .flags))) (w .cycle) refl refl (w .blank))
+      (λ k. quiet-within P _ (flags-cleared P c (w .flags)) (w .cycle) refl refl (w .blank))))
       (λ e. runs-within P c t (c .left - elapsed (c .last) t) (omega arith) (λ h. left-over h e) w)
     where
       left-over : 0 < c .left → ends t c ≡ false → 0 < c .left - elapsed (c .last) t

@@ -16,7 +16,7 @@ use Rattle.codes.specs.declared.Instruction.the-variants.{Wren, Wrdi, Rdsr, Wrs
 use Rattle.latch.specs.declared.Latch.{Latch}
 use Rattle.chip.specs.Records.{running, waitsIdentification, waitsLock}
 use Rattle.chip.specs.Effects.{effect}
-use Rattle.chip.specs.Time.{ends, timed, timedIdentification}
+use Rattle.chip.specs.Time.{ends, timed, timedIn, timedIdentification}
 use Rattle.chip.specs.declared.Core.{Core}
 use Rattle.chip.proofs.Within.{Within}
 use Rattle.chip.proofs.Passing.{not-theirs, lock-rule}
@@ -58,10 +58,13 @@ unwaited-effect P Wrid a v l c other k = absurd (other refl)
 unwaited-effect P Silence a v l c other k = k
 
 module _ (P : Part) (t : ℕ) (c : Core) (k : Unwaited c) where
-  pub unwaited-timed : Unwaited (timed t c)
+  over-time : Unwaited (timed t c)
   unfolding timed
-  unwaited-timed =
+  over-time =
       pick-case Unwaited (ends t c) (λ e. record { page = refl; lock = refl }) (λ e. record { page = k .page; lock = k .lock })
+
+  pub unwaited-timed : (m : List ℕ) → Unwaited (timedIn P t c m)
+  unwaited-timed m = record { page = over-time .page; lock = over-time .lock }
 
   pub unwaited-lock : timed t c .lock ≡ c .lock
   unwaited-lock = lock-rule P t c ∙ at-no _ _ (and-no-right (ends t c) (waitsLock (c .waits)) (k .lock))

@@ -9,7 +9,7 @@ use Rattle.laws.specs.Pick.{pick, at-no, and-left, and-right, and-both}
 use Rattle.codes.specs.Part.{Part}
 use Rattle.latch.proofs.Fitting.{none-latched}
 use Rattle.chip.specs.Records.{nothing, withTime}
-use Rattle.chip.specs.Ranges.{flagsFit, cycleFits, timeFits, tied, waitFits, inRanges}
+use Rattle.chip.specs.Ranges.{flagsFit, cycleFits, timeFits, tied, waitFits, blankFits, inRanges}
 use Rattle.chip.specs.declared.Core.{Core}
 
 pub record Within (P : Part) (c : Core) : Type 0 where
@@ -18,12 +18,14 @@ pub record Within (P : Part) (c : Core) : Type 0 where
   pub left : c .left ≤ c .cycle
   pub tie : tied P c ≡ true
   pub waits : waitFits P (c .waits) ≡ true
+  pub blank : c .blank ≤ P .size
 
 module _ (P : Part) (c : Core) where
   pub within : inRanges P c ≡ true → Within P c
   unfolding inRanges
   within e =
-      let fts = and-left (flagsFit c && timeFits P c && tied P c) (waitFits P (c .waits)) e in
+      let all = and-left (flagsFit c && timeFits P c && tied P c && waitFits P (c .waits)) (blankFits P c) e in
+      let fts = and-left (flagsFit c && timeFits P c && tied P c) (waitFits P (c .waits)) all in
       let ft = and-left (flagsFit c && timeFits P c) (tied P c) fts in
       let t = and-right (flagsFit c) (timeFits P c) ft in
       record {
@@ -31,16 +33,18 @@ module _ (P : Part) (c : Core) where
         cycle = and-left (cycleFits P (c .cycle)) (leb (c .left) (c .cycle)) t;
         left = leb-true _ _ (and-right (cycleFits P (c .cycle)) (leb (c .left) (c .cycle)) t);
         tie = and-right (flagsFit c && timeFits P c) (tied P c) fts;
-        waits = and-right (flagsFit c && timeFits P c && tied P c) (waitFits P (c .waits)) e;
+        waits = and-right (flagsFit c && timeFits P c && tied P c) (waitFits P (c .waits)) all;
+        blank = leb-true _ _ (and-right (flagsFit c && timeFits P c && tied P c && waitFits P (c .waits)) (blankFits P c) e);
       }
 
   pub in-ranges : Within P c → inRanges P c ≡ true
   unfolding inRanges
   in-ranges w =
-      and-both (flagsFit c && timeFits P c && tied P c) (waitFits P (c .waits))
+      and-both (flagsFit c && timeFits P c && tied P c && waitFits P (c .waits)) (blankFits P c)
+      (and-both (flagsFit c && timeFits P c && tied P c) (waitFits P (c .waits))
       (and-both (flagsFit c && timeFits P c) (tied P c)
       (and-both (flagsFit c) (timeFits P c) (w .flags) (and-both (cycleFits P (c .cycle)) (leb (c .left) (c .cycle)) (w .cycle) (le-leb _ _ (w .left))))
-      (w .tie)) (w .waits)
+      (w .tie)) (w .waits)) (le-leb _ _ (w .blank))
 
 -- ---- nothing waits
 
@@ -53,14 +57,16 @@ pub quiet-tie : (P : Part) (c : Core) → c .left ≡ 0 → c .waits .kind ≡ 0
 quiet-tie P c l k = at-no _ _ (le-ltb 0 (c .left) (omega arith)) ∙ eq-eqb _ _ k
 
 -- a device with no cycle and nothing that waits
-pub quiet-within : (P : Part) (c : Core) → flagsFit c ≡ true → cycleFits P (c .cycle) ≡ true → c .left ≡ 0 → c .waits ≡ nothing → Within P c
-quiet-within P c f y l w =
+pub quiet-within : (P : Part) (c : Core) → flagsFit c ≡ true → cycleFits P (c .cycle) ≡ true → c .left ≡ 0 → c .waits ≡ nothing → c .blank ≤ P .size
+    → Within P c
+quiet-within P c f y l w b =
     record {
       flags = f;
       cycle = y;
       left = omega arith;
       tie = quiet-tie P c l (ap (λ x. x .kind) w);
       waits = ap (waitFits P) w ∙ nothing-fits P;
+      blank = b;
     }
 
 -- a cycle that runs on, or none: as much is left or less, and some where some was
@@ -72,6 +78,7 @@ runs-within P c t n h k w =
       left = omega (arith, w .left);
       tie = rw same-run (w .tie);
       waits = w .waits;
+      blank = w .blank;
     }
   where
     go : (b : Bool) → ltb 0 (c .left) ≡ b → ltb 0 n ≡ b

@@ -6,6 +6,7 @@ pub mod Ranges
 pub mod Questions
 pub mod Touched
 pub mod Effects
+pub mod Blanks
 pub mod Time
 pub mod Power
 pub mod Cells

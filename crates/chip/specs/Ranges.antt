@@ -47,5 +47,9 @@ waitFits P w = valueFits w && pageFits P w && latchFits P (waitsLatch w) (w .lat
 abbrev pub timeFits : Part → Core → Bool
 timeFits P c = cycleFits P (c .cycle) && leb (c .left) (c .cycle)
 
+-- no more cells are blank than the memory has
+abbrev pub blankFits : Part → Core → Bool
+blankFits P c = leb (c .blank) (P .size)
+
 unfoldable pub inRanges : Part → Core → Bool
-inRanges P c = flagsFit c && timeFits P c && tied P c && waitFits P (c .waits)
+inRanges P c = flagsFit c && timeFits P c && tied P c && waitFits P (c .waits) && blankFits P c

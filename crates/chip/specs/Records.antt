@@ -81,6 +81,7 @@ withStatus v c =
       cycle = c .cycle;
       left = c .left;
       last = c .last;
+      blank = c .blank;
       waits = c .waits;
     }
 
@@ -97,6 +98,7 @@ withLock c =
       cycle = c .cycle;
       left = c .left;
       last = c .last;
+      blank = c .blank;
       waits = c .waits;
     }
 
@@ -113,6 +115,7 @@ withTime t n c =
       cycle = c .cycle;
       left = n;
       last = t;
+      blank = c .blank;
       waits = c .waits;
     }
 
@@ -128,6 +131,24 @@ withWel v c =
       cycle = c .cycle;
       left = c .left;
       last = c .last;
+      blank = c .blank;
+      waits = c .waits;
+    }
+
+-- the number of blank cells
+abbrev pub withBlank : ℕ → Core → Core
+withBlank n c =
+    record {
+      part = c .part;
+      lock = c .lock;
+      srwd = c .srwd;
+      bp1 = c .bp1;
+      bp0 = c .bp0;
+      wel = c .wel;
+      cycle = c .cycle;
+      left = c .left;
+      last = c .last;
+      blank = n;
       waits = c .waits;
     }
 
@@ -144,6 +165,7 @@ withCycle w c =
       cycle = c .cycle;
       left = c .cycle;
       last = c .last;
+      blank = c .blank;
       waits = w;
     }
 
@@ -160,13 +182,15 @@ withoutCycle c =
       cycle = c .cycle;
       left = 0;
       last = c .last;
+      blank = c .blank;
       waits = nothing;
     }
 
--- ---- a core made anew: WEL 0, no cycle, and the given part, lock, status bits, cycle length and clock reading
+-- ---- a core made anew: WEL 0, no cycle, and the given part, lock, status bits, cycle length, clock reading and number
+-- of blank cells
 
-abbrev pub idle : ℕ → Bool → Bool → Bool → Bool → ℕ → ℕ → Core
-idle part lock srwd bp1 bp0 cycle t =
+abbrev pub idle : ℕ → Bool → Bool → Bool → Bool → ℕ → ℕ → ℕ → Core
+idle part lock srwd bp1 bp0 cycle t blank =
     record {
       part = part;
       lock = bit lock;
@@ -177,5 +201,6 @@ idle part lock srwd bp1 bp0 cycle t =
       cycle = cycle;
       left = 0;
       last = t;
+      blank = blank;
       waits = nothing;
     }

@@ -8,7 +8,8 @@ use Rattle.laws.specs.Pick.{pick}
 use Rattle.codes.specs.Part.{Part}
 use Rattle.latch.specs.Latches.{stored}
 use Rattle.chip.specs.Records.{running, waitsStatus, waitsPage, waitsIdentification, waitsLock}
-use Rattle.chip.specs.Records.{withStatus, withLock, withTime, withoutCycle}
+use Rattle.chip.specs.Records.{withStatus, withLock, withTime, withBlank, withoutCycle}
+use Rattle.chip.specs.Blanks.{recounted}
 use Rattle.chip.specs.Ranges.{inRanges}
 use Rattle.codes.specs.Refusals.{isDone}
 use Rattle.chip.specs.declared.Waiting.{Waiting}
@@ -36,7 +37,11 @@ ended c =
 abbrev pub endedCells : (Waiting → Bool) → Part → Core → List ℕ → List ℕ
 endedCells its P c m = pick (its (c .waits)) (stored P (c .waits .page) (c .waits .latch) m) m
 
--- the record after the reading t
+-- .. and the number of blank cells moves with the memory's cells; an identification page does not count
+abbrev pub endedBlank : Part → Core → List ℕ → ℕ
+endedBlank P c m = pick (waitsPage (c .waits)) (recounted P (c .blank) m (endedCells waitsPage P c m)) (c .blank)
+
+-- the record after the reading t, but for that number
 unfoldable pub timed : ℕ → Core → Core
 timed t c = pick (ends t c) (withTime t 0 (ended c)) (withTime t (c .left - elapsed (c .last) t) c)
 
@@ -49,6 +54,13 @@ timedMemory P t c m = timedCells waitsPage P t c m
 
 abbrev pub timedIdentification : Part → ℕ → Core → List ℕ → List ℕ
 timedIdentification P t c d = timedCells waitsIdentification P t c d
+
+-- the number of blank cells after it, of the memory m before it; and the record with it
+unfoldable pub timedBlank : Part → ℕ → Core → List ℕ → ℕ
+timedBlank P t c m = pick (ends t c) (endedBlank P c m) (c .blank)
+
+abbrev pub timedIn : Part → ℕ → Core → List ℕ → Core
+timedIn P t c m = withBlank (timedBlank P t c m) (timed t c)
 
 -- ---- the public clock reading, for every record, every memory and every identification page
 
@@ -69,7 +81,7 @@ readingNumber P c m d = readingChoice P c m d 1 2 0
 
 abbrev pub clockReading : Part → ℕ → Core → List ℕ → List ℕ → Timed
 clockReading P t c m d =
-    record { outcome = readingOutcome P c m d; core = pick (isDone (readingOutcome P c m d)) (timed t c) c }
+    record { outcome = readingOutcome P c m d; core = pick (isDone (readingOutcome P c m d)) (timedIn P t c m) c }
 
 abbrev pub clockMemory : Part → ℕ → Core → List ℕ → List ℕ → List ℕ
 clockMemory P t c m d = pick (isDone (readingOutcome P c m d)) (timedMemory P t c m) m

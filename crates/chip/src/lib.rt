@@ -8,6 +8,7 @@ use codes::Refusal;
 use latch::Latch;
 
 mod answers;
+mod blanks;
 mod counting;
 mod effects;
 mod power;
@@ -50,6 +51,8 @@ pub struct Core {
     pub cycle: u32,
     pub left: u32,
     pub last: u32,
+    // how many cells of the memory hold FFh, as the calls count them; a wrong number changes no other answer
+    pub blank: u32,
     pub waits: Waiting,
 }
 

@@ -5,12 +5,14 @@ ghost use lib.Dec.{eqb};
 ghost use Rattle.codes.specs.Part.{partOf};
 ghost use Rattle.chip.specs.Records.{ownPart};
 ghost use Rattle.chip.specs.Ranges.{flagsFit, cycleFits, timeFits, tied, valueFits, pageFits, waitFits, inRanges};
+ghost use Rattle.chip.specs.Ranges.{blankFits};
 use crate::Core;
 use crate::Waiting;
 use codes::identified;
 use codes::is_part;
 use codes::longest_of;
 use codes::pages_of;
+use codes::size_of;
 use codes::wrdi_in_cycle;
 
 // The cycle length, 1 to the part's longest.
@@ -85,11 +87,21 @@ impl Core {
         kind == 0
     }
 
+    fn blank_fits(self) -> bool
+        ensures { λ r. ⌜ r ≡ blankFits (ownPart self) self ⌝ }
+    {
+        self.blank as usize <= size_of(self.part)
+    }
+
     // The public test, for every record.
     pub fn in_ranges(self) -> bool
         ensures { λ r. ⌜ r ≡ inRanges (ownPart self) self ⌝ }
     {
         let waits = self.waits;
-        self.flags_fit() & self.time_fits() & self.tied() & waits.fits(self.part)
+        self.flags_fit()
+            & self.time_fits()
+            & self.tied()
+            & waits.fits(self.part)
+            & self.blank_fits()
     }
 }

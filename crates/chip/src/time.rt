@@ -3,13 +3,11 @@ ghost use mathlib.Core.Path.{_≡_};
 ghost use mathlib.Core.Bool.{_&&_};
 ghost use Prim.Native.Nat.{_-_};
 ghost use lib.Dec.{leb};
-ghost use Rattle.laws.specs.Pick.{pick};
 ghost use Rattle.codes.specs.Part.{partOf};
-ghost use Rattle.latch.specs.Latches.{stored};
-ghost use Rattle.chip.specs.Records.{ownPart, running, nothing};
-ghost use Rattle.chip.specs.Records.{withStatus, withLock, withTime, withoutCycle};
+ghost use Rattle.chip.specs.Records.{ownPart, running, nothing, waitsIdentification};
+ghost use Rattle.chip.specs.Records.{withStatus, withLock, withTime, withBlank, withoutCycle};
 ghost use Rattle.codes.specs.Refusals.{number};
-ghost use Rattle.chip.specs.Time.{elapsed, ended, timed, timedMemory, timedIdentification, lentFits};
+ghost use Rattle.chip.specs.Time.{elapsed, ended, endedCells, timedIn, timedMemory, timedIdentification, lentFits};
 ghost use Rattle.chip.specs.Time.{readingNumber, clockReading, clockMemory, clockIdentification};
 use crate::Core;
 use crate::Timed;
@@ -73,6 +71,13 @@ impl Core {
         self
     }
 
+    pub(crate) fn with_blank(mut self, blank: u32) -> Core
+        ensures { λ r. ⌜ r ≡ withBlank blank self ⌝ }
+    {
+        self.blank = blank;
+        self
+    }
+
     fn without_cycle(mut self) -> Core
         ensures { λ r. ⌜ r ≡ withoutCycle self ⌝ }
     {
@@ -105,33 +110,30 @@ impl Core {
         self.without_cycle()
     }
 
-    // Latched bytes go into the cells that they wait for, of the memory or of the identification page: `theirs` says
-    // whether what waits is theirs.
-    fn store_waiting(self, theirs: bool, cells: &mut [u8])
-        ensures { λ _. ⌜ now (cells .exit) ≡ pick theirs
-            (stored (ownPart self) (self .waits .page) (self .waits .latch) (now (cells .entry)))
-            (now (cells .entry)) ⌝ }
+    // The end of an identification cycle: the latched bytes go into the page. Where none waits nothing moves.
+    fn store_identification(self, identification: &mut [u8])
+        ensures { λ _. ⌜ now (identification .exit)
+            ≡ endedCells waitsIdentification (ownPart self) self (now (identification .entry)) ⌝ }
     {
         let page = self.waits.page;
         let latch = self.waits.latch;
-        if theirs {
-            latch.store(self.part, page, cells);
+        if self.waits.kind == 3 {
+            latch.store(self.part, page, identification);
         }
     }
 
     // A clock reading, with no refusal: the step that both models take.
     pub fn timed(self, reading: u32, memory: &mut [u8], identification: &mut [u8]) -> Core
-        ensures { λ r. ⌜ r ≡ timed reading self ⌝ }
+        ensures { λ r. ⌜ r ≡ timedIn (ownPart self) reading self (now (memory .entry)) ⌝ }
         ensures { λ _. ⌜ now (memory .exit) ≡ timedMemory (ownPart self) reading self (now (memory .entry)) ⌝ }
         ensures { λ _. ⌜ now (identification .exit)
             ≡ timedIdentification (ownPart self) reading self (now (identification .entry)) ⌝ }
     {
         let passed = elapsed(self.last, reading);
         if self.ends(passed) {
-            let kind = self.waits.kind;
-            self.store_waiting(kind == 2, memory);
-            self.store_waiting(kind == 3, identification);
-            return self.ended().with_time(reading, 0);
+            let blank = self.store_page(memory);
+            self.store_identification(identification);
+            return self.ended().with_time(reading, 0).with_blank(blank);
         }
         self.with_time(reading, left_after(self.left, passed))
     }

@@ -31,11 +31,11 @@ use Rattle.driver_theorems.specs.Counts.{pagePolls}
 
 -- the run, polled at an interval
 abbrev runH : List ℕ → List ℕ → List ℕ → ℕ → Run
-runH m i bytes interval = run (ownPart delivered) interval 5001 100 bytes (frameBench delivered m i)
+runH m i bytes interval = run (ownPart (delivered 0)) interval 5001 100 bytes (frameBench (delivered 0) m i)
 
 -- the answer of the public call
 abbrev answerH : List ℕ → List ℕ → List ℕ → ℕ → RunReply
-answerH m i bytes interval = driven (ownPart delivered) delivered m i 100 bytes interval 5001 .answer
+answerH m i bytes interval = driven (ownPart (delivered 0)) (delivered 0) m i 100 bytes interval 5001 .answer
 
 pub record CaseH (m i bytes : List ℕ) : Type 0 where
   pub at-1000 : answerH m i bytes 1000 ≡ Done (record { pages = 4; frames = 29 })
@@ -53,18 +53,18 @@ unfolding partOf table from run pagesFrom pageActs pageWait firstWait pollsOn pi
 computed m i f = record { at-1000 = refl; at-700 = refl; polls-700 = refl }
 
 -- the run is not refused, so the answer is its own
-not-refused : (interval size cells len : ℕ) → size ≡ ownPart delivered .size → cells ≡ ownPart delivered .page → len ≡ 300
-    → pollsFit (ownPart delivered) interval 5001 ≡ true → driveOutcome (ownPart delivered) delivered size cells 100 len interval 5001 ≡ outcome.Done
+not-refused : (interval size cells len : ℕ) → size ≡ ownPart (delivered 0) .size → cells ≡ ownPart (delivered 0) .page → len ≡ 300
+    → pollsFit (ownPart (delivered 0)) interval 5001 ≡ true → driveOutcome (ownPart (delivered 0)) (delivered 0) size cells 100 len interval 5001 ≡ outcome.Done
 unfolding partOf pick inRanges each zeros bitOn
 not-refused interval size cells len s q e p = rw (s, q, e, p) refl
 
-answers : (m i bytes : List ℕ) (interval : ℕ) → length m ≡ ownPart delivered .size → length i ≡ ownPart delivered .page → length bytes ≡ 300
-    → pollsFit (ownPart delivered) interval 5001 ≡ true → answerH m i bytes interval ≡ runAnswer (runH m i bytes interval)
+answers : (m i bytes : List ℕ) (interval : ℕ) → length m ≡ ownPart (delivered 0) .size → length i ≡ ownPart (delivered 0) .page → length bytes ≡ 300
+    → pollsFit (ownPart (delivered 0)) interval 5001 ≡ true → answerH m i bytes interval ≡ runAnswer (runH m i bytes interval)
 unfolding driven
 answers m i bytes interval s q e p =
     ap (λ (o : Outcome). runReply o (runH m i bytes interval)) (not-refused interval (length m) (length i) (length bytes) s q e p)
 
-pub case-h : (m i bytes : List ℕ) → length m ≡ ownPart delivered .size → length i ≡ ownPart delivered .page → length bytes ≡ 300 → CaseH m i bytes
+pub case-h : (m i bytes : List ℕ) → length m ≡ ownPart (delivered 0) .size → length i ≡ ownPart (delivered 0) .page → length bytes ≡ 300 → CaseH m i bytes
 unfolding partOf pick
 case-h m i bytes s q e =
     let tabled : bytes ≡ table 300 (λ j. getD bytes j 0) = table-of bytes 0 ∙ ap (λ (n : ℕ). table n (λ j. getD bytes j 0)) e in

@@ -1,7 +1,8 @@
 -- How many polls a wait makes, and what it leaves, for any sound part: the cycle's end after the time left over the interval, rounded up; or,
 -- when the polls run out before that, a cycle that still runs.
-use mathlib.Core.Path.{_≡_, refl, ap, sym, subst, _∙_}
+use mathlib.Core.Path.{_≡_, refl, ap, ap₂, sym, subst, _∙_}
 use mathlib.Core.Bool.{true, false}
+use mathlib.Core.List.{List}
 use Prim.Native.Nat.{ℕ, zero, suc, _+_, _-_, _*_, _/_, _%_, _^_, _<_, _≤_}
 use native.Mathlib.Nat.{zero-mul, suc-mul, add-div-right, div-eq-of-lt}
 use native.Mathlib.Decide.{decLt}
@@ -10,11 +11,12 @@ use lib.Dec.{leb}
 use borrow.Author.Tests.{lt-ltb, le-ltb, le-leb, lt-leb}
 use Rattle.laws.specs.Pick.{pick, at-yes, and-both, and-no-right}
 use Rattle.codes.specs.Part.{Part}
-use Rattle.chip.specs.Records.{running, waitsStatus, waitsPage, waitsIdentification, waitsLock, withTime}
-use Rattle.chip.specs.Time.{elapsed, ends, ended, endedCells, timed, timedCells}
+use Rattle.chip.specs.Records.{running, waitsStatus, waitsPage, waitsIdentification, waitsLock, withTime, withBlank}
+use Rattle.chip.specs.Time.{elapsed, ends, ended, endedCells, endedBlank, timed, timedCells, timedBlank, timedIn}
 use Rattle.chip.specs.declared.Core.{Core}
 use Rattle.codes.proofs.Sound.{Sound}
-use Rattle.chip.proofs.Passing.{on-core, no-end}
+use Rattle.chip.proofs.Passing.{no-end}
+use Rattle.chip.proofs.Recounts.{timed-on}
 use Rattle.frames.specs.Play.{FrameBench, actedAll}
 use Rattle.driver.specs.Sequence.{sent, latePoll, pollsOn}
 use Rattle.driver_theorems.specs.Counts.{roundedUp}
@@ -40,7 +42,7 @@ module _ (P : Part) where
   pub record Over (d y : FrameBench) : Type 0 where
     pub read : ℕ
     pub low : read < 2 ^ 32
-    pub core : y .core ≡ withTime read 0 (ended (d .core))
+    pub core : y .core ≡ withBlank (endedBlank P (d .core) (d .memory)) (withTime read 0 (ended (d .core)))
     pub memory : y .memory ≡ endedCells waitsPage P (d .core) (d .memory)
     pub identification : y .identification ≡ endedCells waitsIdentification P (d .core) (d .identification)
 
@@ -70,7 +72,10 @@ module _ (P : Part) where
       record {
         read = o .read;
         low = o .low;
-        core = o .core ∙ ap (λ (c : Core). withTime (o .read) 0 (ended c)) (r .core) ∙ ended-timed (r .read) left (o .read) (d .core);
+        core =
+            o .core
+            ∙ ap₂ (λ (c : Core) (m : List ℕ). withBlank (endedBlank P c m) (withTime (o .read) 0 (ended c))) (r .core) (r .memory)
+            ∙ ap (withBlank (endedBlank P (d .core) (d .memory))) (ended-timed (r .read) left (o .read) (d .core));
         memory = o .memory ∙ ap (λ (c : Core). endedCells waitsPage P c (x .memory)) (r .core) ∙ ap (endedCells waitsPage P (d .core)) (r .memory);
         identification =
             o .identification
@@ -105,13 +110,13 @@ module _ (P : Part) where
       read-low = omega arith
 
       poll-over : 0 < d .core .left → d .core .left ≤ i → Over d polled
-      unfolding timed timedCells
+      unfolding timed timedCells timedBlank
       poll-over h l =
           let over : ends read (d .core) ≡ true = and-both _ _ (lt-ltb _ _ h) (ap (leb (d .core .left)) gone ∙ le-leb _ _ l) in
           record {
             read = read;
             low = read-low;
-            core = poll-leaves P (timed read (d .core)) ∙ at-yes _ _ over;
+            core = poll-leaves P (timedIn P read (d .core) (d .memory)) ∙ ap₂ withBlank (at-yes _ _ over) (at-yes _ _ over);
             memory = at-yes _ _ over;
             identification = at-yes _ _ over;
           }
@@ -123,8 +128,8 @@ module _ (P : Part) where
             read = read;
             low = read-low;
             core =
-                poll-leaves P (timed read (d .core))
-                ∙ on-core P read (d .core) not-over
+                poll-leaves P (timedIn P read (d .core) (d .memory))
+                ∙ timed-on P read (d .core) (d .memory) not-over
                 ∙ ap (λ (n : ℕ). withTime read (d .core .left - n) (d .core)) gone;
             memory = no-end waitsPage P read (d .core) (d .memory) not-over;
             identification = no-end waitsIdentification P read (d .core) (d .identification) not-over;

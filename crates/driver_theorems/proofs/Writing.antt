@@ -13,10 +13,11 @@ use Rattle.codes.specs.Part.{Part}
 use Rattle.codes.specs.Status.{on}
 use Rattle.chip.specs.Questions.{protects}
 use Rattle.latch.specs.Latches.{stored}
-use Rattle.chip.specs.Records.{running, waitsPage, waitsIdentification, pageWaits, withWel, withTime, withCycle, withoutCycle}
+use Rattle.chip.specs.Records.{running, waitsPage, waitsIdentification, pageWaits, withWel, withTime, withBlank, withCycle, withoutCycle}
 use Rattle.codes.specs.Instructions.{decode, countFits, writeBits}
 use Rattle.codes.specs.Verdicts.{isExecuted, verdictBy}
-use Rattle.chip.specs.Time.{ended, endedCells}
+use Rattle.chip.specs.Time.{ended, endedCells, endedBlank}
+use Rattle.chip.specs.Blanks.{recounted}
 use Rattle.latch.specs.declared.Latch.{Latch}
 use Rattle.chip.specs.declared.Core.{Core}
 use Rattle.codes.specs.declared.Count.the-variants.{WholeBytes}
@@ -70,9 +71,9 @@ module _ (P : Part) (sound : Sound P) (c : Core) (a : ℕ) (bytes : List ℕ) (l
 
 -- ---- a page part sent to an idle device
 
--- the cycle is over: WEL 0, nothing waits, the clock read t
-abbrev pub settled : ℕ → Core → Core
-settled t c = withTime t 0 (withoutCycle c)
+-- the cycle is over: WEL 0, nothing waits, the clock read t, n cells are blank
+abbrev pub settled : ℕ → ℕ → Core → Core
+settled t n c = withBlank n (withTime t 0 (withoutCycle c))
 
 -- a wait of a device in which a cycle runs is polls while it does
 wait-running : (P : Part) (i limit : ℕ) (d : FrameBench) → 1 ≤ limit → running (d .core) ≡ true → pageWait P i limit d ≡ pollsOn P i limit d
@@ -121,7 +122,7 @@ module _ (P : Part) (sound : Sound P) (i limit : ℕ) (some : 0 < i) (small : i 
     pub frames : sent acts ≡ 2 + roundedUp (d .core .cycle) i
     pub read : ℕ
     pub read-low : read < 2 ^ 32
-    pub core : left .core ≡ settled read (d .core)
+    pub core : left .core ≡ settled read (recounted P (d .core .blank) (d .memory) (stored P (a / P .page) latch (d .memory))) (d .core)
     pub memory : left .memory ≡ stored P (a / P .page) latch (d .memory)
     pub identification : left .identification ≡ d .identification
 
@@ -156,7 +157,10 @@ module _ (P : Part) (sound : Sound P) (i limit : ℕ) (some : 0 < i) (small : i 
         frames = counted _ (ap sent wait ∙ w .polls ∙ ap (λ (n : ℕ). roundedUp n i) total);
         read = w .over .read;
         read-low = w .over .low;
-        core = ap (λ (x : FrameBench). x .core) y ∙ w .over .core ∙ ap (λ (x : Core). withTime (w .over .read) 0 (ended x)) c;
+        core =
+            ap (λ (x : FrameBench). x .core) y
+            ∙ w .over .core
+            ∙ ap (λ (x : Core). withBlank (endedBlank P x (d .memory)) (withTime (w .over .read) 0 (ended x))) c;
         memory = ap (λ (x : FrameBench). x .memory) y ∙ w .over .memory ∙ ap (λ (x : Core). endedCells waitsPage P x (d .memory)) c;
         identification =
             ap (λ (x : FrameBench). x .identification) y

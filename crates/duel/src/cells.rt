@@ -72,6 +72,19 @@ pub fn pages(frame_side: Page, pin_side: Page, run: &mut Run) {
     }
 }
 
+// The first n cells scanned: how many hold FFh.
+pub fn blanks(memory: &mut Memory, n: usize) -> u32 {
+    let mut sum: u32 = 0;
+    let mut i: usize = 0;
+    while i < MOST {
+        if (i < n) & (memory[i] == 255) {
+            sum = std::num::wrapping_add_u32(sum, 1);
+        }
+        i += 1;
+    }
+    sum
+}
+
 // The cells that are not as the round filled them.
 pub fn changed(memory: &mut Memory, patterned: bool, run: &mut Run) {
     let mut i: usize = 0;

@@ -93,10 +93,12 @@ fn waits(frame_side: Waiting, pin_side: Waiting, run: &mut Run) {
     latches(a, b, run);
 }
 
-fn times(frame_side: Core, pin_side: Core, run: &mut Run) {
+// The cycle's times, the last reading and the number of blank cells.
+fn numbers(frame_side: Core, pin_side: Core, run: &mut Run) {
     same(b"cycle length", frame_side.cycle, pin_side.cycle, run);
     same(b"time left", frame_side.left, pin_side.left, run);
     same(b"last reading", frame_side.last, pin_side.last, run);
+    same(b"blank cells", frame_side.blank, pin_side.blank, run);
 }
 
 fn parts(frame_side: Core, pin_side: Core, run: &mut Run) {
@@ -116,6 +118,6 @@ pub fn records(frame_side: Core, pin_side: Device, run: &mut Run) {
         run,
     );
     parts(frame_side, core, run);
-    times(frame_side, core, run);
+    numbers(frame_side, core, run);
     waits(a, b, run);
 }

@@ -46,7 +46,8 @@ fn round(frame_side: &mut Memory, pin_side: &mut Memory, run: &mut Run) {
     let patterned = percent(75, run);
     fill(frame_side, patterned);
     fill(pin_side, patterned);
-    let last = acts(powered(run), frame_side, pin_side, run);
+    let start = powered(frame_side, pin_side, run);
+    let last = acts(start, frame_side, pin_side, run);
     cells_alike(last, frame_side, pin_side, run);
     changed(frame_side, patterned, run);
 }

@@ -1,6 +1,7 @@
 // A round's acts: each is made on both models, and then they are compared.
 use crate::cells::Memory;
 use crate::cells::Page;
+use crate::cells::blanks;
 use crate::cells::filled_page;
 use crate::cells::first;
 use crate::cells::memories;
@@ -97,14 +98,51 @@ fn part(run: &mut Run) -> u8 {
     M95M01
 }
 
-fn powered_as(part: u8, lock: bool, page: Page, run: &mut Run) -> Pair {
+// The frame model powered up, with as many cells lent as the part has.
+fn frames_powered(
+    part: u8,
+    lock: bool,
+    cycle: u32,
+    srwd: bool,
+    bp1: bool,
+    bp0: bool,
+    reading: u32,
+    memory: &[u8],
+) -> Core {
+    let m = first(size_of(part), memory.len());
+    chip::power_up(part, lock, cycle, srwd, bp1, bp0, reading, &memory[..m]).core
+}
+
+// The pin model powered up.
+fn pins_powered(
+    part: u8,
+    lock: bool,
+    cycle: u32,
+    srwd: bool,
+    bp1: bool,
+    bp0: bool,
+    reading: u32,
+    memory: &[u8],
+) -> Device {
+    let m = first(size_of(part), memory.len());
+    pins::power_up(part, lock, cycle, srwd, bp1, bp0, reading, &memory[..m]).device
+}
+
+fn powered_as(
+    part: u8,
+    lock: bool,
+    page: Page,
+    frame_side: &Memory,
+    pin_side: &Memory,
+    run: &mut Run,
+) -> Pair {
     let cycle = cycle(part, run);
     let srwd = percent(30, run);
     let bp1 = percent(20, run);
     let bp0 = percent(30, run);
     let reading = word(run);
-    let core = chip::power_up(part, lock, cycle, srwd, bp1, bp0, reading).core;
-    let device = pins::power_up(part, lock, cycle, srwd, bp1, bp0, reading).device;
+    let core = frames_powered(part, lock, cycle, srwd, bp1, bp0, reading, frame_side);
+    let device = pins_powered(part, lock, cycle, srwd, bp1, bp0, reading, pin_side);
     records(core, device, run);
     Pair {
         frames: FrameSide {
@@ -119,12 +157,12 @@ fn powered_as(part: u8, lock: bool, page: Page, run: &mut Run) -> Pair {
     }
 }
 
-// Both powered up alike, with identification pages filled alike.
-pub fn powered(run: &mut Run) -> Pair {
+// Both powered up alike over their memories, with identification pages filled alike.
+pub fn powered(frame_side: &Memory, pin_side: &Memory, run: &mut Run) -> Pair {
     let part = part(run);
     let lock = percent(20, run);
     let page = filled_page(percent(75, run));
-    powered_as(part, lock, page, run)
+    powered_as(part, lock, page, frame_side, pin_side, run)
 }
 
 // ---- clock readings
@@ -202,12 +240,15 @@ fn pass(
     }
 }
 
-// The whole memories and the whole identification pages.
+// The whole memories and the whole identification pages, and the number of blank cells against a scan of the memory.
 pub fn cells_alike(pair: Pair, frame_side: &mut Memory, pin_side: &mut Memory, run: &mut Run) {
+    let core = pair.frames.core;
     let frame_page = pair.frames.page;
     let pin_page = pair.pins.page;
     memories(frame_side, pin_side, run);
     pages(frame_page, pin_page, run);
+    let scanned = blanks(frame_side, size_of(core.part));
+    same(b"blank cells, scanned", core.blank, scanned, run);
 }
 
 // A cycle's end; of the M95M01 WEL may be 0 by then.

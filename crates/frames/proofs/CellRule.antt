@@ -14,7 +14,8 @@ use Rattle.chip.specs.Time.{ends, timedCells}
 use Rattle.chip.specs.Cells.{Cells, memoryCells, identificationCells, cellCount, theirs, writesTo, latchedIn, awaitedIn}
 use Rattle.chip.specs.declared.Core.{Core}
 use Rattle.chip.proofs.Within.{Within}
-use Rattle.chip.proofs.Passing.{timed-within, timed-length, lent-rule}
+use Rattle.chip.proofs.Passing.{timed-length, lent-rule}
+use Rattle.chip.proofs.Recounts.{timed-in-within}
 use Rattle.chip.proofs.Awaiting.{effect-awaits, timed-awaits}
 use Rattle.fields.specs.Bytes.{instruction, address, written}
 use Rattle.frames.specs.After.{judged, after}
@@ -53,7 +54,7 @@ pub acted-all-within : (P : Part) → Sound P → (acts : List Act) (d : FrameBe
 acted-all-within P h [] d k = k
 acted-all-within P h (frame w s n ∷ acts) d k =
     acted-all-within P h acts (acted P (frame w s n) d) (after-within P h w (d .core) s n (running (d .core)) (λ r. r) k)
-acted-all-within P h (reading t ∷ acts) d k = acted-all-within P h acts (acted P (reading t) d) (timed-within P t (d .core) k)
+acted-all-within P h (reading t ∷ acts) d k = acted-all-within P h acts (acted P (reading t) d) (timed-in-within P t (d .core) (d .memory) k)
 
 module _ (k : Cells) (P : Part) (h : Sound P) (i : ℕ) (below : i < cellCount k P) where
   pub acted-all-cell : (acts : List Act) (d : FrameBench) → length (lentCells k d) ≡ cellCount k P → Within P (d .core)
@@ -68,7 +69,7 @@ module _ (k : Cells) (P : Part) (h : Sound P) (i : ℕ) (below : i < cellCount k
   acted-all-cell (reading t ∷ acts) d size r e f =
       let m = lentCells k d in
       acted-all-cell acts (acted P (reading t) d) (ap length (read-cells k P t d) ∙ timed-length (theirs k) P t (d .core) m ∙ size)
-      (timed-within P t (d .core) r) (timed-awaits k P t (d .core) i e) f
+      (timed-in-within P t (d .core) (d .memory) r) (timed-awaits k P t (d .core) i e) f
       ∙ ap (λ (x : List ℕ). getD x i 0) (read-cells k P t d)
       ∙ lent-rule P t (d .core) r k m size i below
       ∙ at-no _ _ (and-no-right (ends t (d .core)) (awaitedIn k P (d .core) i) e)

@@ -49,7 +49,7 @@ acted-locked P (frame w s n) d k = (
       (λ e. locked-effect P (address P s) (getD s 1 0) _ n _ _ _ _ (written P s) (d .core) k (instruction P s) e) (λ e. k),
   refl,
 )
-acted-locked P (reading t) d k = (locked-timed P t (d .core) k, locked-cells P t (d .core) k (d .identification))
+acted-locked P (reading t) d k = (locked-timed P t (d .core) k (d .memory), locked-cells P t (d .core) k (d .identification))
 
 pub locked-page : (P : Part) (acts : List Act) (d : FrameBench) → Locked (d .core)
     → Locked (actedAll P acts d .core) × (actedAll P acts d .identification ≡ d .identification)
@@ -94,7 +94,7 @@ module _ (P : Part) (plain : P .identified ≡ false) where
     (refl, after-lock P (running (d .core)) w (d .core) s n),
   )
   acted-unwaited (reading t) d k =
-      (unwaited-timed P t (d .core) k, (unwaited-cells P t (d .core) k (d .identification), unwaited-lock P t (d .core) k))
+      (unwaited-timed P t (d .core) k (d .memory), (unwaited-cells P t (d .core) k (d .identification), unwaited-lock P t (d .core) k))
 
   unwaited-all : (acts : List Act) (d : FrameBench) → Unwaited (d .core)
       → (actedAll P acts d .identification ≡ d .identification) × (actedAll P acts d .core .lock ≡ d .core .lock)

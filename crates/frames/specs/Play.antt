@@ -8,7 +8,7 @@ use Rattle.chip.specs.Records.{running}
 use Rattle.codes.specs.Verdicts.{isExecuted}
 use Rattle.codes.specs.Instructions.{isWrid, picksLock}
 use Rattle.chip.specs.Cells.{Cells, memoryCells, identificationCells, writesTo, latchedIn}
-use Rattle.chip.specs.Time.{timed, timedMemory, timedIdentification}
+use Rattle.chip.specs.Time.{timedIn, timedMemory, timedIdentification}
 use Rattle.chip.specs.declared.Core.{Core}
 use Rattle.fields.specs.Bytes.{instruction, address, written}
 use Rattle.frames.specs.After.{judged, after}
@@ -31,7 +31,7 @@ frameBench c m i = record { core = c; memory = m; identification = i }
 abbrev pub acted : Part → Act → FrameBench → FrameBench
 acted P (frame w s n) d = frameBench (after P (running (d .core)) w (d .core) s n) (d .memory) (d .identification)
 acted P (reading t) d =
-    frameBench (timed t (d .core)) (timedMemory P t (d .core) (d .memory))
+    frameBench (timedIn P t (d .core) (d .memory)) (timedMemory P t (d .core) (d .memory))
     (timedIdentification P t (d .core) (d .identification))
 
 abbrev pub actedAll : Part → List Act → FrameBench → FrameBench

@@ -10,7 +10,8 @@ use Rattle.codes.specs.Part.{Part}
 use Rattle.codes.specs.Refusals.{refusalNumber}
 use Rattle.codes.specs.declared.Refusal.the-variants.{MemoryLength, RecordRange, OutputLength}
 use Rattle.chip.specs.declared.Core.{Core}
-use Rattle.chip.specs.Records.{ownPart, running}
+use Rattle.chip.specs.Records.{ownPart, running, withBlank}
+use Rattle.chip.specs.Blanks.{blanks}
 use Rattle.chip.specs.Ranges.{inRanges}
 use Rattle.hex.specs.declared.HexReply.{HexReply}
 use Rattle.hex.specs.declared.HexReply.the-variants.{Done, NotTaken, Refused}
@@ -59,17 +60,21 @@ abbrev pub importChoice : {A : Type 0} → Part → Core → List ℕ → List �
 importChoice P c m t one two twelve done =
     pick (eqb (length m) (ownPart c .size)) (pick (inRanges (ownPart c) c) (pick (takes P c t) done twelve) two) one
 
--- the record is handed back as it was given
+-- the cells that a text leaves
+abbrev pub importedCells : Part → List ℕ → List ℕ → List ℕ
+importedCells P m t = laidRecords (parted P t .records) m
+
+-- the record is handed back as it was given, but that the blank cells are counted afresh where a text is taken
 abbrev pub importedTo : HexReply → Core → Imported
 importedTo a c = record { answer = a; core = c }
 
 abbrev pub importAnswer : Part → Core → List ℕ → List ℕ → Imported
 importAnswer P c m t =
     importChoice P c m t (importedTo (Refused MemoryLength) c) (importedTo (Refused RecordRange) c)
-    (importedTo NotTaken c) (importedTo Done c)
+    (importedTo NotTaken c) (importedTo Done (withBlank (blanks (importedCells P m t)) c))
 
 abbrev pub importNumber : Part → Core → List ℕ → List ℕ → ℕ
 importNumber P c m t = importChoice P c m t 1 2 12 0
 
 abbrev pub importMemory : Part → Core → List ℕ → List ℕ → List ℕ
-importMemory P c m t = importChoice P c m t m m m (laidRecords (parted P t .records) m)
+importMemory P c m t = importChoice P c m t m m m (importedCells P m t)

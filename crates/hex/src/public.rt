@@ -6,10 +6,12 @@ ghost use lib.Dec.{eqb};
 ghost use lib.ListN.{length, take};
 ghost use Rattle.laws.specs.Pick.{pick};
 ghost use Rattle.codes.specs.Part.{m95512, partOf};
+ghost use Rattle.chip.specs.Records.{ownPart};
+ghost use Rattle.chip.specs.Blanks.{counted};
 ghost use Rattle.hex.specs.Writing.{endLine};
-ghost use Rattle.hex.specs.Reading.{parted, sameBytes, isGood, firstBad, laidRecords};
+ghost use Rattle.hex.specs.Reading.{sameBytes, isGood, firstBad};
 ghost use Rattle.hex.specs.Answers.{hexNumber, takenReply, exportReply, exportNumber, exportOutput, importAnswer};
-ghost use Rattle.hex.specs.Answers.{importNumber, importMemory};
+ghost use Rattle.hex.specs.Answers.{importedCells, importedTo, importNumber, importMemory};
 use crate::HexReply;
 use crate::Imported;
 use crate::TEXT_SIZE;
@@ -67,29 +69,47 @@ pub fn export(core: Core, memory: &[u8], out: &mut [u8]) -> HexReply
     HexReply::Refused(Refusal::MemoryLength)
 }
 
-// The text is checked whole before a cell changes.
-fn take_text(running: bool, memory: &mut [u8], text: &[u8]) -> HexReply
+// The text is checked whole before a cell changes; the answer is whether it was taken.
+fn take_text(running: bool, memory: &mut [u8], text: &[u8]) -> bool
     requires { ⌜ length (now memory) ≡ m95512 .size ⌝ }
-    ensures { λ r. ⌜ r ≡ takenReply (not running && isGood m95512 (now (text .entry))) ⌝ }
+    ensures { λ r. ⌜ r ≡ (not running && isGood m95512 (now (text .entry))) ⌝ }
     ensures { λ _. ⌜ now (memory .exit) ≡ pick (not running && isGood m95512 (now (text .entry)))
-        (laidRecords (parted m95512 (now (text .entry)) .records) (now (memory .entry))) (now (memory .entry)) ⌝ }
+        (importedCells m95512 (now (memory .entry)) (now (text .entry))) (now (memory .entry)) ⌝ }
 {
     if running {
-        return HexReply::NotTaken;
+        return false;
     }
     let values = digit_values();
     let checked = check(text, &values);
     let at = checked.at;
     if is_end(&text[at..]) {
         store(memory, text, at, &values);
-        return HexReply::Done;
+        return true;
     }
-    HexReply::NotTaken
+    false
 }
 
-// The cells that a text names, a later record over an earlier one. Refusals 1 for a memory of another length than the
-// part's, 2 for a record outside its ranges, 12 for a record of an M95M01, for a text that is not good or while a cycle
-// runs, each with the memory as it was. The record comes back as it was given.
+// What is handed back over a memory that a text was or was not taken into: where it was, the blank cells are counted
+// afresh.
+fn imported(core: Core, taken: bool, memory: &[u8]) -> Imported
+    ensures { λ r. ⌜ r ≡ importedTo (takenReply taken)
+        (pick taken (counted (ownPart core) (now (memory .entry)) core) core) ⌝ }
+{
+    if taken {
+        return Imported {
+            answer: HexReply::Done,
+            core: core.counted(memory),
+        };
+    }
+    Imported {
+        answer: HexReply::NotTaken,
+        core: core,
+    }
+}
+
+// The cells that a text names, a later record over an earlier one; the blank cells are then counted afresh. Refusals 1
+// for a memory of another length than the part's, 2 for a record outside its ranges, 12 for a record of an M95M01, for
+// a text that is not good or while a cycle runs, each with the memory and the record as they were.
 pub fn import(core: Core, memory: &mut [u8], text: &[u8]) -> Imported
     ensures { λ r. ⌜ r ≡ importAnswer m95512 core (now (memory .entry)) (now (text .entry)) ⌝ }
     ensures { λ r. ⌜ hexNumber (r .answer) ≡ importNumber m95512 core (now (memory .entry)) (now (text .entry)) ⌝ }
@@ -98,11 +118,8 @@ pub fn import(core: Core, memory: &mut [u8], text: &[u8]) -> Imported
     if memory.len() == size_of(core.part) {
         if core.in_ranges() {
             if imaged(core.part) {
-                let answer = take_text(core.running(), memory, text);
-                return Imported {
-                    answer: answer,
-                    core: core,
-                };
+                let taken = take_text(core.running(), memory, text);
+                return imported(core, taken, memory);
             }
             return Imported {
                 answer: HexReply::NotTaken,

@@ -5,6 +5,7 @@ ghost use mathlib.Core.Path.{_≡_};
 ghost use Prim.Native.Nat.{_≤_};
 ghost use lib.ListN.{length};
 use chip::Core;
+use codes::M95512;
 use hex::IMAGE_SIZE;
 use hex::TEXT_SIZE;
 use libc::STDERR_FILENO;
@@ -186,7 +187,7 @@ fn out(image: &[u8], text: &[u8]) {
         return;
     }
     let mut room = exported_room();
-    hex::export(Core::delivered(), &memory, &mut room);
+    hex::export(Core::delivered(M95512), &memory, &mut room);
     put(text, &room);
 }
 
@@ -203,7 +204,7 @@ fn over(name: &[u8], memory: &mut [u8], text: &[u8], image: &[u8]) {
         bad(name, line);
         return;
     }
-    hex::import(Core::delivered(), memory, text);
+    hex::import(Core::delivered(M95512), memory, text);
     put(image, memory);
 }
 

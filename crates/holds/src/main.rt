@@ -111,7 +111,7 @@ fn write_bits(part: u8) -> usize {
 
 // A device with BP0 and WEL as asked.
 fn powered(part: u8, bp0: bool, wel: bool, memory: &[u8], identification: &[u8]) -> Device {
-    let device = pins::power_up(part, false, longest_of(part), false, false, bp0, 0).device;
+    let device = pins::power_up(part, false, longest_of(part), false, false, bp0, 0, memory).device;
     if wel {
         return sent(device, &[WREN], 8, memory, identification);
     }

@@ -30,13 +30,13 @@ module _ (n : ℕ) (l : Latch) (page : List ℕ) where
 -- ---- the memory with a page stored
 
 module _ (P : Part) (p : ℕ) where
-  in-page : (i : ℕ) → p * P .page ≤ i → i < p * P .page + P .page → inPage P p i ≡ true
+  pub in-page : (i : ℕ) → p * P .page ≤ i → i < p * P .page + P .page → inPage P p i ≡ true
   in-page i h k = and-both (leb (p * P .page) i) (ltb i (p * P .page + P .page)) (le-leb _ _ h) (lt-ltb _ _ k)
 
-  before-page : (i : ℕ) → i < p * P .page → inPage P p i ≡ false
+  pub before-page : (i : ℕ) → i < p * P .page → inPage P p i ≡ false
   before-page i h = and-no-left (leb (p * P .page) i) (ltb i (p * P .page + P .page)) (lt-leb _ _ h)
 
-  after-page : (i : ℕ) → p * P .page + P .page ≤ i → inPage P p i ≡ false
+  pub after-page : (i : ℕ) → p * P .page + P .page ≤ i → inPage P p i ≡ false
   after-page i h = and-no-right (leb (p * P .page) i) (ltb i (p * P .page + P .page)) (le-ltb _ _ h)
 
 module _ (P : Part) (p : ℕ) (l : Latch) (m : List ℕ) (fits : p * P .page + P .page ≤ length m) where

@@ -380,7 +380,7 @@ impl Front {
 // A reading that ends no cycle moves the clock alone.
 fn passing(reading: u32, core: Core) -> Way
     ensures { λ r. ⌜ ((m : Lent) (f : Front) (l : Latch) → afterWay (ownPart core) m (Time reading) r (whole f l core)
-        ≡ onTime reading (whole f l core)) ⌝ }
+        ≡ onTime (ownPart core) reading (m .memory) (whole f l core)) ⌝ }
     ensures { λ r. ⌜ ((theirs : Waiting → Bool) (m : List ℕ) (f : Front) (l : Latch)
         → afterWayCells theirs (ownPart core) (Time reading) r (whole f l core) m
         ≡ timedCells theirs (ownPart core) reading core m) ⌝ }

@@ -97,8 +97,8 @@ statusAsked P x = recordChoice P x 0 (status (x .core))
 abbrev pub poweredDevice : PoweredUp → Stepped
 poweredDevice p = steppedTo (p .outcome) (resting (p .core))
 
-abbrev pub powered : ℕ → Bool → ℕ → Bool → Bool → Bool → ℕ → Stepped
-powered part k n s b a t = poweredDevice (poweredUp part k n s b a t)
+abbrev pub powered : ℕ → Bool → ℕ → Bool → Bool → Bool → ℕ → List ℕ → Stepped
+powered part k n s b a t m = poweredDevice (poweredUp part k n s b a t m)
 
 -- ---- a list of events: the single events one after another
 

@@ -13,7 +13,7 @@ use Rattle.codes.specs.Instructions.{decode}
 use Rattle.chip.specs.Questions.{barred}
 use Rattle.codes.specs.Verdicts.{verdict, isExecuted}
 use Rattle.chip.specs.Effects.{effect}
-use Rattle.chip.specs.Time.{timed, timedCells}
+use Rattle.chip.specs.Time.{timedIn, timedCells}
 use Rattle.chip.specs.declared.Waiting.{Waiting}
 use Rattle.chip.specs.declared.Core.{Core}
 use Rattle.codes.specs.declared.Verdict.{Verdict}
@@ -92,8 +92,8 @@ onHold level x =
     pick (on (x .pins .c)) y (renewed y)
 
 -- time passes always: selected, held or not
-unfoldable pub onTime : ℕ → Device → Device
-onTime t x = withCore (timed t (x .core)) x
+unfoldable pub onTime : Part → ℕ → List ℕ → Device → Device
+onTime P t m x = withCore (timedIn P t (x .core) m) x
 
 -- ---- one event, and what it leaves of what is lent: only a clock reading changes it
 
@@ -103,7 +103,7 @@ stepped P m (C level) x = onC P level m x
 stepped P m (D level) x = onD level x
 stepped P m (W level) x = onW level x
 stepped P m (Hold level) x = onHold level x
-stepped P m (Time t) x = onTime t x
+stepped P m (Time t) x = onTime P t (m .memory) x
 
 -- lent cells: `its` says whether what waits is for them
 abbrev pub steppedCells : (Waiting → Bool) → Part → Event → Device → List ℕ → List ℕ

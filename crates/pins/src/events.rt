@@ -217,7 +217,7 @@ impl Device {
         memory: &mut [u8],
         identification: &mut [u8],
     ) -> Device
-        ensures { λ r. ⌜ r ≡ onTime reading self ⌝ }
+        ensures { λ r. ⌜ r ≡ onTime (devicePart self) reading (now (memory .entry)) self ⌝ }
         ensures { λ _. ⌜ now (memory .exit)
             ≡ timedMemory (devicePart self) reading (self .core) (now (memory .entry)) ⌝ }
         ensures { λ _. ⌜ now (identification .exit)

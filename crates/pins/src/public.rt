@@ -22,8 +22,9 @@ use chip::lent_fits;
 use codes::Outcome;
 use codes::Refusal;
 
-// Power-up: the delivered record with 2 for a part that is none, and then with 6 for a cycle length that is not 1 to
-// the longest.
+// Power-up, with the pins at rest: the blank cells of the memory are counted. 1 for a memory that is not as long as the
+// part has it, then 2 for a part that is none, then 6 for a cycle length that is not 1 to the longest; each leaves the
+// M95512 with no cell counted.
 pub fn power_up(
     part: u8,
     lock: bool,
@@ -32,11 +33,12 @@ pub fn power_up(
     bp1: bool,
     bp0: bool,
     reading: u32,
+    memory: &[u8],
 ) -> Stepped
-    ensures { λ r. ⌜ r ≡ powered part lock cycle srwd bp1 bp0 reading ⌝ }
-    ensures { λ r. ⌜ number (r .outcome) ≡ powerUpNumber part cycle ⌝ }
+    ensures { λ r. ⌜ r ≡ powered part lock cycle srwd bp1 bp0 reading (now (memory .entry)) ⌝ }
+    ensures { λ r. ⌜ number (r .outcome) ≡ powerUpNumber part cycle (now (memory .entry)) ⌝ }
 {
-    let p = chip::power_up(part, lock, cycle, srwd, bp1, bp0, reading);
+    let p = chip::power_up(part, lock, cycle, srwd, bp1, bp0, reading, memory);
     let outcome = p.outcome;
     let core = p.core;
     Stepped {
@@ -130,7 +132,7 @@ impl Device {
     pub fn read_clock(self, reading: u32, memory: &mut [u8], identification: &mut [u8]) -> Stepped
         ensures { λ r. ⌜ r
             ≡ answer (memoryOutcome (devicePart self) self (lent (now (memory .entry)) (now (identification .entry))))
-            (onTime reading self) self ⌝ }
+            (onTime (devicePart self) reading (now (memory .entry)) self) self ⌝ }
         ensures { λ r. ⌜ number (r .outcome) ≡ memoryNumber (devicePart self) self
             (lent (now (memory .entry)) (now (identification .entry))) ⌝ }
         ensures { λ _. ⌜ now (memory .exit)

@@ -13,7 +13,8 @@ use Rattle.codes.specs.Part.{Part, roomWords}
 use Rattle.codes.specs.Status.{bit, on}
 use Rattle.latch.specs.Latches.{zeros}
 use Rattle.chip.specs.Lents.{Lent}
-use Rattle.chip.specs.Records.{running}
+use Rattle.chip.specs.Records.{ownPart, running}
+use Rattle.chip.specs.Power.{delivered}
 use Rattle.codes.specs.Instructions.{decode, picksLock}
 use Rattle.chip.specs.Time.{elapsed, ends, timed}
 use Rattle.codes.specs.Refusals.{isDone}
@@ -22,8 +23,8 @@ use Rattle.codes.specs.declared.Outcome.{Outcome}
 use Rattle.codes.specs.declared.Instruction.{Instruction}
 use Rattle.codes.specs.declared.Instruction.the-variants.{Wren, Wrdi, Rdsr, Wrsr, Read, Write, Rdid, Wrid, Silence}
 use Rattle.chip.proofs.Within.{Within}
-use Rattle.chip.proofs.Passing.{timed-within}
-use Rattle.chip.proofs.Cases.{powered-within}
+use Rattle.chip.proofs.Recounts.{timed-in-within}
+use Rattle.chip.proofs.Cases.{powered-within, delivered-within}
 use Rattle.pins.specs.declared.Pins.{Pins}
 use Rattle.edges.specs.declared.Frame.{Frame}
 use Rattle.pins.specs.declared.Device.{Device}
@@ -243,9 +244,9 @@ module _ (P : Part) (sound : Sound P) (x : Device) (t : Fits P x) where
 
   -- ---- time
 
-  time-fits : (r : ℕ) → Fits P (onTime r x)
+  time-fits : (r : ℕ) (m : List ℕ) → Fits P (onTime P r m x)
   unfolding onTime
-  time-fits r =
+  time-fits r m =
       let f = x .frame in
       record {
         pins = t .pins;
@@ -255,7 +256,7 @@ module _ (P : Part) (sound : Sound P) (x : Device) (t : Fits P x) where
         ran =
             tie-in (eqb (f .taken) 0) (running (timed r (x .core))) (on (f .ran))
             (λ z h. tie-out (eqb (f .taken) 0) (running (x .core)) (on (f .ran)) (t .ran) z (ran-before P r (x .core) h));
-        core = timed-within P r (x .core) (t .core);
+        core = timed-in-within P r (x .core) m (t .core);
       }
 
   event-fits : (m : Lent) → length (x .frame .latch .marks) ≡ roomWords → (e : Event) → Fits P (stepped P m e x)
@@ -264,7 +265,7 @@ module _ (P : Part) (sound : Sound P) (x : Device) (t : Fits P x) where
   event-fits m sized (D level) = d-fits level
   event-fits m sized (W level) = w-fits level
   event-fits m sized (Hold level) = hold-fits level
-  event-fits m sized (Time r) = time-fits r
+  event-fits m sized (Time r) = time-fits r (m .memory)
 
 -- ---- the length of the latch, which a record of lists does not carry
 
@@ -367,14 +368,24 @@ module _ (P : Part) (sound : Sound P) where
   answer-fits o x y h k = pick-case (λ (z : Device). deviceFits P z ≡ true) (isDone o) (λ e. k) (λ e. h)
 
 -- power-up hands back a device inside the ranges of its own part, refused or not, and of the right lengths
-module _ (part : ℕ) (k : Bool) (n : ℕ) (s b a : Bool) (r : ℕ) where
+module _ (part : ℕ) (k : Bool) (n : ℕ) (s b a : Bool) (r : ℕ) (m : List ℕ) where
   abbrev poweredOne : Device
-  poweredOne = powered part k n s b a r .device
+  poweredOne = powered part k n s b a r m .device
 
   pub powered-fits : deviceFits (devicePart poweredOne) poweredOne ≡ true
   powered-fits =
       device-fits (devicePart poweredOne) poweredOne
-      (resting-fits (devicePart poweredOne) (sound-of (poweredOne .core .part)) (poweredOne .core) (powered-within part k n s b a r))
+      (resting-fits (devicePart poweredOne) (sound-of (poweredOne .core .part)) (poweredOne .core) (powered-within part k n s b a r m))
 
   pub powered-sized : Sized poweredOne
   powered-sized = empty-sized (devicePart poweredOne)
+
+-- and so is a part as delivered, at rest
+module _ (n : ℕ) where
+  pub delivered-fits : let x = resting (delivered n) in deviceFits (devicePart x) x ≡ true
+  delivered-fits =
+      let x = resting (delivered n) in
+      device-fits (devicePart x) x (resting-fits (devicePart x) (sound-of (x .core .part)) (x .core) (delivered-within n))
+
+  pub delivered-sized : Sized (resting (delivered n))
+  delivered-sized = empty-sized (ownPart (delivered n))

@@ -13,7 +13,8 @@ use Rattle.chip.specs.Lents.{Lent}
 use Rattle.chip.specs.Records.{running, waitsPage, withTime}
 use Rattle.chip.specs.Time.{elapsed, ends, timedMemory}
 use Rattle.chip.specs.declared.Core.{Core}
-use Rattle.chip.proofs.Passing.{on-core, no-end}
+use Rattle.chip.proofs.Passing.{no-end}
+use Rattle.chip.proofs.Recounts.{timed-on}
 use Rattle.pins.specs.declared.Device.{Device}
 use Rattle.pins.specs.Devices.{withD, withW, withHold, withPins, withHeldAt, withCore}
 use Rattle.pins.specs.Ranges.{deviceFits}
@@ -65,11 +66,11 @@ not-over c = go (running c) refl
     go false e = and-no-left (running c) (leb (c .left) (elapsed (c .last) (c .last))) e
 
 module _ (P : Part) (x : Device) where
-  pub same-reading : onTime (x .core .last) x ≡ x
+  pub same-reading : (m : List ℕ) → onTime P (x .core .last) m x ≡ x
   unfolding onTime
-  same-reading =
+  same-reading m =
       let same : x .core .left - elapsed (x .core .last) (x .core .last) ≡ x .core .left = omega (arith, none-elapsed (x .core .last)) in
-      ap (λ (c : Core). withCore c x) (on-core P (x .core .last) (x .core) (not-over (x .core)) ∙ ap (λ (n : ℕ). withTime (x .core .last) n (x .core)) same)
+      ap (λ (c : Core). withCore c x) (timed-on P (x .core .last) (x .core) m (not-over (x .core)) ∙ ap (λ (n : ℕ). withTime (x .core .last) n (x .core)) same)
 
   pub same-reading-memory : (m : List ℕ) → timedMemory P (x .core .last) (x .core) m ≡ m
   same-reading-memory m = no-end waitsPage P (x .core .last) (x .core) m (not-over (x .core))

@@ -17,7 +17,7 @@ use Rattle.codes.proofs.Sound.{Sound}
 use Rattle.codes.proofs.Judged.{passed, wrid-identified}
 use Rattle.chip.specs.Lents.{Lent}
 use Rattle.chip.specs.Records.{waitsIdentification, waitsLock}
-use Rattle.chip.specs.Time.{ends, timed}
+use Rattle.chip.specs.Time.{ends, timedIn}
 use Rattle.chip.specs.Cells.{identificationCells, writer}
 use Rattle.chip.specs.declared.Core.{Core}
 use Rattle.chip.proofs.Kept.{effect-lock}
@@ -67,7 +67,7 @@ module _ (P : Part) (x : Device) where
   on-hold-core Q stays level = pick-case (λ (y : Device). Q (y .core)) (on (x .pins .c)) (λ e. stays) (λ e. stays)
 
   pub stepped-core : (Q : Event → Core → Type 0) → ((e : Event) → endsCycle e (x .core) ≡ false → Q e (x .core))
-      → (on (x .pins .s) ≡ false → isExecuted (judgedNow P x) ≡ true → Q (S true) (executedNow P x)) → ((t : ℕ) → Q (Time t) (timed t (x .core)))
+      → (on (x .pins .s) ≡ false → isExecuted (judgedNow P x) ≡ true → Q (S true) (executedNow P x)) → ((t : ℕ) (m : List ℕ) → Q (Time t) (timedIn P t (x .core) m))
       → (m : Lent) (e : Event) → Q e (stepped P m e x .core)
   unfolding onD onW onTime
   stepped-core Q stays does passes m (S true) = on-s-core (Q (S true)) (stays (S true) refl) does
@@ -76,7 +76,7 @@ module _ (P : Part) (x : Device) where
   stepped-core Q stays does passes m (D level) = stays (D level) refl
   stepped-core Q stays does passes m (W level) = stays (W level) refl
   stepped-core Q stays does passes m (Hold level) = on-hold-core (Q (Hold level)) (stays (Hold level) refl) level
-  stepped-core Q stays does passes m (Time t) = passes t
+  stepped-core Q stays does passes m (Time t) = passes t (m .memory)
 
 -- ---- the lock never opens
 
@@ -86,7 +86,7 @@ executed-lock P x = effect-lock P (decode P (x .frame .code)) (x .frame .address
 never-opens : (P : Part) (x : Device) → x .core .lock ≡ 1 → (m : Lent) (e : Event) → stepped P m e x .core .lock ≡ 1
 never-opens P x k =
     stepped-core P x (λ e c. c .lock ≡ 1) (λ e n. k) (λ s e. executed-lock P x ∙ k)
-    (λ t. lock-rule P t (x .core) ∙ ap (pick (ends t (x .core) && waitsLock (x .core .waits)) 1) k ∙ pick-same _ 1)
+    (λ t m. lock-rule P t (x .core) ∙ ap (pick (ends t (x .core) && waitsLock (x .core .waits)) 1) k ∙ pick-same _ 1)
 
 pub lock-stays : (P : Part) (es : List ℕ) (b : PinBench) → b .device .core .lock ≡ 1 → played P es b .device .core .lock ≡ 1
 unfolding played
@@ -111,7 +111,7 @@ module _ (P : Part) (x : Device) (k : Locked (x .core)) where
       stepped-core P x (λ e c. Locked c) (λ e n. k)
       (λ s e. locked-effect P (x .frame .address) (x .frame .value) (x .frame .value) _ _ _ _ _ (x .frame .latch) (x .core) k
       (decode P (x .frame .code)) e)
-      (λ t. locked-timed P t (x .core) k)
+      (λ t m. locked-timed P t (x .core) k m)
 
 -- never changes, and none comes to wait, over any list of events
 pub locked-page : (P : Part) (es : List ℕ) (b : PinBench) → Locked (b .device .core)
@@ -129,7 +129,7 @@ pub event-lock : (P : Part) (x : Device) (m : Lent) (e : Event)
 event-lock P x =
     stepped-core P x (λ e c. c .lock ≡ pick (endsCycle e (x .core) && waitsLock (x .core .waits)) 1 (x .core .lock))
     (λ e n. sym (at-no _ _ (and-no-left (endsCycle e (x .core)) (waitsLock (x .core .waits)) n)))
-    (λ s e. executed-lock P x ∙ sym (at-no _ _ refl)) (λ t. lock-rule P t (x .core))
+    (λ s e. executed-lock P x ∙ sym (at-no _ _ refl)) (λ t m. lock-rule P t (x .core))
 
 -- .. and waits only once a frame that sets it is executed
 
@@ -143,7 +143,7 @@ event-awaits-lock P x h =
     effect-awaits-lock P (decode P (f .code)) (f .address) (f .value) (f .latch) (x .core)
     (and-other (not (on (x .pins .s)) && isExecuted (judgedNow P x)) sets none
     (and-both (not (on (x .pins .s))) (isExecuted (judgedNow P x)) (ap not s) e)) h)
-    (λ t none. timed-awaits-lock P t (x .core) h)
+    (λ t m none. timed-awaits-lock P t (x .core) h)
 
 -- so a lock that does not wait, and that no deselect in the list sets, is as it was: from any device
 pub untouched-lock : (P : Part) (es : List ℕ) (b : PinBench) → waitsLock (b .device .core .waits) ≡ false → locksAny P es b ≡ false
@@ -269,7 +269,7 @@ module _ (P : Part) (plain : P .identified ≡ false) where
               (not-wrid (x .frame .code)) k,
           executed-lock P x,
         ))
-        (λ t. (unwaited-timed P t (x .core) k, unwaited-lock P t (x .core) k))
+        (λ t m. (unwaited-timed P t (x .core) k m, unwaited-lock P t (x .core) k))
 
   unwaited-list : (es : List ℕ) (b : PinBench) → Unwaited (b .device .core)
       → (played P es b .identification ≡ b .identification) × (played P es b .device .core .lock ≡ b .device .core .lock)

@@ -70,9 +70,9 @@ pub w-shows : (level : Bool) (x : Device) → q (onW level x) ≡ q x
 unfolding onW
 w-shows level x = shows-same x (onW level x) refl refl refl
 
-pub time-shows : (P : Part) (t : ℕ) (x : Device) → q (onTime t x) ≡ q x
+pub time-shows : (P : Part) (t : ℕ) (m : List ℕ) (x : Device) → q (onTime P t m x) ≡ q x
 unfolding onTime
-time-shows P t x = shows-same x (onTime t x) refl refl refl
+time-shows P t m x = shows-same x (onTime P t m x) refl refl refl
 
 -- a counted rising edge leaves the output byte and its bits shown
 module _ (P : Part) (run : Bool) (d : ℕ) (f : Frame) where

@@ -46,7 +46,7 @@ events =
 
 -- a device as delivered; no memory is read
 abbrev bench : PinBench
-bench = pinBench (resting delivered) [] []
+bench = pinBench (resting (delivered 0)) [] []
 
 abbrev acceptedCells : List ℕ → List Bool
 acceptedCells [] = []
@@ -76,7 +76,7 @@ abbrev lockEvents : ℕ → List ℕ
 lockEvents v = frameEvents (0x06 ∷ []) (frameEvents (0x82 ∷ 0x04 ∷ 0x00 ∷ v ∷ []) [])
 
 abbrev benchD : PinBench
-benchD = pinBench (resting (idle 1 false false false false (m95512d .longest) 0)) [] []
+benchD = pinBench (resting (idle 1 false false false false (m95512d .longest) 0 (m95512d .size))) [] []
 
 abbrev acceptedIn : Cells → List ℕ → List Bool
 acceptedIn k [] = []

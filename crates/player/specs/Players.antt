@@ -1,12 +1,9 @@
 -- The player of a trace text: what a text starts from, and the ranges.
 use Prim.Native.Nat.{ℕ}
-use mathlib.Core.Bool.{Bool, false, _&&_, _||_}
+use mathlib.Core.Bool.{Bool, _&&_, _||_}
 use lib.Dec.{eqb, leb}
-use Rattle.laws.specs.Pick.{pick}
-use Rattle.codes.specs.Part.{partOf, isPart}
-use Rattle.chip.specs.Records.{idle}
-use Rattle.chip.specs.Power.{deliveredMemory, deliveredIdentification}
-use Rattle.chip.specs.declared.Core.{Core}
+use Rattle.codes.specs.Part.{partOf}
+use Rattle.chip.specs.Power.{delivered, deliveredMemory, deliveredIdentification}
 use Rattle.pins.specs.Devices.{devicePart, resting}
 use Rattle.pins.specs.Ranges.{deviceFits}
 use Rattle.pins.specs.Answers.{PinBench, pinBench}
@@ -16,18 +13,10 @@ use Rattle.player.specs.declared.Player.{Player}
 
 -- ---- what a text starts from, by a part's number; document 01's trace text starts from 0, the M95512
 
--- the number that the record holds: that of a part, and 0 for a number that is none (its row is the same: `start-row`)
-abbrev pub startPart : ℕ → ℕ
-startPart n = pick (isPart n) n 0
-
--- the part as delivered: lock and status bits 0, its longest cycle, reading 0
-abbrev pub startCore : ℕ → Core
-startCore n = idle (startPart n) false false false false (partOf n .longest) 0
-
--- the bench that a text is played on: memory and identification page as delivered
+-- the bench that a text is played on: record, memory and identification page as delivered
 abbrev pub startBench : ℕ → PinBench
 startBench n =
-    pinBench (resting (startCore n)) (deliveredMemory (partOf n)) (deliveredIdentification (partOf n))
+    pinBench (resting (delivered n)) (deliveredMemory (partOf n)) (deliveredIdentification (partOf n))
 
 abbrev pub playerOf : ℕ → Line → PinBench → Player
 playerOf headed l b = record { headed = headed; line = l; device = b .device }

@@ -9,16 +9,15 @@ ghost use lib.ListN.{length, replicate, take};
 ghost use Rattle.codes.specs.Part.{m95m01, partOf, room};
 ghost use Rattle.chip.specs.Power.{deliveredMemory, deliveredIdentification};
 ghost use Rattle.player.specs.Players.{startPlayer, headFits, playerFits};
+use chip::Core;
 use codes::DENSITY;
 use codes::FAMILY;
 use codes::LARGE_SIZE;
 use codes::M95M01;
 use codes::MANUFACTURER;
-use codes::longest_of;
 use latch::ROOM;
 use lines::Line;
 use pins::Device;
-use pins::power_up;
 
 // A text in hand: whether its header is out, the line in hand, and the device after the last whole line.
 pub struct Player {
@@ -28,12 +27,10 @@ pub struct Player {
 }
 
 // Before the first byte of a text, on a part as delivered: 1 is the M95512-D, 2 the M95M01, every other number the
-// M95512. It is what power-up gives, whose refusal of a number that is no part leaves the delivered M95512.
+// M95512. Every cell of its memory is blank, and so many are counted.
 pub fn start(part: u8) -> Player
     ensures { λ r. ⌜ r ≡ startPlayer part ⌝ }
 {
-    let powered = power_up(part, false, longest_of(part), false, false, false, 0);
-    let device = powered.device;
     Player {
         headed: 0,
         line: Line {
@@ -42,7 +39,7 @@ pub fn start(part: u8) -> Player
             kind: 0,
             value: 0,
         },
-        device: device,
+        device: Device::resting(Core::delivered(part)),
     }
 }
 

@@ -17,11 +17,11 @@ use Rattle.pins.specs.Ranges.{deviceFits}
 use Rattle.codes.proofs.Sound.{sound-of}
 use Rattle.pins.specs.Devices.{devicePart}
 use Rattle.pins.specs.declared.Device.{Device}
-use Rattle.pins_theorems.proofs.Fits.{Sized, played-sized, powered-fits, powered-sized}
+use Rattle.pins_theorems.proofs.Fits.{Sized, played-sized, delivered-fits, delivered-sized}
 use Rattle.lines.specs.declared.Line.{Line}
 use Rattle.player.specs.declared.Player.{Player}
 use Rattle.player.specs.Players.{startBench, playerOf, startPlayer, headFits, playerFits}
-use Rattle.player.proofs.Starts.{start-row, start-powered}
+use Rattle.player.proofs.Starts.{start-row}
 use Rattle.trace.specs.Lines.{lineSays}
 use Rattle.printing.specs.Printing.{header, badLine, printed}
 use Rattle.lines.specs.Reading.{fresh, stopped, read, found, ended, lineFits}
@@ -175,10 +175,10 @@ unfolding playerFits
 start-fits n =
     let x = startPlayer n .device in
     and-3-in (headFits (startPlayer n)) (lineFits (fresh 0)) (deviceFits (devicePart x) x) refl start-line
-    (subst (λ (y : Device). deviceFits (devicePart y) y ≡ true) (start-powered n) (powered-fits n false (partOf n .longest) false false false 0))
+    (delivered-fits n)
 
 pub start-sized : (n : ℕ) → Sized (startPlayer n .device)
-start-sized n = subst (λ (y : Device). Sized y) (start-powered n) (powered-sized n false (partOf n .longest) false false false 0)
+start-sized n = delivered-sized n
 
 pub chunk-fits : (p : Player) (m : Lent) (x : List ℕ) → playerFits p ≡ true → Sized (p .device) → playerFits (chunkPlayer p m x) ≡ true
 unfolding playerFits playedLines

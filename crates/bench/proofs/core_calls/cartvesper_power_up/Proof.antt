@@ -10,15 +10,24 @@ number-requires : tie.Need-number-requires
 number-requires c κs = search needs
 
 returns : tie.Need-returns
-returns c =
-    yes-so _ (c .before .before .before .if1 .taken) (rw (c .number .ensures, c .before .before .power-up .ensures .1, c .before .before .power-up .ensures .0))
+returns c = yes-so _ (c .before .before .before .if1 .taken) (rw (c .number .ensures, c .before .before .power-up .ensures .1, c .before .before .power-up .ensures .0))
 
-delivered-requires : tie.Need-delivered-requires
-delivered-requires c κs = search needs
+bad-flag-requires : tie.Need-bad-flag-requires
+bad-flag-requires c κs = search needs
+
+unpowered-requires : tie.Need-unpowered-requires
+unpowered-requires c κs = search needs
 
 returns-2 : tie.Need-returns-2
-returns-2 c = no-so _ (c .before .if1 .left) (rw (c .delivered .ensures))
+returns-2 c = no-so _ (c .before .before .if1 .left) (rw (c .unpowered .ensures, c .before .bad-flag .ensures))
 
 pub cartvesper-power-up-spec : {M : Type 1} → statement M
 cartvesper-power-up-spec =
-    tie.close (tie.spec power-up-requires number-requires returns delivered-requires returns-2)
+    tie.close
+    (tie.spec
+    power-up-requires
+    number-requires
+    returns
+    bad-flag-requires
+    unpowered-requires
+    returns-2)

@@ -15,10 +15,27 @@ tied-requires c κs = search needs
 fits-requires : tie.Need-fits-requires
 fits-requires c κs = search needs
 
+blank-fits-requires : tie.Need-blank-fits-requires
+blank-fits-requires c κs = search needs
+
 returns : tie.Need-returns
 unfolding inRanges
-returns c = rw (c .before .before .before .flags-fit .ensures, c .before .before .time-fits .ensures, c .before .tied .ensures, c .fits2 .ensures)
+returns c =
+    rw (
+      c .before .before .before .before .flags-fit .ensures,
+      c .before .before .before .time-fits .ensures,
+      c .before .before .tied .ensures,
+      c .before .fits2 .ensures,
+      c .blank-fits .ensures,
+    )
 
 pub in-ranges-spec : {M : Type 1} → statement M
 in-ranges-spec =
-    tie.close (tie.spec flags-fit-requires time-fits-requires tied-requires fits-requires returns)
+    tie.close
+    (tie.spec
+    flags-fit-requires
+    time-fits-requires
+    tied-requires
+    fits-requires
+    blank-fits-requires
+    returns)

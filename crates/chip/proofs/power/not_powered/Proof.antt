@@ -2,11 +2,11 @@ use borrow.Author.Needs.{needs}
 use Rattle.chip.proofs.power.not_powered.Statement.{statement}
 use Rattle.chip.proofs.power.not_powered.Tie as tie
 
-delivered-requires : tie.Need-delivered-requires
-delivered-requires c κs = search needs
+unpowered-requires : tie.Need-unpowered-requires
+unpowered-requires c κs = search needs
 
 returns : tie.Need-returns
-returns c = rw (c .delivered .ensures)
+returns c = rw (c .unpowered .ensures)
 
 pub not-powered-spec : {M : Type 1} → statement M
-not-powered-spec = tie.close (tie.spec delivered-requires returns)
+not-powered-spec = tie.close (tie.spec unpowered-requires returns)

@@ -4,8 +4,9 @@ use mathlib.Core.Bool.{false, _&&_}
 use Prim.Native.Nat.{ℕ, _-_}
 use lib.Dec.{leb}
 use Rattle.chip.specs.Records.{ownPart, running, waitsPage, waitsIdentification, withTime}
-use Rattle.chip.specs.Time.{ends, timed, timedMemory, timedIdentification}
-use Rattle.chip.proofs.Passing.{on-core, no-end}
+use Rattle.chip.specs.Time.{ends, timedIn, timedMemory, timedIdentification}
+use Rattle.chip.proofs.Passing.{no-end}
+use Rattle.chip.proofs.Recounts.{timed-on}
 use borrow.Author.Needs.{needs}
 use Rattle.driver.proofs.waiting.moved.Statement.{statement}
 use Rattle.driver.proofs.waiting.moved.Tie as tie
@@ -34,7 +35,7 @@ returns c =
     let P = ownPart (a .core) in
     let added = c .before .before .before .before .before .before .before .before .before .before .wrapping-add-u32 in
     let step = c .before .before .before .before .timed .ensures in (
-      step .0 ∙ ap (λ (n : ℕ). timed n (a .core)) (added .ensures),
+      step .0 ∙ ap (λ (n : ℕ). timedIn P n (a .core) (a .memory .now)) (added .ensures),
       (
         step .1 .0 ∙ ap (λ (n : ℕ). timedMemory P n (a .core) (a .memory .now)) (added .ensures),
         step .1 .1 ∙ ap (λ (n : ℕ). timedIdentification P n (a .core) (a .identification .now)) (added .ensures),
@@ -59,8 +60,8 @@ returns-2 c =
     let left = c .before .left-after .ensures ∙ ap (λ (n : ℕ). a .core .left - n) passed in (
       c .with-time .ensures
           ∙ ap (λ (n : ℕ). withTime t n (a .core)) left
-          ∙ sym (on-core P t (a .core) on)
-          ∙ ap (λ (n : ℕ). timed n (a .core)) (added .ensures),
+          ∙ sym (timed-on P t (a .core) (a .memory .now) on)
+          ∙ ap (λ (n : ℕ). timedIn P n (a .core) (a .memory .now)) (added .ensures),
       (
         sym (no-end waitsPage P t (a .core) (a .memory .now) on)
             ∙ ap (λ (n : ℕ). timedMemory P n (a .core) (a .memory .now)) (added .ensures),

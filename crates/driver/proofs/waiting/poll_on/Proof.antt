@@ -8,8 +8,9 @@ use native.Mathlib.Omega.{arith}
 use lib.ListN.{length}
 use Rattle.codes.specs.Part.{Part}
 use Rattle.chip.specs.Records.{ownPart, status, running, waitsPage, waitsIdentification, withTime}
-use Rattle.chip.specs.Time.{ends, timed, timedMemory, timedIdentification}
-use Rattle.chip.proofs.Passing.{on-core, no-end}
+use Rattle.chip.specs.Time.{ends, timedIn, timedMemory, timedIdentification}
+use Rattle.chip.proofs.Passing.{no-end}
+use Rattle.chip.proofs.Recounts.{timed-on}
 use Rattle.chip.specs.Ranges.{inRanges}
 use Rattle.codes.proofs.Sound.{sound-of}
 use Rattle.frames.specs.Play.{FrameBench, acted, frameBench}
@@ -88,10 +89,10 @@ loop-again c =
     let t = added .result in
     let passed = c .before .before .before .elapsed .ensures in
     let same = l .inv .1 .1 .0 in
-    let step = ap (λ (n : ℕ). timed n (l .core)) (added .ensures) in
+    let step = ap (λ (n : ℕ). timedIn P n (l .core) (l .memory)) (added .ensures) in
     let kept = ap (λ (n : ℕ). timedMemory P n (l .core) (l .memory)) (added .ensures) in
     let kept-page = ap (λ (n : ℕ). timedIdentification P n (l .core) (l .identification)) (added .ensures) in
-    let core = ap (λ (Q : Part). timed t (l .core)) same ∙ step in
+    let core = ap (λ (Q : Part). timedIn Q t (l .core) (l .memory)) same ∙ step in
     let memory = ap (λ (Q : Part). timedMemory Q t (l .core) (l .memory)) same ∙ kept in
     let page = ap (λ (Q : Part). timedIdentification Q t (l .core) (l .identification)) same ∙ kept-page in
     let e : x ≡ acted P (moved (a .interval) d) d =
@@ -104,7 +105,7 @@ loop-again c =
     ap (λ (n : ℕ). running (l .core) && leb (l .core .left) n) (sym passed) ∙ sym (c .before .before .ends .ensures) ∙ w .0 .left in
     let rest = w .1 .ensures ∙ ap (λ (n : ℕ). l .core .left - n) passed in
     bench-of (acted P (moved (a .interval) d) d)
-    (w .4 ∙ ap (λ (n : ℕ). withTime t n (l .core)) rest ∙ sym (on-core P t (l .core) on) ∙ step)
+    (w .4 ∙ ap (λ (n : ℕ). withTime t n (l .core)) rest ∙ sym (timed-on P t (l .core) (l .memory) on) ∙ step)
     (w .2 ∙ sym (no-end waitsPage P t (l .core) (l .memory) on) ∙ kept)
     (w .3 ∙ sym (no-end waitsIdentification P t (l .core) (l .identification) on) ∙ kept-page))
     (c .before .if1 .came) in

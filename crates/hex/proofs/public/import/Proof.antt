@@ -1,18 +1,30 @@
 -- The refusals in their order; then what taking the text answers and leaves.
-use mathlib.Core.Bool.{Bool, false, not, _&&_}
-use mathlib.Core.Path.{_≡_, ap, sym, _∙_}
+use mathlib.Core.Bool.{Bool, true, false, not, _&&_}
+use mathlib.Core.List.{List}
+use mathlib.Core.Path.{_≡_, refl, ap, sym, _∙_}
+use Prim.Native.Nat.{ℕ}
 use lib.ListN.{length}
-use borrow.Author.Tests.{eqb-true}
-use Rattle.laws.specs.Pick.{pick, arms, eq-so, yes-so, pick-ap, and-no-left}
-use Rattle.codes.specs.Part.{m95512}
-use Rattle.chip.specs.Records.{ownPart, running}
-use Rattle.hex.specs.Reading.{parted, isGood, laidRecords}
-use Rattle.hex.specs.declared.HexReply.{HexReply}
+use borrow.Author.Tests.{eqb-true, eq-eqb}
+use Rattle.laws.specs.Pick.{pick, arms, eq-so, yes-so, at-yes, pick-ap, and-no-left}
+use Rattle.codes.specs.Part.{Part, m95512}
+use Rattle.chip.specs.declared.Core.{Core}
+use Rattle.chip.specs.Records.{ownPart, running, withBlank}
+use Rattle.chip.specs.Blanks.{blanks, counted}
+use Rattle.hex.specs.Reading.{isGood}
+use Rattle.hex.specs.declared.Imported.{Imported}
 use Rattle.hex.specs.declared.HexReply.the-variants.{Done, NotTaken}
-use Rattle.hex.specs.Answers.{hexNumber, imaged, takes, takenReply, importedTo}
+use Rattle.hex.specs.Answers.{hexNumber, imaged, takes, takenReply, importedCells, importedTo}
 use borrow.Author.Needs.{needs}
 use Rattle.hex.proofs.public.import.Statement.{statement}
 use Rattle.hex.proofs.public.import.Tie as tie
+
+-- counted afresh where the text is taken: m is the memory after it
+answered : (P : Part) (c : Core) (t : Bool) (m left given : List ℕ) → m ≡ pick t left given → length m ≡ P .size
+    → importedTo (takenReply t) (pick t (counted P m c) c) ≡ pick t (importedTo Done (withBlank (blanks left) c)) (importedTo NotTaken c)
+unfolding pick
+answered P c true m left given e size =
+    ap (importedTo Done) (at-yes _ _ (eq-eqb _ _ size) ∙ ap (λ (s : List ℕ). withBlank (blanks s) c) e)
+answered P c false m left given e size = refl
 
 size-of-requires : tie.Need-size-of-requires
 size-of-requires c κs = search needs
@@ -33,37 +45,40 @@ take-text-requires c κs =
     let image = eqb-true _ _ (sym (c .before .before .before .imaged .ensures) ∙ c .before .before .if3 .taken) in
     long ∙ own ∙ image
 
+imported-requires : tie.Need-imported-requires
+imported-requires c κs = search needs
+
 same-length : tie.Need-same-length
 same-length c = search needs
 
 returns : tie.Need-returns
 returns c =
-    let a = c .before .before .before .before .before .before .before .before .before .before .before .before .before .args in
-    let long = c .before .before .before .before .before .before .before .before .before .if1 .taken
-    ∙ c .before .before .before .before .before .before .before .before .before .before .size-of .ensures .0 in
-    let fits = sym (c .before .before .before .before .before .before .before .before .in-ranges .ensures)
-    ∙ c .before .before .before .before .before .before .before .if2 .taken in
-    let image = sym (c .before .before .before .before .before .before .imaged .ensures) ∙ c .before .before .before .before .before .if3 .taken in
-    let x = c .before .before .take-text in
-    let run = c .before .before .before .before .running .ensures in
+    let a = c .before .before .before .before .before .before .before .before .before .before .before .before .before .before .before .args in
+    let long : length (a .memory .now) ≡ ownPart (a .core) .size = c .before .before .before .before .before .before .before .before .before .before .before .if1 .taken ∙ c .before .before .before .before .before .before .before .before .before .before .before .before .size-of .ensures .0 in
+    let fits = sym (c .before .before .before .before .before .before .before .before .before .before .in-ranges .ensures) ∙ c .before .before .before .before .before .before .before .before .before .if2 .taken in
+    let image = sym (c .before .before .before .before .before .before .before .before .imaged .ensures) ∙ c .before .before .before .before .before .before .before .if3 .taken in
+    let x = c .before .before .before .before .take-text in
     let t = takes m95512 (a .core) (a .text .now) in
     let asked : Bool → Bool = λ r. not r && isGood m95512 (a .text .now) in
-    let test : asked (c .before .before .before .before .running .result) ≡ t = ap asked run ∙ sym (ap (λ i. i && asked (running (a .core))) image) in
-    let told = x .ensures .0 ∙ ap takenReply test in
+    let test : asked (c .before .before .before .before .before .before .running .result) ≡ t = ap asked (c .before .before .before .before .before .before .running .ensures) ∙ sym (ap (λ i. i && asked (running (a .core))) image) in
     let m = a .memory .now in
-    let left = laidRecords (parted m95512 (a .text .now) .records) m in (
-      eq-so _ long (yes-so _ fits (ap (λ (r : HexReply). importedTo r (a .core)) told ∙ pick-ap (λ r. importedTo r (a .core)) t Done NotTaken)),
+    let left = importedCells m95512 m (a .text .now) in
+    let cells : x .last .1 .0 ≡ pick t left m = x .ensures .1 ∙ ap (λ (r : Bool). pick r left m) test in
+    let same : length (x .last .1 .0) ≡ length m = search needs in
+    let told = c .imported .ensures
+    ∙ ap (λ (r : Bool). importedTo (takenReply r) (pick r (counted (ownPart (a .core)) (x .last .1 .0) (a .core)) (a .core))) (x .ensures .0 ∙ test)
+    ∙ answered (ownPart (a .core)) (a .core) t (x .last .1 .0) left m cells (same ∙ long) in (
+      eq-so _ long (yes-so _ fits told),
       (
-        eq-so _ long (yes-so _ fits (ap hexNumber told ∙ pick-ap hexNumber t Done NotTaken)),
-        eq-so _ long (yes-so _ fits (x .ensures .1 ∙ ap (λ (r : Bool). pick r left m) test)),
+        eq-so _ long (yes-so _ fits (ap (λ (r : Imported). hexNumber (r .answer)) told ∙ pick-ap (λ (r : Imported). hexNumber (r .answer)) t _ _)),
+        eq-so _ long (yes-so _ fits cells),
       ),
     )
 
 returns-2 : tie.Need-returns-2
 returns-2 c =
     let a = c .before .before .before .before .before .before .before .before .args in
-    let long : length (a .memory .now) ≡ ownPart (a .core) .size =
-    c .before .before .before .before .if1 .taken ∙ c .before .before .before .before .before .size-of .ensures .0 in
+    let long : length (a .memory .now) ≡ ownPart (a .core) .size = c .before .before .before .before .if1 .taken ∙ c .before .before .before .before .before .size-of .ensures .0 in
     let no : takes m95512 (a .core) (a .text .now) ≡ false = and-no-left (imaged m95512 (a .core)) _ (sym (c .before .imaged .ensures) ∙ c .if3 .left) in
     (search arms, (search arms, search arms))
 
@@ -88,6 +103,7 @@ import-spec =
     imaged-requires
     running-requires
     take-text-requires
+    imported-requires
     same-length
     returns
     returns-2

@@ -13,7 +13,7 @@ use Rattle.hex.proofs.public.take_text.Tie as tie
 returns : tie.Need-returns
 returns c =
     let no = and-no-left _ (isGood m95512 (c .before .before .before .args .text .now)) (ap not (c .if1 .taken)) in
-    (no-so _ no refl, no-so _ no refl)
+    (sym no, no-so _ no refl)
 
 digit-values-requires : tie.Need-digit-values-requires
 digit-values-requires c κs = search needs
@@ -47,7 +47,7 @@ returns-2 c =
     let good = good-told m95512 (a .text .now) (k .result .at) _ (k .ensures .0 .1) (end .ensures) ∙ c .before .before .before .before .before .if2 .taken in
     let free = c .before .before .before .before .before .before .before .before .before .before .before .if1 .left in
     let yes = and-both (not (a .running)) _ (ap not free) good in
-    (yes-so _ yes refl, yes-so _ yes (c .before .before .store .ensures))
+    (sym yes, yes-so _ yes (c .before .before .store .ensures))
 
 returns-3 : tie.Need-returns-3
 returns-3 c =
@@ -55,7 +55,7 @@ returns-3 c =
     let k = c .before .before .before .check in
     let bad = good-told m95512 (a .text .now) (k .result .at) _ (k .ensures .0 .1) (c .before .is-end .ensures) ∙ c .if2 .left in
     let no = and-no-right (not (a .running)) _ bad in
-    (no-so _ no refl, no-so _ no refl)
+    (sym no, no-so _ no refl)
 
 pub take-text-spec : {M : Type 1} → statement M
 take-text-spec =
