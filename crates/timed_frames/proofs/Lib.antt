@@ -1,0 +1,8 @@
+-- Theorems on frames with readings inside, and the facts that the functions' proofs share.
+pub mod Walks
+pub mod Ran
+pub mod Calm
+pub mod Opened
+pub mod Whole
+pub mod Untimed
+pub mod Ones
