@@ -1,99 +1,178 @@
--- The two models agree, demand 3: a frame's ticks come to what the frame model says of its bytes, and a drawing to its frames' ticks.
-use Prim.Native.Nat.{ℕ, _*_, _-_, _<_, _≤_}
-use mathlib.Core.Bool.{Bool, true, _&&_}
-use mathlib.Core.List.{List, []}
-use mathlib.Core.Path.{_≡_, refl, sym, ap, ap₂, _∙_, subst⁻¹}
-use lib.Dec.{leb}
-use lib.ListN.{take, length, replicate, length-replicate}
+-- The two models agree, demand 3: a frame's plan comes to what the frame model says of its bytes, and a drawing to its frames' plans.
+use Prim.Native.Nat.{ℕ, suc, _+_, _*_, _-_, _/_, _<_, _≤_}
+use mathlib.Core.Bool.{Bool, true, false, _&&_, true≢false}
+use mathlib.Core.List.{List, [], _∷_}
+use mathlib.Core.Path.{_≡_, refl, sym, ap, ap₂, _∙_, subst, subst⁻¹}
+use lib.Dec.{eqb, leb}
+use lib.ListN.{take, drop, length, replicate, length-replicate}
 use borrow.Author.Tests.{eq-eqb, le-leb, eqb-true, leb-true}
 use native.Mathlib.Omega.{arith}
-use Rattle.laws.specs.Pick.{at-yes, and-left, and-right}
+use Rattle.laws.specs.Pick.{at-yes, and-left, and-right, and-both}
 use Rattle.laws.specs.Table.{table}
 use Rattle.codes.specs.Part.{Part, partOf}
 use Rattle.codes.specs.Status.{on}
-use Rattle.chip.specs.Lents.{Lent}
-use Rattle.chip.specs.Records.{running, status, lockByte}
+use Rattle.chip.specs.Records.{running, lockByte}
 use Rattle.codes.specs.Refusals.{isDone}
 use Rattle.chip.specs.Ranges.{inRanges}
-use Rattle.chip.specs.declared.Core.{Core}
+use Rattle.codes.specs.declared.Outcome.{Outcome}
 use Rattle.codes.specs.declared.Outcome.the-variants.{Done}
 use Rattle.chip.proofs.Readings.{lent-both}
-use Rattle.chip.proofs.Within.{Within, within, in-ranges}
+use Rattle.chip.proofs.Within.{within, in-ranges}
 use Rattle.fields.specs.Bytes.{instruction, address}
-use Rattle.shown.specs.Shown.{Sights, sights, byteOut, output}
+use Rattle.shown.specs.Shown.{byteOut, output, undriven}
 use Rattle.shown.proofs.Padding.{few-unused}
 use Rattle.frames.specs.After.{after}
-use Rattle.frames.specs.Answers.{frameOutcome, framed, framedOutput}
-use Rattle.frames.specs.Play.{frame, FrameBench, acted}
+use Rattle.frames.specs.Answers.{frameReply, frameReplyUndriven, framedOutput}
+use Rattle.frames.specs.Play.{frame, FrameBench, frameBench, acted}
 use Rattle.frames.proofs.Kept.{after-within}
+use Rattle.timed_frames.specs.Schedules.{rising, due, passed, benchAt}
+use Rattle.timed_frames.specs.InTime.{loadedAt, ranIn, sightsIn, lastOf, leftBy}
+use Rattle.timed_frames.specs.Acts.{TimedAct, send, reading, actedInTime}
+use Rattle.timed_frames.specs.Answers.{inTimeOutcome, inTimeLeft, framedInTime, outputInTime}
+use Rattle.timed_frames.specs.declared.Mode.{Mode}
+use Rattle.timed_frames.proofs.Walks.{walk-on, bench-none, loaded-late}
+use Rattle.timed_frames.proofs.Calm.{Calm, calm-at}
+use Rattle.timed_frames.proofs.Untimed.{untimed-output}
 use Rattle.pins.specs.declared.Pins.{Pins}
 use Rattle.pins.specs.declared.Device.{Device}
 use Rattle.edges.specs.declared.Level.{Level}
 use Rattle.edges.specs.Frames.{noFrame}
 use Rattle.pins.specs.Devices.{pinsAt, withPins, withHeldAt}
-use Rattle.pins.specs.Answers.{pinBench, lentTo}
+use Rattle.pins.specs.Answers.{pinBench}
 use Rattle.pins.specs.Ranges.{pinsFit, heldFits, emptyFits, ranFits, deviceFits}
 use Rattle.edges.specs.Ranges.{frameFits}
-use Rattle.agree.specs.Drawings.{Sendable, flat, bitsOf}
-use Rattle.agree.specs.Reports.{shared, asOne, watched, outputBits, levelled, outputLevels, framesPlayed, SameSeen, Agreement, LevelAgreement}
+use Rattle.agree.specs.Drawings.{Sendable, flat, bitsOf, Item, readingsAt, plan}
+use Rattle.agree.specs.Reports.{shared, lentOf, Note, asOne, watched, outputBits, levelled, outputLevels, framesPlayed, SameSeen, Agreement, LevelAgreement}
 use Rattle.codes.proofs.Sound.{Sound, sound-of}
 use Rattle.laws.specs.Flags.{bit-on}
-use Rattle.agree.proofs.Ticks.{seenOf, endOf, decides}
-use Rattle.agree.proofs.Steps.{steady, steady-still}
-use Rattle.agree.proofs.Bytes.{onQ, shown-bit, none, seen-bytes, end-bytes}
+use Rattle.agree.proofs.Ticks.{seenOf, endOf, metOf, decides, deselected}
+use Rattle.agree.proofs.Steps.{Course, Still}
+use Rattle.agree.proofs.Bytes.{onQ, shown-bit}
+use Rattle.agree.proofs.Planned.{courseOf, met-plan, seen-plan, end-plan}
+use Rattle.agree.proofs.Scheduled.{bench-next}
 use Rattle.agree.proofs.Seen.{seen-table}
 use Rattle.agree.proofs.Ends.{end-table}
 use Rattle.agree.proofs.Pad.{pad-bits}
-use Rattle.agree.proofs.Levels.{frame-levels}
-use Rattle.agree.proofs.Waves.{lentBench, Fitting, says}
+use Rattle.agree.proofs.Levels.{plan-levels}
+use Rattle.agree.proofs.Waves.{Ready, read-ready, says}
+
+passed-ready : (P : Part) (ts : List ℕ) (b : FrameBench) → Ready P b → Ready P (passed P ts b)
+unfolding passed
+passed-ready P [] b k = k
+passed-ready P (t ∷ ts) b k = passed-ready P ts (actedInTime P (reading t) b) (read-ready P t b k)
+
+-- from the eighth edge on nothing moves where no cycle ran at it
+still-calm : (P : Part) (ps ts : List ℕ) (b : FrameBench) (k : ℕ) → 1 ≤ k → ranIn P ps ts b ≡ false → Calm (benchAt P ps ts b 1) (benchAt P ps ts b k)
+still-calm P ps ts b k h e =
+    subst (Calm (benchAt P ps ts b 1)) (walk-on P ps ts b 1 k h) (calm-at P (drop (due 1 ps) ps) (drop (due 1 ps) ts) (benchAt P ps ts b 1) k e)
 
 module _ (P : Part) (sound : Sound P) where
   -- ---- one frame
 
-  module _ (w : Bool) (c : Core) (m : Lent) (s : List ℕ) (n : ℕ) (kept : Within P c) (size : Fitting P m) (sendable : Sendable P s n) where
+  module _ (w : Bool) (o : Mode) (s : List ℕ) (n : ℕ) (ps ts : List ℕ) (b : FrameBench) (ready : Ready P b) (sendable : Sendable P s n ps ts) where
+    abbrev at : ℕ → FrameBench
+    at k = benchAt P ps ts b k
+
+    abbrev is : List Item
+    is = plan o (readingsAt ps ts) 0 s n
+
+    abbrev T : Course
+    T = courseOf o at
+
     -- it is not refused
-    done : (room : ℕ) → room ≡ length s → frameOutcome P c (length (m .memory)) (length (m .identification)) (length s) n room ≡ Done
+    done : (room : ℕ) → room ≡ length s → inTimeOutcome P (b .core) (lentOf b) s n ps ts room ≡ Done
     done room e =
-        at-yes _ _ (lent-both P _ _ (size .0) (size .1)) ∙ at-yes _ _ (in-ranges P c kept) ∙ at-yes _ _ (le-leb _ _ (sendable .short))
-        ∙ at-yes _ _ (sendable .counted) ∙ at-yes _ _ (eq-eqb _ _ e)
+        at-yes _ _ (lent-both P _ _ (ready .memory) (ready .identification)) ∙ at-yes _ _ (in-ranges P (b .core) (ready .within))
+        ∙ at-yes _ _ (le-leb _ _ (sendable .short))
+        ∙ at-yes _ _ (and-both _ _ (sendable .counted) (sendable .placed)) ∙ at-yes _ _ (eq-eqb _ _ e)
 
-    -- the record that the public call promises is the one that the act leaves
-    pub framed-acted : framed P c (m .memory) (m .identification) w s n (length s) .core ≡ acted P (frame w s n) (lentBench c m) .core
-    unfolding framed
-    framed-acted = at-yes _ _ (ap isDone (done (length s) refl))
+    -- the bench that the public call promises is the one that the act leaves
+    pub sent-acted : inTimeLeft P (b .core) (lentOf b) w s n ps ts (length s) ≡ actedInTime P (send w o s n ps ts) b
+    unfolding inTimeLeft
+    sent-acted = at-yes _ _ (ap isDone (done (length s) refl))
 
-    abbrev v : Sights
-    v = sights (status c) (lockByte c) (m .memory) (m .identification)
+    sent-output : outputInTime P (b .core) (lentOf b) o s n ps ts (replicate (length s) 0) ≡ output P (ranIn P ps ts b) (sightsIn P ps ts b o) s n
+    unfolding outputInTime
+    sent-output = at-yes _ _ (ap isDone (done (length (replicate (length s) 0)) (length-replicate (length s) 0)))
 
-    framed-output : framedOutput P c (m .memory) (m .identification) s n (replicate (length s) 0) ≡ output P (running c) v s n
-    unfolding framedOutput
-    framed-output = at-yes _ _ (ap isDone (done (length (replicate (length s) 0)) (length-replicate (length s) 0)))
+    -- the plan's readings make its benches, the first of them the one at select
+    next : (k : ℕ) → passed P (readingsAt ps ts k) (at k) ≡ at (suc k)
+    next k =
+        let equal = and-left (eqb (length ps) (length ts)) (rising 0 (n / 8) ps) (sendable .placed) in
+        let rises = and-right (eqb (length ps) (length ts)) (rising 0 (n / 8) ps) (sendable .placed) in
+        bench-next (n / 8) P 0 k ps ts b (eqb-true _ _ equal) rises
 
-    frame-seen : seenOf asOne P m c noFrame (bitsOf s n) ≡ bitsOf (framedOutput P c (m .memory) (m .identification) s n (replicate (length s) 0)) n
+    from-start : b ≡ at 0
+    from-start = sym (bench-none P ps ts b)
+
+    loaded-calm : (j : ℕ) → 1 ≤ j → T .runs 0 ≡ false → Calm (at 1) (at (loadedAt o j))
+    loaded-calm j h e = still-calm P ps ts b (loadedAt o j) (omega (arith, loaded-late o j)) e
+
+    still : Still T (lentOf (at 1)) (lockByte (at 1 .core))
+    still =
+        record {
+          cells = λ e j h. let c = loaded-calm j h e in (λ i. record { memory = c .memory i; identification = c .identification i });
+          lock = λ e j h. loaded-calm j h e .lock;
+        }
+
+    frame-seen : seenOf asOne P is noFrame b ≡ outputBits P b w o s n ps ts
     frame-seen =
         let few = few-unused (length s) n (sendable .counted) in
-        seen-bytes P sound m c asOne onQ shown-bit s n 0 noFrame none (sendable .bytes)
-        ∙ ap (λ l. take n (flat l)) (seen-table P sound (steady m c) m (lockByte c) (steady-still m c) s)
-        ∙ sym (ap (λ l. take n (flat l)) framed-output ∙ padding (few .0) (few .1))
+        ap (seenOf asOne P is noFrame) from-start
+        ∙ seen-plan P sound (readingsAt ps ts) at next asOne onQ shown-bit o s n (sendable .bytes)
+        ∙ ap (λ l. take n (flat l)) (seen-table P sound T (lentOf (at 1)) (lockByte (at 1 .core)) still s)
+        ∙ sym (ap (λ l. take n (flat l)) sent-output ∙ padding (few .0) (few .1))
       where
         shown : ℕ → ℕ
-        shown = byteOut P (instruction P s) (running c) v (address P s)
+        shown = byteOut P (instruction P s) (ranIn P ps ts b) (sightsIn P ps ts b o) (address P s)
 
         padding : n ≤ 8 * length s → 8 * length s - n < 8
-            → take n (flat (output P (running c) v s n)) ≡ take n (flat (table (length s) shown))
+            → take n (flat (output P (ranIn P ps ts b) (sightsIn P ps ts b o) s n)) ≡ take n (flat (table (length s) shown))
         padding h k = unfold output table in pad-bits shown (length s) (8 * length s - n) k (length s) 0 n (omega arith) (omega arith)
 
-    frame-levels-seen : seenOf (λ l. l) P m c noFrame (bitsOf s n) ≡ outputLevels P (lentBench c m) s n
-    frame-levels-seen =
+    frame-levels : seenOf (λ l. l) P is noFrame b ≡ outputLevels P b w o s n ps ts
+    unfolding framedInTime
+    frame-levels =
         let few = few-unused (length s) n (sendable .counted) in
-        frame-levels P sound m c s n (sendable .bytes) (few .0)
-        ∙ ap₂ levelled (sym (at-yes _ _ (ap isDone (done (length s) refl)))) frame-seen
+        ap (seenOf (λ l. l) P is noFrame) from-start
+        ∙ plan-levels P sound (readingsAt ps ts) at next o s n (sendable .bytes) (few .0)
+        ∙ ap₂ levelled (sym (ap (λ (q : Outcome). frameReplyUndriven (frameReply q (undriven P (instruction P s) (ranIn P ps ts b) n))) (done (length s) refl)))
+        (sym (ap (seenOf asOne P is noFrame) from-start) ∙ frame-seen)
 
-    frame-core : decides P c w (endOf P m c noFrame (bitsOf s n)) ≡ after P (running c) w c s n
+    -- at deselect, after all readings
+    abbrev last : FrameBench
+    last = lastOf P ps ts b n
+
+    frame-met : metOf P is b ≡ last
+    frame-met =
+        let few = few-unused (length s) n (sendable .counted) in
+        ap (metOf P is) from-start ∙ met-plan P sound (readingsAt ps ts) at next o s n 0 (suc (n / 8)) (few .0) (omega arith)
+
+    frame-core : decides P (last .core) w (endOf P is noFrame b) ≡ after P (ranIn P ps ts b) w (last .core) s n
     frame-core =
         let few = few-unused (length s) n (sendable .counted) in
-        end-bytes P sound m c s n 0 noFrame w none (sendable .bytes) (few .0)
-        ∙ end-table P sound (steady m c) c w s n (few .0) (omega arith)
+        ap (λ x. decides P (last .core) w (endOf P is noFrame x)) from-start
+        ∙ end-plan P sound (readingsAt ps ts) at next (last .core) w o s n (sendable .bytes) (few .0)
+        ∙ end-table P sound T (last .core) w s n (few .0) (omega arith)
+
+    frame-left : deselected P w (endOf P is noFrame b) (metOf P is b) ≡ actedInTime P (send w o s n ps ts) b
+    frame-left =
+        ap (deselected P w (endOf P is noFrame b)) frame-met
+        ∙ ap (λ c. frameBench c (last .memory) (last .identification)) frame-core
+
+    -- a cycle that runs at deselect ran at the eighth edge
+    ran-before : (r : Bool) → ranIn P ps ts b ≡ r → running (last .core) ≡ true → ranIn P ps ts b ≡ true
+    ran-before true e q = e
+    ran-before false e q = absurd (true≢false (sym q ∙ still-calm P ps ts b (suc (n / 8)) (omega arith) e .idle))
+
+    frame-ready : Ready P (actedInTime P (send w o s n ps ts) b)
+    frame-ready =
+        let k = passed-ready P (take (due (suc (n / 8)) ps) ts) b ready in
+        record {
+          within = after-within P sound w (last .core) s n (ranIn P ps ts b) (ran-before (ranIn P ps ts b) refl) (k .within);
+          memory = k .memory;
+          identification = k .identification;
+        }
 
   -- ---- the start: an unselected device inside its ranges
 
@@ -129,10 +208,10 @@ module _ (P : Part) (sound : Sound P) where
     unheld : p .s ≡ 1 → x .held ≡ 0
     unheld e = eqb-true _ _ (sym (at-yes _ _ (ap on e)) ∙ parts .1 .0)
 
-  -- what is noted of each frame is what the ticks see of it: so it is with any list
-  same-seen : {A : Type 0} (look : Level → A) (note : Part → FrameBench → List ℕ → ℕ → List A)
-      → ((w : Bool) (c : Core) (m : Lent) (s : List ℕ) (n : ℕ) → Within P c → Fitting P m → Sendable P s n
-      → seenOf look P m c noFrame (bitsOf s n) ≡ note P (lentBench c m) s n)
+  -- what is noted of each frame is what its plan sees of it: so it is with any list
+  same-seen : {A : Type 0} (look : Level → A) (note : Note A)
+      → ((w : Bool) (o : Mode) (s : List ℕ) (n : ℕ) (ps ts : List ℕ) (b : FrameBench) → Ready P b → Sendable P s n ps ts
+      → seenOf look P (plan o (readingsAt ps ts) 0 s n) noFrame b ≡ note P b w o s n ps ts)
       → SameSeen look note P
   unfolding SameSeen
   same-seen look note noted b ks es u r =
@@ -145,14 +224,24 @@ module _ (P : Part) (sound : Sound P) where
       (withHeldAt (unheld x (u .fits) (u .up) i) x))
       (b .memory) (b .identification))
       (says look note P x
-      (λ w c m s n k e h. (noted w c m s n k e h, (frame-core w c m s n k e h, after-within P sound w c s n (running c) (λ r. r) k)))
-      r (x .frame) (x .core) (lentTo b) (within P (x .core) (parts x (u .fits) .1 .1)) (u .memory, u .identification))
+      (λ w o s n ps ts y k h. (noted w o s n ps ts y k h, (frame-left w o s n ps ts y k h, frame-ready w o s n ps ts y k h)))
+      r (x .frame) (shared b)
+      (record { within = within P (x .core) (parts x (u .fits) .1 .1); memory = u .memory; identification = u .identification }))
 
   pub agrees : Agreement P
   agrees = same-seen asOne outputBits frame-seen
 
   pub levels-agree : LevelAgreement P
-  levels-agree = same-seen (λ l. l) outputLevels frame-levels-seen
+  levels-agree = same-seen (λ l. l) outputLevels frame-levels
+
+-- a frame with no reading inside: the bits are those of the plain call, and so is the bench
+pub plain-bits : (P : Part) (b : FrameBench) (w : Bool) (o : Mode) (s : List ℕ) (n : ℕ)
+    → outputBits P b w o s n [] [] ≡ bitsOf (framedOutput P (b .core) (b .memory) (b .identification) s n (replicate (length s) 0)) n
+plain-bits P b w o s n = ap (λ l. bitsOf l n) (untimed-output P (b .core) (lentOf b) s n o (replicate (length s) 0))
+
+pub plain-acted : (P : Part) (b : FrameBench) (w : Bool) (o : Mode) (s : List ℕ) (n : ℕ) → actedInTime P (send w o s n [] []) b ≡ acted P (frame w s n) b
+unfolding due passed
+plain-acted P b w o s n = refl
 
 -- and so for each part, by its number
 pub agreement : (n : ℕ) → Agreement (partOf n)

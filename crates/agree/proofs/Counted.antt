@@ -4,7 +4,6 @@ use mathlib.Core.Path.{_≡_, refl, ap, ap₂, sym, _∙_}
 use mathlib.Core.Bool.{Bool, true, false}
 use mathlib.Core.List.{List, [], _∷_, _++_}
 use Prim.Native.Nat.{ℕ, zero, suc, _+_, _*_, _-_, _/_, _%_, _^_, _<_, _≤_}
-use native.Mathlib.Nat.{pow-suc, div-div-eq-div-mul}
 use native.Mathlib.Omega.{arith}
 use lib.ListN.{length, getD, take, drop}
 use Rattle.laws.specs.Pick.{pick}
@@ -19,16 +18,12 @@ use Rattle.frames.proofs.Outcomes.{taken}
 use Rattle.frames.proofs.Unused.{fit-bits, unused-framed, unused-output}
 use Rattle.agree.specs.Drawings.{lowBits, flat, bitsOf}
 use Rattle.laws.specs.Flags.{bit-on}
+use Rattle.agree.proofs.Facts.{halves}
 
 -- ---- the high bits of a byte say its high part
 
 same-bit : (m v u : ℕ) → on (bitOf m v) ≡ on (bitOf m u) → bitOf m v ≡ bitOf m u
 same-bit m v u e = bit-on (bitOf m v) (omega arith) ∙ ap bit e ∙ sym (bit-on (bitOf m u) (omega arith))
-
-halves : (v m : ℕ) → v / 2 ^ m ≡ 2 * (v / 2 ^ suc m) + bitOf m v
-halves v m =
-    let half : v / 2 ^ suc m ≡ v / 2 ^ m / 2 = ap (λ (k : ℕ). v / k) (pow-suc 2 m) ∙ sym (div-div-eq-div-mul v (2 ^ m) 2) in
-    rw half (omega arith)
 
 high-same : (j m v u : ℕ) → j ≤ m → v / 2 ^ m ≡ u / 2 ^ m → (x y : List Bool) → take j (lowBits m v ++ x) ≡ take j (lowBits m u ++ y)
     → v / 2 ^ (m - j) ≡ u / 2 ^ (m - j)

@@ -1,10 +1,17 @@
--- No test sees the count of whole bytes stay at its most: by arithmetic.
-use Prim.Native.Nat.{ℕ, suc, _+_, _<_, _≤_, min}
+-- The high part of a number is the one above it and a bit; and no test sees the count of whole bytes stay at its most: by arithmetic.
+use Prim.Native.Nat.{ℕ, suc, _+_, _*_, _/_, _^_, _<_, _≤_, min}
 use mathlib.Core.Bool.{Bool, true, false}
-use mathlib.Core.Path.{_≡_, refl, sym, _∙_}
+use mathlib.Core.Path.{_≡_, refl, sym, ap, _∙_}
 use lib.Dec.{eqb, ltb, leb}
 use borrow.Author.Tests.{leb-true, leb-false, ltb-true, ltb-false, eqb-true, eqb-false}
+use native.Mathlib.Nat.{pow-suc, div-div-eq-div-mul}
 use native.Mathlib.Omega.{arith}
+use Rattle.codes.specs.Status.{bitOf}
+
+pub halves : (v m : ℕ) → v / 2 ^ m ≡ 2 * (v / 2 ^ suc m) + bitOf m v
+halves v m =
+    let half : v / 2 ^ suc m ≡ v / 2 ^ m / 2 = ap (λ (k : ℕ). v / k) (pow-suc 2 m) ∙ sym (div-div-eq-div-mul v (2 ^ m) 2) in
+    rw half (omega arith)
 
 -- ---- two tests are one
 

@@ -7,7 +7,6 @@ use native.Mathlib.Decide.{decLe}
 use native.Mathlib.Omega.{arith}
 use lib.Dec.{leb}
 use lib.ListN.{take, length, getD}
-use lib.Seq.{length-take-le}
 use borrow.Author.Tests.{le-leb, lt-leb}
 use Rattle.laws.specs.Pick.{pick, at-yes, at-no, and-no-left}
 use Rattle.laws.specs.Table.{from, table}
@@ -18,9 +17,7 @@ use Rattle.codes.specs.Output.{outputs}
 use Rattle.codes.specs.declared.Instruction.{Instruction}
 use Rattle.codes.specs.declared.Instruction.the-variants.{Wren, Wrdi, Rdsr, Wrsr, Read, Write, Rdid, Wrid, Silence}
 use Rattle.latch.specs.declared.Latch.{Latch}
-use Rattle.chip.specs.Lents.{Lent}
 use Rattle.chip.specs.Records.{running}
-use Rattle.chip.specs.declared.Core.{Core}
 use Rattle.codes.proofs.Sound.{Sound}
 use Rattle.fields.specs.Bytes.{instruction}
 use Rattle.shown.specs.Shown.{undriven}
@@ -31,12 +28,16 @@ use Rattle.edges.specs.declared.Frame.{Frame}
 use Rattle.edges.specs.declared.Level.{Level}
 use Rattle.edges.specs.declared.Level.the-variants.{Zero, One, Z}
 use Rattle.edges.specs.Frames.{noFrame}
-use Rattle.agree.specs.Drawings.{flat, bitsOf}
+use Rattle.frames.specs.Play.{reading, FrameBench, acted}
+use Rattle.timed_frames.specs.Schedules.{passed}
+use Rattle.timed_frames.specs.declared.Mode.{Mode}
+use Rattle.agree.specs.Drawings.{flat, Item, up, down, tell, plan}
 use Rattle.agree.specs.Reports.{report, seenAs, shared, asOne, isCounted, isEnd, watched, levelled}
 use Rattle.agree.proofs.Facts.{leb-min}
-use Rattle.agree.proofs.Ticks.{tick, shows, seenOf}
-use Rattle.agree.proofs.Steps.{midByte, Course, steady, afterBytes, drives, drives-bytes, bytesSeen, step-first, step-more}
-use Rattle.agree.proofs.Bytes.{all-ones, none, seen-bytes}
+use Rattle.agree.proofs.Ticks.{risenIn, fallenIn, shows, seenOf}
+use Rattle.agree.proofs.Steps.{midByte, Course, afterBytes, drives, drives-bytes, bytesSeen, step-first, step-more}
+use Rattle.agree.proofs.Bytes.{all-ones}
+use Rattle.agree.proofs.Planned.{courseOf, seen-plan}
 
 -- ---- driven or not
 
@@ -168,11 +169,6 @@ rest : List Bool → List Bool
 rest [] = []
 rest (b ∷ bs) = bs
 
-flat-length : (s : List ℕ) → length (flat s) ≡ 8 * length s
-unfolding flat
-flat-length [] = refl
-flat-length (v ∷ vs) = omega (arith, flat-length vs)
-
 module _ (P : Part) (sound : Sound P) (T : Course) where
   -- no test sees the count of whole bytes stay at its most
   drives-count : (i : Instruction) (j : ℕ) → drives P sound T i j ≡ outputs P i j (T .runs 0)
@@ -214,26 +210,28 @@ module _ (P : Part) (sound : Sound P) (T : Course) where
       (ap (λ f. bytesSeen P sound T over 1 f vs) (step-first P sound T (decode P v) v refl)
       ∙ driven-more (decode P v) vs v 1 _ _ _ _ _ refl (omega arith))
 
-module _ (P : Part) (sound : Sound P) (m : Lent) (c : Core) where
-  -- the marks of the ticks, and their bits, are their levels
-  levels-are : (u : ℕ) (f : Frame) (bs : List Bool) → seenOf isDriven P m c f bs ≡ marks u (length bs)
-      → seenOf (λ l. l) P m c f bs ≡ levelled u (seenOf asOne P m c f bs)
-  unfolding seenOf pick first rest
-  levels-are u f [] e = refl
-  levels-are zero f (b ∷ bs) e =
-      ap₂ (λ x l. x ∷ l) (level-of (shows f) true (ap first e)) (levels-are zero (tick P m c b f) bs (ap rest e))
-  levels-are (suc u) f (b ∷ bs) e =
-      ap₂ (λ x l. x ∷ l) (level-of (shows f) false (ap first e)) (levels-are u (tick P m c b f) bs (ap rest e))
+-- the marks of what is seen, and its bits, are its levels
+levels-are : (P : Part) (u k : ℕ) (is : List Item) (f : Frame) (b : FrameBench) → seenOf isDriven P is f b ≡ marks u k
+    → seenOf (λ l. l) P is f b ≡ levelled u (seenOf asOne P is f b)
+unfolding seenOf pick first rest
+levels-are P u k [] f b e = refl
+levels-are P u zero (up d ∷ is) f b e = absurd (omega (arith, ap length e))
+levels-are P zero (suc k) (up d ∷ is) f b e =
+    ap₂ (λ x l. x ∷ l) (level-of (shows f) true (ap first e)) (levels-are P zero k is (risenIn P b d f) b (ap rest e))
+levels-are P (suc u) (suc k) (up d ∷ is) f b e =
+    ap₂ (λ x l. x ∷ l) (level-of (shows f) false (ap first e)) (levels-are P u k is (risenIn P b d f) b (ap rest e))
+levels-are P u k (down ∷ is) f b e = levels-are P u k is (fallenIn P b f) b e
+levels-are P u k (tell t ∷ is) f b e = levels-are P u k is f (acted P (reading t) b) e
 
-  pub frame-levels : (s : List ℕ) (n : ℕ) → ((i : ℕ) → getD s i 0 < 256) → n ≤ 8 * length s
-      → seenOf (λ l. l) P m c noFrame (bitsOf s n) ≡ levelled (undriven P (instruction P s) (running c) n) (seenOf asOne P m c noFrame (bitsOf s n))
-  frame-levels s n small h =
-      let all : n ≤ length (flat s) = omega (arith, flat-length s) in
-      levels-are (undriven P (instruction P s) (running c) n) noFrame (bitsOf s n)
-      (seen-bytes P sound m c isDriven over driven-bit s n 0 noFrame none small
-      ∙ ap (λ l. take n (flat l)) (driven-table P sound (steady m c) s)
-      ∙ undriven-marks (length s) n h P (instruction P s) (running c)
-      ∙ ap (marks (undriven P (instruction P s) (running c) n)) (sym (length-take-le n (flat s) all)))
+module _ (P : Part) (sound : Sound P) (times : ℕ → List ℕ) (at : ℕ → FrameBench) (next : (k : ℕ) → passed P (times k) (at k) ≡ at (suc k)) where
+  pub plan-levels : (o : Mode) (s : List ℕ) (n : ℕ) → ((i : ℕ) → getD s i 0 < 256) → n ≤ 8 * length s
+      → let is = plan o times 0 s n in
+      seenOf (λ l. l) P is noFrame (at 0) ≡ levelled (undriven P (instruction P s) (running (at 1 .core)) n) (seenOf asOne P is noFrame (at 0))
+  plan-levels o s n small h =
+      levels-are P (undriven P (instruction P s) (running (at 1 .core)) n) n (plan o times 0 s n) noFrame (at 0)
+      (seen-plan P sound times at next isDriven over driven-bit o s n small
+      ∙ ap (λ l. take n (flat l)) (driven-table P sound (courseOf o at) s)
+      ∙ undriven-marks (length s) n h P (instruction P s) (running (at 1 .core)))
 
 -- ---- demand 3's bits are these levels, with Z as 1
 

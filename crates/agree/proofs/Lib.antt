@@ -1,9 +1,11 @@
--- Demand 3's proof, that it is not empty, and the starred cases.
+-- Demand 3's proof, and that its drawings exist.
 pub mod Facts
 pub mod Ticks
 pub mod Waves
 pub mod Steps
 pub mod Bytes
+pub mod Planned
+pub mod Scheduled
 pub mod Seen
 pub mod Pages
 pub mod Ends
@@ -12,6 +14,3 @@ pub mod Levels
 pub mod Agree
 pub mod Counted
 pub mod Drawn
-pub mod Fresh
-pub mod Shown
-pub mod Starred

@@ -13,7 +13,7 @@ use Rattle.codes.specs.Status.{bit, on}
 use Rattle.latch.specs.Latches.{noLatch, latched, nextInPage}
 use Rattle.latch.specs.Identification.{identificationByte, identificationNext}
 use Rattle.chip.specs.Lents.{Lent}
-use Rattle.chip.specs.Records.{running, status, lockByte}
+use Rattle.chip.specs.Records.{status, lockByte}
 use Rattle.codes.specs.Instructions.{decode, picksLock}
 use Rattle.chip.specs.declared.Core.{Core}
 use Rattle.latch.specs.declared.Latch.{Latch}
@@ -102,17 +102,10 @@ pub record Course : Type 0 where
   pub core : ℕ → Core
   pub lent : ℕ → Lent
 
--- one record and the same cells throughout
-abbrev pub steady : Lent → Core → Course
-steady m c = record { runs = λ j. running c; core = λ j. c; lent = λ j. m }
-
 -- where no cycle ran at the eighth edge, the cells and the lock are the same for every data byte: none can end
 pub record Still (T : Course) (m : Lent) (k : ℕ) : Type 0 where
   pub cells : T .runs 0 ≡ false → (j : ℕ) → 1 ≤ j → T .lent j ≡ m
   pub lock : T .runs 0 ≡ false → (j : ℕ) → 1 ≤ j → lockByte (T .core j) ≡ k
-
-pub steady-still : (m : Lent) (c : Core) → Still (steady m c) m (lockByte c)
-steady-still m c = record { cells = λ e j h. refl; lock = λ e j h. refl }
 
 module _ (P : Part) (sound : Sound P) (T : Course) where
   -- the byte v, j whole bytes before it, from its start in data output (b) or outside it

@@ -1,5 +1,3 @@
--- Demand 3, stated: drawings of a list of frames, what a bench sees of each model, and that it sees the same; and the
--- starred cases.
+-- Demand 3, stated: drawings of a list of frames, what a bench sees of each model, and that it sees the same.
 pub mod Drawings
 pub mod Reports
-pub mod Starred

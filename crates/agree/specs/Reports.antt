@@ -7,8 +7,12 @@ use lib.ListN.{length, replicate}
 use Rattle.laws.specs.Pick.{pick}
 use Rattle.codes.specs.Part.{Part}
 use Rattle.codes.specs.Status.{on}
-use Rattle.frames.specs.Answers.{framedOutput, frameUndriven}
-use Rattle.frames.specs.Play.{Act, frame, reading, FrameBench, frameBench, acted}
+use Rattle.chip.specs.Lents.{Lent, lent}
+use Rattle.frames.specs.Answers.{frameReplyUndriven}
+use Rattle.frames.specs.Play.{FrameBench, frameBench}
+use Rattle.timed_frames.specs.Acts.{TimedAct, send, reading, actedInTime}
+use Rattle.timed_frames.specs.Answers.{framedInTime, outputInTime}
+use Rattle.timed_frames.specs.declared.Mode.{Mode}
 use Rattle.pins.specs.declared.Device.{Device}
 use Rattle.pins.specs.declared.Event.{Event}
 use Rattle.pins.specs.declared.Event.the-variants.{S, C, D, W, Hold, Time}
@@ -73,10 +77,18 @@ watched look P (e ∷ es) seen b =
 
 -- ---- the frame model, acted over a list
 
+-- what is lent to a bench of the frame model
+abbrev pub lentOf : FrameBench → Lent
+lentOf b = lent (b .memory) (b .identification)
+
+-- what is noted of a frame: of the level of W, the mode, the bytes, the bit count, the positions and the readings inside
+abbrev pub Note : Type 0 → Type 0
+Note A = Part → FrameBench → Bool → Mode → List ℕ → ℕ → List ℕ → List ℕ → List A
+
 -- the bits of a frame are those of the public call's output
-abbrev pub outputBits : Part → FrameBench → List ℕ → ℕ → List Bool
-outputBits P b s n =
-    bitsOf (framedOutput P (b .core) (b .memory) (b .identification) s n (replicate (length s) 0)) n
+abbrev pub outputBits : Note Bool
+outputBits P b w o s n ps ts =
+    bitsOf (outputInTime P (b .core) (lentOf b) o s n ps ts (replicate (length s) 0)) n
 
 -- Z at the first u clocks, then the bits
 abbrev pub levelled : ℕ → List Bool → List Level
@@ -85,20 +97,18 @@ levelled zero (b ∷ bs) = pick b One Zero ∷ levelled zero bs
 levelled (suc u) (b ∷ bs) = Z ∷ levelled u bs
 
 -- its levels: as many are undriven as the public call answers
-abbrev pub outputLevels : Part → FrameBench → List ℕ → ℕ → List Level
-outputLevels P b s n =
-    levelled (frameUndriven P (b .core) (length (b .memory)) (length (b .identification)) s n (length s))
-    (outputBits P b s n)
+abbrev pub outputLevels : Note Level
+outputLevels P b w o s n ps ts =
+    levelled (frameReplyUndriven (framedInTime P (b .core) (lentOf b) w s n ps ts (length s) .answer))
+    (outputBits P b w o s n ps ts)
 
--- note: what is noted of a frame. The bench that it leaves is that of the public call too, which does not refuse it:
--- `framed-acted`
-unfoldable pub framesPlayed : {A : Type 0} → (Part → FrameBench → List ℕ → ℕ → List A)
-    → Part → List Act → FrameBench → List (Report A)
+-- the bench that a frame leaves is that of the public call too, which does not refuse it: `sent-acted`
+unfoldable pub framesPlayed : {A : Type 0} → Note A → Part → List TimedAct → FrameBench → List (Report A)
 framesPlayed note P [] b = []
-framesPlayed note P (frame w s n ∷ ks) b =
-    let y = acted P (frame w s n) b in
-    report (note P b s n) y ∷ framesPlayed note P ks y
-framesPlayed note P (reading t ∷ ks) b = framesPlayed note P ks (acted P (reading t) b)
+framesPlayed note P (send w o s n ps ts ∷ ks) b =
+    let y = actedInTime P (send w o s n ps ts) b in
+    report (note P b w o s n ps ts) y ∷ framesPlayed note P ks y
+framesPlayed note P (reading t ∷ ks) b = framesPlayed note P ks (actedInTime P (reading t) b)
 
 -- ---- demand 3
 
@@ -112,9 +122,9 @@ pub record Unselected (P : Part) (b : PinBench) : Type 0 where
 
 -- from one unselected device, memory and identification page, whatever drawing es of the acts ks: the bench sees the
 -- same of both models
-unfoldable pub SameSeen : {A : Type 0} → (Level → A) → (Part → FrameBench → List ℕ → ℕ → List A) → Part → Type 0
+unfoldable pub SameSeen : {A : Type 0} → (Level → A) → Note A → Part → Type 0
 SameSeen look note P =
-    (b : PinBench) (ks : List Act) (es : List Event) → Unselected P b
+    (b : PinBench) (ks : List TimedAct) (es : List Event) → Unselected P b
     → Wave P (between (on (b .device .pins .c))) (on (b .device .pins .d)) (on (b .device .pins .w)) [] ks es
     → watched look P es [] b ≡ framesPlayed note P ks (shared b)
 

@@ -1,5 +1,5 @@
 -- What a frame with readings inside meets, and what it leaves.
-use Prim.Native.Nat.{ℕ, suc, _+_, _/_}
+use Prim.Native.Nat.{ℕ, suc, _/_}
 use mathlib.Core.Bool.{Bool, true, false}
 use mathlib.Core.List.{List}
 use Rattle.codes.specs.Part.{Part}
@@ -18,7 +18,7 @@ use Rattle.timed_frames.specs.declared.Mode.the-variants.{Zero, Three}
 -- and before it in mode 3
 abbrev pub loadedAt : Mode → ℕ → ℕ
 loadedAt Zero j = j
-loadedAt Three j = j + 1
+loadedAt Three j = suc j
 
 module _ (P : Part) (ps ts : List ℕ) (b : FrameBench) where
   -- "no cycle" is judged at the eighth edge: after the readings at 0 and before those at 1

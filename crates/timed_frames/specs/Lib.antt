@@ -2,4 +2,5 @@
 pub mod Schedules
 pub mod InTime
 pub mod Walked
+pub mod Acts
 pub mod Answers

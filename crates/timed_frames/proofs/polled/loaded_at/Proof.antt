@@ -1,4 +1,6 @@
-use mathlib.Core.Path.{ap, sym}
+use Prim.Native.Nat.{suc, _+_}
+use mathlib.Core.Path.{_≡_, ap, sym, _∙_}
+use native.Mathlib.Omega.{arith}
 use Rattle.timed_frames.specs.InTime.{loadedAt}
 use Rattle.timed_frames.specs.declared.Mode.{Mode}
 use borrow.Author.Needs.{needs}
@@ -18,7 +20,10 @@ returns : tie.Need-returns
 returns c = search needs
 
 returns-2 : tie.Need-returns-2
-returns-2 c = ap (λ (o : Mode). loadedAt o (c .before .before .args .j)) (sym (c .enum-told2 .given .1))
+returns-2 c =
+    let j = c .before .before .args .j in
+    let next : j + 1 ≡ suc j = omega arith in
+    next ∙ ap (λ (o : Mode). loadedAt o j) (sym (c .enum-told2 .given .1))
 
 pub loaded-at-spec : {M : Type 1} → statement M
 loaded-at-spec = tie.close (tie.spec enum-told enum-told-2 add-result returns returns-2)

@@ -28,7 +28,7 @@ use Rattle.frames.specs.Answers.{frameOutcome, frameReply, framed, framedOutput
 use Rattle.split.proofs.Cases.{case-g-parts, case-g-addresses, case-g-lengths}
 use Rattle.driver_theorems.proofs.Cases.{case-h}
 use Rattle.chip.proofs.Cases.{case-i, delivered-blanks}
-use Rattle.agree.specs.Starred.{bytesF, powered, Starred}
+use Rattle.starred.specs.Starred.{bytesF, powered, Starred}
 
 -- READ at FFFFh is not refused
 read-taken : (size cells room : ℕ) → size ≡ m95512 .size → cells ≡ m95512 .page → room ≡ 5 → frameOutcome m95512 (delivered 0) size cells 5 40 room ≡ Done

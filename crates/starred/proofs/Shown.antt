@@ -1,5 +1,5 @@
 -- The statement is about models that do something: a list whose reports have driven bits at 0, a changed status, a changed cell and a changed number of
--- blank cells, by computing.
+-- blank cells, and an RDSR that sees its cycle end, by computing.
 use Prim.Native.Nat.{ℕ}
 use mathlib.Core.Bool.{Bool, true, false}
 use mathlib.Core.List.{List, [], _∷_, _++_}
@@ -22,55 +22,65 @@ use Rattle.chip.specs.declared.Core.{Core}
 use Rattle.chip.specs.Power.{delivered, deliveredMemory, deliveredIdentification}
 use Rattle.fields.specs.Bytes.{latchedFrom}
 use Rattle.shown.specs.Shown.{output}
-use Rattle.frames.specs.Answers.{framedOutput}
-use Rattle.frames.specs.Play.{Act, frame, reading, FrameBench, frameBench, acted, actedAll}
+use Rattle.frames.specs.Play.{FrameBench, frameBench}
+use Rattle.timed_frames.specs.Schedules.{rising, due, passed}
+use Rattle.timed_frames.specs.Acts.{TimedAct, send, reading, actedInTime, actedAllInTime}
+use Rattle.timed_frames.specs.Answers.{outputInTime}
+use Rattle.timed_frames.specs.declared.Mode.{Mode}
+use Rattle.timed_frames.specs.declared.Mode.the-variants as mode
 use Rattle.pins.specs.declared.Event.{Event}
 use Rattle.pins.specs.Devices.{resting}
 use Rattle.pins.specs.Ranges.{deviceFits}
 use Rattle.pins.specs.Answers.{PinBench, pinBench}
 use Rattle.agree.specs.Drawings.{flat, Wave, between}
 use Rattle.agree.specs.Reports.{Report, report, asOne, watched, outputBits, framesPlayed, Unselected, SameSeen}
 use Rattle.agree.proofs.Agree.{agreement}
-use Rattle.agree.proofs.Fresh.{fresh-blank}
+use Rattle.starred.proofs.Fresh.{fresh-blank}
 
 -- ---- a reading that ends a page cycle in the midst of a list: to compute the number of blank cells that it leaves its page is enough
 
 -- the reports of the acts before it, and then others
-led : Part → List Act → FrameBench → List (Report Bool) → List (Report Bool)
+led : Part → List TimedAct → FrameBench → List (Report Bool) → List (Report Bool)
 led P [] b rs = rs
-led P (frame w s n ∷ ks) b rs = report (outputBits P b s n) (acted P (frame w s n) b) ∷ led P ks (acted P (frame w s n) b) rs
-led P (reading t ∷ ks) b rs = led P ks (acted P (reading t) b) rs
+led P (send w o s n ps ts ∷ ks) b rs =
+    let y = actedInTime P (send w o s n ps ts) b in
+    report (outputBits P b w o s n ps ts) y ∷ led P ks y rs
+led P (reading t ∷ ks) b rs = led P ks (actedInTime P (reading t) b) rs
 
-played-led : (P : Part) (ks js : List Act) (b : FrameBench)
-    → framesPlayed outputBits P (ks ++ js) b ≡ led P ks b (framesPlayed outputBits P js (actedAll P ks b))
+played-led : (P : Part) (ks js : List TimedAct) (b : FrameBench)
+    → framesPlayed outputBits P (ks ++ js) b ≡ led P ks b (framesPlayed outputBits P js (actedAllInTime P ks b))
 unfolding framesPlayed led
 played-led P [] js b = refl
-played-led P (frame w s n ∷ ks) js b =
-    let y = acted P (frame w s n) b in
-    ap (λ (rs : List (Report Bool)). report (outputBits P b s n) y ∷ rs) (played-led P ks js y)
-played-led P (reading t ∷ ks) js b = played-led P ks js (acted P (reading t) b)
+played-led P (send w o s n ps ts ∷ ks) js b =
+    let y = actedInTime P (send w o s n ps ts) b in
+    ap (λ (rs : List (Report Bool)). report (outputBits P b w o s n ps ts) y ∷ rs) (played-led P ks js y)
+played-led P (reading t ∷ ks) js b = played-led P ks js (actedInTime P (reading t) b)
 
 -- the bench after it, if it leaves n blank cells
 abbrev readWith : Part → ℕ → ℕ → FrameBench → FrameBench
 readWith P n t b =
     frameBench (withBlank n (timed t (b .core))) (timedMemory P t (b .core) (b .memory)) (timedIdentification P t (b .core) (b .identification))
 
-by-number : (P : Part) (n t : ℕ) (ks js : List Act) (b : FrameBench) → timedBlank P t (actedAll P ks b .core) (actedAll P ks b .memory) ≡ n
-    → framesPlayed outputBits P (ks ++ (reading t ∷ js)) b ≡ led P ks b (framesPlayed outputBits P js (readWith P n t (actedAll P ks b)))
+by-number : (P : Part) (n t : ℕ) (ks js : List TimedAct) (b : FrameBench) → timedBlank P t (actedAllInTime P ks b .core) (actedAllInTime P ks b .memory) ≡ n
+    → framesPlayed outputBits P (ks ++ (reading t ∷ js)) b ≡ led P ks b (framesPlayed outputBits P js (readWith P n t (actedAllInTime P ks b)))
 unfolding framesPlayed
 by-number P n t ks js b e =
-    played-led P ks (reading t ∷ js) b ∙ ap (λ (k : ℕ). led P ks b (framesPlayed outputBits P js (readWith P k t (actedAll P ks b)))) e
+    played-led P ks (reading t ∷ js) b ∙ ap (λ (k : ℕ). led P ks b (framesPlayed outputBits P js (readWith P k t (actedAllInTime P ks b)))) e
 
 -- ---- a write, on a device as delivered
 
+-- a frame with W high and no reading inside, in mode 0
+abbrev pub plainly : List ℕ → ℕ → TimedAct
+plainly s n = send true mode.Zero s n [] []
+
 -- with W high: WREN; WRITE of 00h at 0000h; RDSR; the clock reads 5,000; RDSR; READ at 0000h
-abbrev acts-before : List Act
-acts-before = frame true (0x06 ∷ []) 8 ∷ frame true (0x02 ∷ 0x00 ∷ 0x00 ∷ 0x00 ∷ []) 32 ∷ frame true (0x05 ∷ 0x00 ∷ []) 16 ∷ []
+abbrev acts-before : List TimedAct
+acts-before = plainly (0x06 ∷ []) 8 ∷ plainly (0x02 ∷ 0x00 ∷ 0x00 ∷ 0x00 ∷ []) 32 ∷ plainly (0x05 ∷ 0x00 ∷ []) 16 ∷ []
 
-abbrev acts-after : List Act
-acts-after = frame true (0x05 ∷ 0x00 ∷ []) 16 ∷ frame true (0x03 ∷ 0x00 ∷ 0x00 ∷ 0x00 ∷ []) 32 ∷ []
+abbrev acts-after : List TimedAct
+acts-after = plainly (0x05 ∷ 0x00 ∷ []) 16 ∷ plainly (0x03 ∷ 0x00 ∷ 0x00 ∷ 0x00 ∷ []) 32 ∷ []
 
-abbrev pub acts : List Act
+abbrev pub acts : List TimedAct
 acts = acts-before ++ (reading 5000 ∷ acts-after)
 
 abbrev start : FrameBench
@@ -101,23 +111,27 @@ ones = true ∷ true ∷ true ∷ true ∷ true ∷ true ∷ true ∷ true ∷ [
 abbrev pub none : List Bool
 none = false ∷ false ∷ false ∷ false ∷ false ∷ false ∷ false ∷ false ∷ []
 
+-- 03h
+abbrev pub three : List Bool
+three = false ∷ false ∷ false ∷ false ∷ false ∷ false ∷ true ∷ true ∷ []
+
 -- what a bench sees: the status 03h and then 00h on Q, and the cell's 00h; a write enable latch and a cycle that come and go; a cell from FFh to 00h, and
 -- one blank cell less
 pub record Seen (rs : List (Report Bool)) : Type 0 where
   pub bits :
       bitsSeen rs
-      ≡ ones ∷ (ones ++ ones ++ ones ++ ones) ∷ (ones ++ (false ∷ false ∷ false ∷ false ∷ false ∷ false ∷ true ∷ true ∷ [])) ∷ (ones ++ none)
+      ≡ ones ∷ (ones ++ ones ++ ones ++ ones) ∷ (ones ++ three) ∷ (ones ++ none)
       ∷ (ones ++ ones ++ ones ++ none) ∷ []
   pub registers : statuses rs ≡ 2 ∷ 3 ∷ 3 ∷ 0 ∷ 0 ∷ []
   pub cell : firstCells rs ≡ 0xff ∷ 0xff ∷ 0xff ∷ 0x00 ∷ 0x00 ∷ []
   pub number : numbers rs ≡ 65536 ∷ 65536 ∷ 65536 ∷ 65535 ∷ 65535 ∷ []
 
-one-less : let b = actedAll m95512 acts-before start in timedBlank m95512 5000 (b .core) (b .memory) ≡ 65535
-unfolding partOf each pick verdictBy decode latchedFrom zeros bitOn count
-one-less = fresh-blank m95512 65535 (m95512 .size) 5000 (actedAll m95512 acts-before start .core) refl refl (lit≤ tt) refl
+one-less : let b = actedAllInTime m95512 acts-before start in timedBlank m95512 5000 (b .core) (b .memory) ≡ 65535
+unfolding partOf due passed each pick verdictBy decode latchedFrom zeros bitOn count
+one-less = fresh-blank m95512 65535 (m95512 .size) 5000 (actedAllInTime m95512 acts-before start .core) refl refl (lit≤ tt) refl
 
 pub frames-seen : Seen run
-unfolding run led framesPlayed framedOutput partOf inRanges each pick verdictBy decode latchedFrom zeros bitOn timed timedCells stored table from output flat
+unfolding run led framesPlayed outputInTime rising due passed partOf inRanges each pick verdictBy decode latchedFrom zeros bitOn timed timedCells stored table from output flat
 frames-seen =
     subst Seen (sym (by-number m95512 65535 5000 acts-before acts-after start one-less))
     (record { bits = refl; registers = refl; cell = refl; number = refl })
@@ -142,6 +156,52 @@ pub pins-seen : (es : List Event) → Wave m95512 (between false) false true [] 
 unfolding partOf pick SameSeen run
 pins-seen es r = subst Seen (sym (agreement 0 deliveredBench acts es unselected r)) frames-seen
 
+-- ---- time inside a frame: an RDSR that sees its cycle end
+
+-- WREN; WRITE of 00h at 0000h
+abbrev writing : Mode → List TimedAct
+writing o = send true o (0x06 ∷ []) 8 [] [] ∷ send true o (0x02 ∷ 0x00 ∷ 0x00 ∷ 0x00 ∷ []) 32 [] [] ∷ []
+
+-- .. then RDSR of three status bytes, the clock reading 1,000 at position 1 and 5,000 at position 2
+abbrev pub pollingActs : Mode → List TimedAct
+pollingActs o = writing o ++ (send true o (0x05 ∷ 0x00 ∷ 0x00 ∷ 0x00 ∷ []) 32 (1 ∷ 2 ∷ []) (1000 ∷ 5000 ∷ []) ∷ [])
+
+pub pollingRun : Mode → List (Report Bool)
+pollingRun o = framesPlayed outputBits m95512 (pollingActs o) start
+
+-- the status bytes: the second is sampled before the reading at its boundary in mode 0, after it in mode 3
+abbrev pub polled : Mode → List Bool
+polled mode.Zero = three ++ three ++ none
+polled mode.Three = three ++ none ++ none
+
+pub record PollSeen (o : Mode) (rs : List (Report Bool)) : Type 0 where
+  pub bits : bitsSeen rs ≡ ones ∷ (ones ++ ones ++ ones ++ ones) ∷ (ones ++ polled o) ∷ []
+  pub registers : statuses rs ≡ 2 ∷ 3 ∷ 0 ∷ []
+  pub cell : firstCells rs ≡ 0xff ∷ 0xff ∷ 0x00 ∷ []
+
+pub poll-frames-seen : (o : Mode) → PollSeen o (pollingRun o)
+unfolding pollingRun framesPlayed outputInTime rising due passed partOf inRanges each pick verdictBy decode latchedFrom zeros bitOn timed timedCells stored table from output flat
+poll-frames-seen mode.Zero = record { bits = refl; registers = refl; cell = refl }
+poll-frames-seen mode.Three = record { bits = refl; registers = refl; cell = refl }
+
+-- and so the pin model, from the same device, whatever drawing
+
+pub poll-pins-seen : (o : Mode) (es : List Event) → Wave m95512 (between false) false true [] (pollingActs o) es
+    → PollSeen o (watched asOne m95512 es [] deliveredBench)
+unfolding partOf pick SameSeen pollingRun
+poll-pins-seen o es r = subst (PollSeen o) (sym (agreement 0 deliveredBench (pollingActs o) es unselected r)) (poll-frames-seen o)
+
+-- .. then READ of that cell with one reading, which ends the cycle, at position p: a reading at 0 comes before the eighth edge, one at 1 after it
+abbrev pub readingActs : Mode → ℕ → List TimedAct
+readingActs o p = writing o ++ (send true o (0x03 ∷ 0x00 ∷ 0x00 ∷ 0x00 ∷ []) 32 (p ∷ []) (5000 ∷ []) ∷ [])
+
+pub read-late : (o : Mode)
+    → (bitsSeen (framesPlayed outputBits m95512 (readingActs o 0) start) ≡ ones ∷ (ones ++ ones ++ ones ++ ones) ∷ (ones ++ ones ++ ones ++ none) ∷ [])
+    × (bitsSeen (framesPlayed outputBits m95512 (readingActs o 1) start) ≡ ones ∷ (ones ++ ones ++ ones ++ ones) ∷ (ones ++ ones ++ ones ++ ones) ∷ [])
+unfolding framesPlayed outputInTime rising due passed partOf inRanges each pick verdictBy decode latchedFrom zeros bitOn timed timedCells stored table from output flat
+read-late mode.Zero = (refl, refl)
+read-late mode.Three = (refl, refl)
+
 -- ---- the identification page of an M95512-D, and its lock
 
 -- as delivered
@@ -150,12 +210,12 @@ deliveredD = idle 1 false false false false (m95512d .longest) 0 (m95512d .size)
 
 -- WREN; 82h of 11h and 22h at cell 7Fh; the clock reads 5,000; 83h at 7Fh, two bytes; WREN; 82h for the lock; the clock reads 10,000; 83h for the lock;
 -- WREN; 82h of 33h at cell 7Fh; 83h at 7Fh
-abbrev pub identificationActs : List Act
+abbrev pub identificationActs : List TimedAct
 identificationActs =
-    frame true (0x06 ∷ []) 8 ∷ frame true (0x82 ∷ 0x00 ∷ 0x7f ∷ 0x11 ∷ 0x22 ∷ []) 40 ∷ reading 5000
-    ∷ frame true (0x83 ∷ 0x00 ∷ 0x7f ∷ 0x00 ∷ 0x00 ∷ []) 40 ∷ frame true (0x06 ∷ []) 8 ∷ frame true (0x82 ∷ 0x04 ∷ 0x00 ∷ 0x02 ∷ []) 32 ∷ reading 10000
-    ∷ frame true (0x83 ∷ 0x04 ∷ 0x00 ∷ 0x00 ∷ []) 32 ∷ frame true (0x06 ∷ []) 8 ∷ frame true (0x82 ∷ 0x00 ∷ 0x7f ∷ 0x33 ∷ []) 32
-    ∷ frame true (0x83 ∷ 0x00 ∷ 0x7f ∷ 0x00 ∷ []) 32 ∷ []
+    plainly (0x06 ∷ []) 8 ∷ plainly (0x82 ∷ 0x00 ∷ 0x7f ∷ 0x11 ∷ 0x22 ∷ []) 40 ∷ reading 5000
+    ∷ plainly (0x83 ∷ 0x00 ∷ 0x7f ∷ 0x00 ∷ 0x00 ∷ []) 40 ∷ plainly (0x06 ∷ []) 8 ∷ plainly (0x82 ∷ 0x04 ∷ 0x00 ∷ 0x02 ∷ []) 32 ∷ reading 10000
+    ∷ plainly (0x83 ∷ 0x04 ∷ 0x00 ∷ 0x00 ∷ []) 32 ∷ plainly (0x06 ∷ []) 8 ∷ plainly (0x82 ∷ 0x00 ∷ 0x7f ∷ 0x33 ∷ []) 32
+    ∷ plainly (0x83 ∷ 0x00 ∷ 0x7f ∷ 0x00 ∷ []) 32 ∷ []
 
 pub identificationRun : List (Report Bool)
 identificationRun = framesPlayed outputBits m95512d identificationActs (frameBench deliveredD (deliveredMemory m95512d) (deliveredIdentification m95512d))
@@ -192,7 +252,7 @@ pub record PageSeen (rs : List (Report Bool)) : Type 0 where
   pub number : numbers rs ≡ 65536 ∷ 65536 ∷ 65536 ∷ 65536 ∷ 65536 ∷ 65536 ∷ 65536 ∷ 65536 ∷ 65536 ∷ []
 
 pub page-frames-seen : PageSeen identificationRun
-unfolding identificationRun framesPlayed framedOutput inRanges each pick verdictBy decode latchedFrom zeros bitOn timed timedCells timedBlank stored table from output flat
+unfolding identificationRun framesPlayed outputInTime rising due passed inRanges each pick verdictBy decode latchedFrom zeros bitOn timed timedCells timedBlank stored table from output flat
 page-frames-seen = record { bits = refl; registers = refl; last = refl; first = refl; locked = refl; number = refl }
 
 -- and so the pin model, from the same device
@@ -222,14 +282,14 @@ abbrev pub deliveredM : Core
 deliveredM = idle 2 false false false false (m95m01 .longest) 0 (m95m01 .size)
 
 -- WREN; WRITE of 11h and 22h at 100FFh, the last cell of its page; WRDI in the cycle; RDSR; the clock reads 4,000; READ at 100FFh, with bits above A16
-abbrev megabit-before : List Act
+abbrev megabit-before : List TimedAct
 megabit-before =
-    frame true (0x06 ∷ []) 8 ∷ frame true (0x02 ∷ 0x01 ∷ 0x00 ∷ 0xff ∷ 0x11 ∷ 0x22 ∷ []) 48 ∷ frame true (0x04 ∷ []) 8 ∷ frame true (0x05 ∷ 0x00 ∷ []) 16 ∷ []
+    plainly (0x06 ∷ []) 8 ∷ plainly (0x02 ∷ 0x01 ∷ 0x00 ∷ 0xff ∷ 0x11 ∷ 0x22 ∷ []) 48 ∷ plainly (0x04 ∷ []) 8 ∷ plainly (0x05 ∷ 0x00 ∷ []) 16 ∷ []
 
-abbrev megabit-after : List Act
-megabit-after = frame true (0x03 ∷ 0xff ∷ 0x00 ∷ 0xff ∷ 0x00 ∷ []) 40 ∷ []
+abbrev megabit-after : List TimedAct
+megabit-after = plainly (0x03 ∷ 0xff ∷ 0x00 ∷ 0xff ∷ 0x00 ∷ []) 40 ∷ []
 
-abbrev pub megabitActs : List Act
+abbrev pub megabitActs : List TimedAct
 megabitActs = megabit-before ++ (reading 4000 ∷ megabit-after)
 
 abbrev megabit-start : FrameBench
@@ -253,12 +313,12 @@ pub record MegabitSeen (rs : List (Report Bool)) : Type 0 where
   pub first : memoryCells 0x10000 rs ≡ 0xff ∷ 0xff ∷ 0xff ∷ 0xff ∷ 0x22 ∷ []
   pub number : numbers rs ≡ 131072 ∷ 131072 ∷ 131072 ∷ 131072 ∷ 131070 ∷ []
 
-two-less : let b = actedAll m95m01 megabit-before megabit-start in timedBlank m95m01 4000 (b .core) (b .memory) ≡ 131070
-unfolding each pick verdictBy decode latchedFrom zeros bitOn count
-two-less = fresh-blank m95m01 131070 (m95m01 .size) 4000 (actedAll m95m01 megabit-before megabit-start .core) refl refl (lit≤ tt) refl
+two-less : let b = actedAllInTime m95m01 megabit-before megabit-start in timedBlank m95m01 4000 (b .core) (b .memory) ≡ 131070
+unfolding due passed each pick verdictBy decode latchedFrom zeros bitOn count
+two-less = fresh-blank m95m01 131070 (m95m01 .size) 4000 (actedAllInTime m95m01 megabit-before megabit-start .core) refl refl (lit≤ tt) refl
 
 pub megabit-frames-seen : MegabitSeen megabitRun
-unfolding megabitRun led framesPlayed framedOutput inRanges each pick verdictBy decode latchedFrom zeros bitOn timed timedCells stored table from output flat
+unfolding megabitRun led framesPlayed outputInTime rising due passed inRanges each pick verdictBy decode latchedFrom zeros bitOn timed timedCells stored table from output flat
 megabit-frames-seen =
     subst MegabitSeen (sym (by-number m95m01 131070 4000 megabit-before megabit-after megabit-start two-less))
     (record { bits = refl; registers = refl; last = refl; first = refl; number = refl })

@@ -1,0 +1,2 @@
+-- The starred cases of document 01, in one statement.
+pub mod Starred
