@@ -81,7 +81,7 @@ watched look P (e ∷ es) seen b =
 abbrev pub lentOf : FrameBench → Lent
 lentOf b = lent (b .memory) (b .identification)
 
--- what is noted of a frame: of the level of W, the mode, the bytes, the bit count, the positions and the readings inside
+-- what is noted of a frame: by the level of W, the mode, the bytes, the bit count, the positions and the readings
 abbrev pub Note : Type 0 → Type 0
 Note A = Part → FrameBench → Bool → Mode → List ℕ → ℕ → List ℕ → List ℕ → List A
 
