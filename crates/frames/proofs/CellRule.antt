@@ -25,13 +25,13 @@ use Rattle.frames.proofs.Kept.{after-within}
 
 -- ---- which cells wait after a frame
 
-frame-awaits : (k : Cells) (P : Part) (i : ℕ) (w : Bool) (s : List ℕ) (n : ℕ) (c : Core) → awaitedIn k P c i ≡ false
-    → addresses k P (frame w s n) c i ≡ false → awaitedIn k P (after P (running c) w c s n) i ≡ false
-frame-awaits k P i w s n c e f =
-    pick-case (λ x. awaitedIn k P x i ≡ false) (isExecuted (judged P (running c) w c s n))
+pub after-awaits : (k : Cells) (P : Part) (i : ℕ) (ran w : Bool) (s : List ℕ) (n : ℕ) (c : Core) → awaitedIn k P c i ≡ false
+    → (isExecuted (judged P ran w c s n) && (writesTo k (instruction P s) (address P s) && latchedIn k P (address P s) (written P s) i)) ≡ false
+    → awaitedIn k P (after P ran w c s n) i ≡ false
+after-awaits k P i ran w s n c e f =
+    pick-case (λ x. awaitedIn k P x i ≡ false) (isExecuted (judged P ran w c s n))
     (λ x. effect-awaits k P (instruction P s) (address P s) (getD s 1 0) (written P s) c i
-    (and-other (isExecuted (judged P (running c) w c s n))
-    (writesTo k (instruction P s) (address P s) && latchedIn k P (address P s) (written P s) i) f x) e)
+    (and-other (isExecuted (judged P ran w c s n)) (writesTo k (instruction P s) (address P s) && latchedIn k P (address P s) (written P s) i) f x) e)
     (λ x. e)
 
 -- ---- the rule
@@ -40,7 +40,7 @@ pub no-cell : (k : Cells) (P : Part) (w : Bool) (s : List ℕ) (n : ℕ) (d : Fr
 no-cell memoryCells P w s n d = refl
 no-cell identificationCells P w s n d = refl
 
-read-cells : (k : Cells) (P : Part) (t : ℕ) (d : FrameBench) → lentCells k (acted P (reading t) d) ≡ timedCells (theirs k) P t (d .core) (lentCells k d)
+pub read-cells : (k : Cells) (P : Part) (t : ℕ) (d : FrameBench) → lentCells k (acted P (reading t) d) ≡ timedCells (theirs k) P t (d .core) (lentCells k d)
 read-cells memoryCells P t d = refl
 read-cells identificationCells P t d = refl
 
@@ -64,7 +64,7 @@ module _ (k : Cells) (P : Part) (h : Sound P) (i : ℕ) (below : i < cellCount k
       let next = acted P (frame w s n) d in
       let two = or-none-out (addresses k P (frame w s n) (d .core) i) (addressed k P acts next i) f in
       acted-all-cell acts next (ap length (no-cell k P w s n d) ∙ size) (after-within P h w (d .core) s n (running (d .core)) (λ q. q) r)
-      (frame-awaits k P i w s n (d .core) e (two .0)) (two .1)
+      (after-awaits k P i (running (d .core)) w s n (d .core) e (two .0)) (two .1)
       ∙ ap (λ (m : List ℕ). getD m i 0) (no-cell k P w s n d)
   acted-all-cell (reading t ∷ acts) d size r e f =
       let m = lentCells k d in

@@ -24,15 +24,36 @@ use Rattle.fields.specs.Bytes.{instruction, address, written}
 use Rattle.frames.specs.After.{judged, after}
 use Rattle.frames.specs.Play.{Act, frame, reading, FrameBench, acted, actedAll, locks, locksAny}
 
--- a frame leaves the lock, a reading sets it where its cycle ends
-after-lock : (P : Part) (ran w : Bool) (c : Core) (s : List ℕ) (n : ℕ) → after P ran w c s n .lock ≡ c .lock
+-- ---- a frame: it leaves the lock; what it leaves waiting
+
+pub after-lock : (P : Part) (ran w : Bool) (c : Core) (s : List ℕ) (n : ℕ) → after P ran w c s n .lock ≡ c .lock
 after-lock P ran w c s n =
     pick-case (λ (x : Core). x .lock ≡ c .lock) (isExecuted (judged P ran w c s n))
     (λ e. effect-lock P (instruction P s) (address P s) (getD s 1 0) (written P s) c) (λ e. refl)
 
+pub after-locked : (P : Part) (ran w : Bool) (c : Core) (s : List ℕ) (n : ℕ) → Locked c → Locked (after P ran w c s n)
+after-locked P ran w c s n k =
+    pick-case Locked (isExecuted (judged P ran w c s n))
+    (λ e. locked-effect P (address P s) (getD s 1 0) _ n _ _ _ _ (written P s) c k (instruction P s) e) (λ e. k)
+
+pub after-awaits-lock : (P : Part) (ran w : Bool) (c : Core) (s : List ℕ) (n : ℕ) → waitsLock (c .waits) ≡ false
+    → (isExecuted (judged P ran w c s n) && (isWrid (instruction P s) && picksLock (address P s))) ≡ false
+    → waitsLock (after P ran w c s n .waits) ≡ false
+after-awaits-lock P ran w c s n h none =
+    pick-case (λ (x : Core). waitsLock (x .waits) ≡ false) (isExecuted (judged P ran w c s n))
+    (λ e. effect-awaits-lock P (instruction P s) (address P s) (getD s 1 0) (written P s) c
+    (and-other (isExecuted (judged P ran w c s n)) (isWrid (instruction P s) && picksLock (address P s)) none e) h)
+    (λ e. h)
+
+pub after-unwaited : (P : Part) → P .identified ≡ false → (ran w : Bool) (c : Core) (s : List ℕ) (n : ℕ) → Unwaited c → Unwaited (after P ran w c s n)
+after-unwaited P plain ran w c s n k =
+    pick-case Unwaited (isExecuted (judged P ran w c s n))
+    (λ e. unwaited-effect P (instruction P s) (address P s) (getD s 1 0) (written P s) c (λ i. never (wrid-identified P (getD s 0 0) i) plain) k)
+    (λ e. k)
+
 -- ---- it never opens
 
-acted-shut : (P : Part) (a : Act) (d : FrameBench) → d .core .lock ≡ 1 → acted P a d .core .lock ≡ 1
+pub acted-shut : (P : Part) (a : Act) (d : FrameBench) → d .core .lock ≡ 1 → acted P a d .core .lock ≡ 1
 acted-shut P (frame w s n) d k = after-lock P (running (d .core)) w (d .core) s n ∙ k
 acted-shut P (reading t) d k =
     lock-rule P t (d .core) ∙ ap (pick (ends t (d .core) && waitsLock (d .core .waits)) 1) k ∙ pick-same _ 1
@@ -43,12 +64,8 @@ lock-stays P (a ∷ acts) d k = lock-stays P acts (acted P a d) (acted-shut P a 
 
 -- ---- a page that is locked while none waits
 
-acted-locked : (P : Part) (a : Act) (d : FrameBench) → Locked (d .core) → Locked (acted P a d .core) × (acted P a d .identification ≡ d .identification)
-acted-locked P (frame w s n) d k = (
-  pick-case Locked (isExecuted (judged P (running (d .core)) w (d .core) s n))
-      (λ e. locked-effect P (address P s) (getD s 1 0) _ n _ _ _ _ (written P s) (d .core) k (instruction P s) e) (λ e. k),
-  refl,
-)
+pub acted-locked : (P : Part) (a : Act) (d : FrameBench) → Locked (d .core) → Locked (acted P a d .core) × (acted P a d .identification ≡ d .identification)
+acted-locked P (frame w s n) d k = (after-locked P (running (d .core)) w (d .core) s n k, refl)
 acted-locked P (reading t) d k = (locked-timed P t (d .core) k (d .memory), locked-cells P t (d .core) k (d .identification))
 
 pub locked-page : (P : Part) (acts : List Act) (d : FrameBench) → Locked (d .core)
@@ -61,16 +78,12 @@ locked-page P (a ∷ acts) d k =
 
 -- ---- a lock that does not wait, and that no frame executed in the list sets, is as it was
 
-acted-awaits-lock : (P : Part) (a : Act) (d : FrameBench) → waitsLock (d .core .waits) ≡ false → locks P a (d .core) ≡ false
+pub acted-awaits-lock : (P : Part) (a : Act) (d : FrameBench) → waitsLock (d .core .waits) ≡ false → locks P a (d .core) ≡ false
     → waitsLock (acted P a d .core .waits) ≡ false
-acted-awaits-lock P (frame w s n) d h none =
-    pick-case (λ (x : Core). waitsLock (x .waits) ≡ false) (isExecuted (judged P (running (d .core)) w (d .core) s n))
-    (λ e. effect-awaits-lock P (instruction P s) (address P s) (getD s 1 0) (written P s) (d .core)
-    (and-other (isExecuted (judged P (running (d .core)) w (d .core) s n)) (isWrid (instruction P s) && picksLock (address P s)) none e) h)
-    (λ e. h)
+acted-awaits-lock P (frame w s n) d h none = after-awaits-lock P (running (d .core)) w (d .core) s n h none
 acted-awaits-lock P (reading t) d h none = timed-awaits-lock P t (d .core) h
 
-acted-lock : (P : Part) (a : Act) (d : FrameBench) → waitsLock (d .core .waits) ≡ false → acted P a d .core .lock ≡ d .core .lock
+pub acted-lock : (P : Part) (a : Act) (d : FrameBench) → waitsLock (d .core .waits) ≡ false → acted P a d .core .lock ≡ d .core .lock
 acted-lock P (frame w s n) d h = after-lock P (running (d .core)) w (d .core) s n
 acted-lock P (reading t) d h = lock-rule P t (d .core) ∙ at-no _ _ (and-no-right (ends t (d .core)) (waitsLock (d .core .waits)) h)
 
@@ -84,15 +97,10 @@ acted-all-lock P (a ∷ acts) d h none =
 -- ---- a part without an identification page leaves the lent one, and the lock, as they were
 
 module _ (P : Part) (plain : P .identified ≡ false) where
-  acted-unwaited : (a : Act) (d : FrameBench) → Unwaited (d .core)
+  pub acted-unwaited : (a : Act) (d : FrameBench) → Unwaited (d .core)
       → Unwaited (acted P a d .core) × ((acted P a d .identification ≡ d .identification) × (acted P a d .core .lock ≡ d .core .lock))
-  acted-unwaited (frame w s n) d k = (
-    pick-case Unwaited (isExecuted (judged P (running (d .core)) w (d .core) s n))
-        (λ e. unwaited-effect P (instruction P s) (address P s) (getD s 1 0) (written P s) (d .core)
-        (λ i. never (wrid-identified P (getD s 0 0) i) plain) k)
-        (λ e. k),
-    (refl, after-lock P (running (d .core)) w (d .core) s n),
-  )
+  acted-unwaited (frame w s n) d k =
+      (after-unwaited P plain (running (d .core)) w (d .core) s n k, (refl, after-lock P (running (d .core)) w (d .core) s n))
   acted-unwaited (reading t) d k =
       (unwaited-timed P t (d .core) k (d .memory), (unwaited-cells P t (d .core) k (d .identification), unwaited-lock P t (d .core) k))
 
