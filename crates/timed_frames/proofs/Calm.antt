@@ -47,7 +47,7 @@ module _ (P : Part) where
         identification = no-end waitsIdentification P t c (b .identification) over;
       }
 
-  passed-calm : (ts : List ℕ) (b : FrameBench) → running (b .core) ≡ false → Calm b (passed P ts b)
+  pub passed-calm : (ts : List ℕ) (b : FrameBench) → running (b .core) ≡ false → Calm b (passed P ts b)
   unfolding passed
   passed-calm [] b e = record { idle = e; shows = refl; lock = refl; memory = refl; identification = refl }
   passed-calm (t ∷ ts) b e =

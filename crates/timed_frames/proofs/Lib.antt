@@ -2,6 +2,11 @@
 pub mod Walks
 pub mod Ran
 pub mod Calm
+pub mod Passed
+pub mod Keeping
+pub mod Kept
+pub mod CellRule
+pub mod Locks
 pub mod Opened
 pub mod Whole
 pub mod Untimed

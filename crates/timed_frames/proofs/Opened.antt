@@ -16,18 +16,17 @@ use Rattle.codes.specs.declared.Outcome.{Outcome}
 use Rattle.codes.specs.declared.Outcome.the-variants as outcome
 use Rattle.codes.specs.declared.Instruction.{Instruction}
 use Rattle.codes.specs.declared.Instruction.the-variants.{Rdsr}
-use Rattle.chip.specs.Records.{running, status, lockByte, waitsPage, waitsIdentification}
+use Rattle.chip.specs.Cells.{memoryCells, identificationCells}
+use Rattle.chip.specs.Records.{running, status, lockByte}
 use Rattle.chip.specs.declared.Core.{Core}
 use Rattle.chip.proofs.Within.{Within, within, in-ranges}
-use Rattle.chip.proofs.Passing.{timed-length}
 use Rattle.chip.proofs.Readings.{lent-both, lent-memory, lent-identification}
-use Rattle.chip.proofs.Recounts.{timed-in-within}
 use Rattle.fields.specs.Bytes.{instruction, address}
 use Rattle.shown.specs.Shown.{Sights, sights, byteOut, paddedAt, output, undriven}
 use Rattle.frames.specs.After.{after}
 use Rattle.frames.specs.Answers.{frameOutcome, frameReply, framed, framedOutput}
 use Rattle.frames.specs.declared.FrameReply.the-variants.{Shown}
-use Rattle.frames.specs.Play.{reading, FrameBench, frameBench, acted}
+use Rattle.frames.specs.Play.{FrameBench, frameBench}
 use Rattle.frames.proofs.Outcomes.{Taken, taken}
 use Rattle.timed_frames.specs.Schedules.{due, passed, benchAt}
 use Rattle.timed_frames.specs.InTime.{isRdsr, loadedAt, ranIn, sightsIn, lastOf, leftBy}
@@ -36,6 +35,7 @@ use Rattle.timed_frames.specs.declared.Mode.{Mode}
 use Rattle.timed_frames.specs.declared.Mode.the-variants.{Zero, Three}
 use Rattle.timed_frames.proofs.Walks.{due-add, walk-on, loaded-late}
 use Rattle.timed_frames.proofs.Calm.{Calm, calm-at, hushed}
+use Rattle.timed_frames.proofs.Passed.{passed-within, passed-length}
 
 -- ---- a frame that is not refused, of the plain call
 
@@ -58,32 +58,17 @@ module _ (P : Part) (c : Core) (m i : List ℕ) (s : List ℕ) (n room : ℕ) (d
       let t = taken P c (length m) (length i) (length s) n room refl done in
       ap length (plain-output out e) ∙ table-length _ (length s) ∙ sym (t .roomy) ∙ sym e
 
--- ---- readings keep what the refusals look at
+-- ---- readings keep what the refusals look at, so a frame that is not refused is not refused after them
 
 module _ (P : Part) where
-  pub passed-within : (ts : List ℕ) (b : FrameBench) → Within P (b .core) → Within P (passed P ts b .core)
-  unfolding passed
-  passed-within [] b k = k
-  passed-within (t ∷ ts) b k = passed-within ts (acted P (reading t) b) (timed-in-within P t (b .core) (b .memory) k)
-
-  pub passed-size : (ts : List ℕ) (b : FrameBench) → length (passed P ts b .memory) ≡ length (b .memory)
-  unfolding passed
-  passed-size [] b = refl
-  passed-size (t ∷ ts) b = passed-size ts (acted P (reading t) b) ∙ timed-length waitsPage P t (b .core) (b .memory)
-
-  pub passed-cells : (ts : List ℕ) (b : FrameBench) → length (passed P ts b .identification) ≡ length (b .identification)
-  unfolding passed
-  passed-cells [] b = refl
-  passed-cells (t ∷ ts) b = passed-cells ts (acted P (reading t) b) ∙ timed-length waitsIdentification P t (b .core) (b .identification)
-
-  -- so a frame that is not refused is not refused after them
   pub still-taken : (ts : List ℕ) (b : FrameBench) (len n room : ℕ)
       → frameOutcome P (b .core) (length (b .memory)) (length (b .identification)) len n room ≡ outcome.Done
       → let x = passed P ts b in frameOutcome P (x .core) (length (x .memory)) (length (x .identification)) len n room ≡ outcome.Done
   still-taken ts b len n room e =
       let t = taken P (b .core) (length (b .memory)) (length (b .identification)) len n room refl e in
-      at-yes _ _ (lent-both P _ _ (passed-size ts b ∙ lent-memory P _ _ (t .whole)) (passed-cells ts b ∙ lent-identification P _ _ (t .whole)))
-      ∙ at-yes _ _ (in-ranges P _ (passed-within ts b (within P (b .core) (t .inside))))
+      at-yes _ _ (lent-both P _ _ (passed-length memoryCells P ts b ∙ lent-memory P _ _ (t .whole))
+      (passed-length identificationCells P ts b ∙ lent-identification P _ _ (t .whole)))
+      ∙ at-yes _ _ (in-ranges P _ (passed-within P ts b (within P (b .core) (t .inside))))
       ∙ at-yes _ _ (le-leb _ _ (t .short))
       ∙ at-yes _ _ (t .counted)
       ∙ at-yes _ _ (eq-eqb _ _ (t .roomy))

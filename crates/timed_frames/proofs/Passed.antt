@@ -1,0 +1,107 @@
+-- Readings in a row: what each of them keeps they keep; a cycle that runs after them ran before them; and they change a cell only where one of them ends a
+-- cycle for which it waited at the start.
+use Prim.Native.Nat.{ℕ, suc, _/_, _<_}
+use mathlib.Core.Bool.{Bool, true, false, _&&_, _||_}
+use mathlib.Core.List.{List, [], _∷_}
+use mathlib.Core.Path.{_≡_, refl, ap, sym, _∙_}
+use native.Mathlib.Omega.{arith}
+use lib.ListN.{length, getD}
+use borrow.Author.Tests.{le-ltb}
+use Rattle.laws.specs.Pick.{pick, at-no, and-no-left}
+use Rattle.laws.specs.And.{never, or-left}
+use Rattle.codes.specs.Part.{Part}
+use Rattle.latch.specs.Latches.{byteAt}
+use Rattle.chip.specs.Cells.{Cells, memoryCells, identificationCells, cellCount, theirs, offset, awaitedIn}
+use Rattle.chip.specs.Records.{running}
+use Rattle.chip.specs.Time.{ends, timed}
+use Rattle.chip.specs.declared.Core.{Core}
+use Rattle.chip.proofs.Within.{Within}
+use Rattle.chip.proofs.Passing.{timed-length, lent-rule, over-left}
+use Rattle.chip.proofs.Recounts.{timed-in-within, timed-on}
+use Rattle.chip.proofs.Awaiting.{timed-awaits}
+use Rattle.frames.specs.Play.{reading, FrameBench, acted, lentCells}
+use Rattle.frames.proofs.CellRule.{read-cells}
+use Rattle.timed_frames.specs.Schedules.{passed, benchAt}
+use Rattle.timed_frames.specs.InTime.{ranIn, lastOf}
+use Rattle.timed_frames.specs.Acts.{endsAny}
+use Rattle.timed_frames.proofs.Walks.{walk-on}
+use Rattle.timed_frames.proofs.Calm.{passed-calm}
+
+module _ (P : Part) where
+  pub passed-keeps : (K : FrameBench → Type 0) → ((t : ℕ) (b : FrameBench) → K b → K (acted P (reading t) b))
+      → (ts : List ℕ) (b : FrameBench) → K b → K (passed P ts b)
+  unfolding passed
+  passed-keeps K reads [] b k = k
+  passed-keeps K reads (t ∷ ts) b k = passed-keeps K reads ts (acted P (reading t) b) (reads t b k)
+
+  pub passed-within : (ts : List ℕ) (b : FrameBench) → Within P (b .core) → Within P (passed P ts b .core)
+  passed-within = passed-keeps (λ b. Within P (b .core)) (λ t b k. timed-in-within P t (b .core) (b .memory) k)
+
+  -- a cycle that runs at deselect ran at the eighth edge: no reading begins one
+  pub last-ran : (ps ts : List ℕ) (b : FrameBench) (n : ℕ) → running (lastOf P ps ts b n .core) ≡ true → ranIn P ps ts b ≡ true
+  last-ran ps ts b n runs = go (ranIn P ps ts b) refl
+    where
+      go : (r : Bool) → ranIn P ps ts b ≡ r → ranIn P ps ts b ≡ true
+      go true e = e
+      go false e =
+          absurd (never runs (ap (λ (x : FrameBench). running (x .core)) (sym (walk-on P ps ts b 1 (suc (n / 8)) (omega arith)))
+          ∙ passed-calm P _ (benchAt P ps ts b 1) e .idle))
+
+-- ---- the lent cells k: the memory's, or the identification page's
+
+pub read-length : (k : Cells) (P : Part) (t : ℕ) (b : FrameBench) → length (lentCells k (acted P (reading t) b)) ≡ length (lentCells k b)
+read-length k P t b = ap length (read-cells k P t b) ∙ timed-length (theirs k) P t (b .core) (lentCells k b)
+
+pub passed-length : (k : Cells) (P : Part) (ts : List ℕ) (b : FrameBench) → length (lentCells k (passed P ts b)) ≡ length (lentCells k b)
+passed-length k P ts b = passed-keeps P (λ x. length (lentCells k x) ≡ length (lentCells k b)) (λ t x e. read-length k P t x ∙ e) ts b refl
+
+pub passed-awaits : (k : Cells) (P : Part) (i : ℕ) (ts : List ℕ) (b : FrameBench) → awaitedIn k P (b .core) i ≡ false
+    → awaitedIn k P (passed P ts b .core) i ≡ false
+passed-awaits k P i = passed-keeps P (λ b. awaitedIn k P (b .core) i ≡ false) (λ t b e. timed-awaits k P t (b .core) i e)
+
+-- where no cycle runs they stay
+calm-cells : (k : Cells) (P : Part) (ts : List ℕ) (b : FrameBench) → running (b .core) ≡ false → lentCells k (passed P ts b) ≡ lentCells k b
+calm-cells memoryCells P ts b e = passed-calm P ts b e .memory
+calm-cells identificationCells P ts b e = passed-calm P ts b e .identification
+
+over-idle : (P : Part) (t : ℕ) (b : FrameBench) → ends t (b .core) ≡ true → running (acted P (reading t) b .core) ≡ false
+over-idle P t b e = le-ltb 0 (timed t (b .core) .left) (omega (arith, over-left P t (b .core) e))
+
+-- the byte that waits for cell i
+abbrev pub coming : Part → ℕ → Core → ℕ
+coming P i c = byteAt (c .waits .latch) (offset P c i)
+
+module _ (k : Cells) (P : Part) (i : ℕ) (below : i < cellCount k P) where
+  pub passed-cell : (ts : List ℕ) (b : FrameBench) → length (lentCells k b) ≡ cellCount k P → Within P (b .core)
+      → getD (lentCells k (passed P ts b)) i 0 ≡ pick (endsAny P ts b && awaitedIn k P (b .core) i) (coming P i (b .core)) (getD (lentCells k b) i 0)
+  unfolding passed endsAny
+  passed-cell [] b size r = sym (at-no _ _ (and-no-left false (awaitedIn k P (b .core) i) refl))
+  passed-cell (t ∷ ts) b size r =
+      go (ends t (b .core)) refl
+      (passed-cell ts (acted P (reading t) b) (read-length k P t b ∙ size) (timed-in-within P t (b .core) (b .memory) r))
+    where
+      next : FrameBench
+      next = acted P (reading t) b
+
+      stays : ℕ
+      stays = getD (lentCells k b) i 0
+
+      one : getD (lentCells k next) i 0 ≡ pick (ends t (b .core) && awaitedIn k P (b .core) i) (coming P i (b .core)) stays
+      one = ap (λ (m : List ℕ). getD m i 0) (read-cells k P t b) ∙ lent-rule P t (b .core) r k (lentCells k b) size i below
+
+      go : (over : Bool) → ends t (b .core) ≡ over
+          → getD (lentCells k (passed P ts next)) i 0
+          ≡ pick (endsAny P ts next && awaitedIn k P (next .core) i) (coming P i (next .core)) (getD (lentCells k next) i 0)
+          → getD (lentCells k (passed P ts next)) i 0
+          ≡ pick ((ends t (b .core) || endsAny P ts next) && awaitedIn k P (b .core) i) (coming P i (b .core)) stays
+      go true e more =
+          ap (λ (m : List ℕ). getD m i 0) (calm-cells k P ts next (over-idle P t b e)) ∙ one
+          ∙ ap (λ (x : Bool). pick (x && awaitedIn k P (b .core) i) (coming P i (b .core)) stays)
+          (e ∙ sym (or-left (ends t (b .core)) (endsAny P ts next) e))
+      go false e more =
+          let core = timed-on P t (b .core) (b .memory) e in
+          let same : awaitedIn k P (next .core) i ≡ awaitedIn k P (b .core) i = ap (λ (c : Core). awaitedIn k P c i) core in
+          let byte : coming P i (next .core) ≡ coming P i (b .core) = ap (coming P i) core in
+          let cell : getD (lentCells k next) i 0 ≡ stays = one ∙ at-no _ _ (and-no-left (ends t (b .core)) (awaitedIn k P (b .core) i) e) in
+          let neither : endsAny P ts next ≡ (ends t (b .core) || endsAny P ts next) = sym (ap (λ (x : Bool). x || endsAny P ts next) e) in
+          more ∙ (λ j. pick (neither j && same j) (byte j) (cell j))
