@@ -95,12 +95,11 @@ after-renumbered P ran w c s n k =
     ap (λ (x : Core). pick t x (withBlank k c)) (effect-renumbered P (instruction P s) (address P s) (getD s 1 0) (written P s) c k)
     ∙ sym (pick-ap (withBlank k) t (executed P c s) c)
 
-pub after-blind : (P : Part) (w : Bool) (c d : Core) (s : List ℕ) (n : ℕ) → EqualBut c d
-    → EqualBut (after P (running c) w c s n) (after P (running d) w d s n)
-after-blind P w c d s n e =
-    sym (after-renumbered P (running c) w c s n 0)
-    ∙ ap (λ (x : Core). after P (running x) w x s n) e
-    ∙ after-renumbered P (running d) w d s n 0
+-- whatever ran at the eighth edge
+pub after-blind : (P : Part) {q r : Bool} → q ≡ r → (w : Bool) (c d : Core) (s : List ℕ) (n : ℕ) → EqualBut c d
+    → EqualBut (after P q w c s n) (after P r w d s n)
+after-blind P {q = q} {r = r} h w c d s n e =
+    sym (after-renumbered P q w c s n 0) ∙ ap₂ (λ (t : Bool) (x : Core). after P t w x s n) h e ∙ after-renumbered P r w d s n 0
 
 module _ (P : Part) (c d : Core) (a : Alike P c d) (m i : List ℕ) where
   frame-outcome-blind : (len n room : ℕ) → frameOutcome P c (length m) (length i) len n room ≡ frameOutcome P d (length m) (length i) len n room
@@ -122,7 +121,7 @@ module _ (P : Part) (c d : Core) (a : Alike P c d) (m i : List ℕ) where
     frame-core-blind room =
         let o = frameOutcome P c (length m) (length i) (length s) n room in
         let y = after P (running d) w d s n in
-        pick-equal-but (isDone o) (after P (running c) w c s n) y c d (after-blind P w c d s n (a .same)) (a .same)
+        pick-equal-but (isDone o) (after P (running c) w c s n) y c d (after-blind P (ap running (a .same)) w c d s n (a .same)) (a .same)
         ∙ ap (λ (p : Outcome). withBlank 0 (pick (isDone p) y d)) (frame-outcome-blind (length s) n room)
 
     -- its output
@@ -139,9 +138,9 @@ module _ (P : Part) (c d : Core) (a : Alike P c d) (m i : List ℕ) where
 
 -- ---- any list of frames and readings
 
-acted-blind : (P : Part) (a : Act) (b d : FrameBench) → FrameBenchEqualBut b d → FrameBenchEqualBut (acted P a b) (acted P a d)
+pub acted-blind : (P : Part) (a : Act) (b d : FrameBench) → FrameBenchEqualBut b d → FrameBenchEqualBut (acted P a b) (acted P a d)
 acted-blind P (frame w s n) b d e =
-    record { core = after-blind P w (b .core) (d .core) s n (e .core); memory = e .memory; identification = e .identification }
+    record { core = after-blind P (ap running (e .core)) w (b .core) (d .core) s n (e .core); memory = e .memory; identification = e .identification }
 acted-blind P (reading t) b d e =
     record {
       core =

@@ -1,5 +1,5 @@
 -- A call that is given a record with the right number of blank cells for its memory hands one back: each call that is lent the memory, any list of frames
--- and readings, any list of events, a driver's run, import, power-up, a chunk of a text.
+-- and readings, with readings inside the frames too, any list of events, a driver's run, import, power-up, a chunk of a text.
 use mathlib.Core.Path.{_≡_, refl, ap, sym, _∙_}
 use mathlib.Core.Bool.{Bool, true, false, true≢false}
 use mathlib.Core.List.{List, [], _∷_}
@@ -31,6 +31,9 @@ use Rattle.fields.specs.Bytes.{instruction, address, written}
 use Rattle.frames.specs.After.{judged, after}
 use Rattle.frames.specs.Answers.{frameOutcome, framed}
 use Rattle.frames.specs.Play.{Act, frame, reading, FrameBench, frameBench, acted, actedAll}
+use Rattle.timed_frames.specs.Acts.{TimedAct, actedAllInTime}
+use Rattle.timed_frames.specs.Answers.{inTimeOutcome, inTimeLeft, framedInTime}
+use Rattle.timed_frames.proofs.Keeping.{Keeps, left-by-keeps, acted-all-in-time-keeps}
 use Rattle.driver.specs.Answers.{driveOutcome, driven, drivenMemory}
 use Rattle.driver.specs.Sequence.{run}
 use Rattle.pins.specs.declared.Device.{Device}
@@ -144,6 +147,25 @@ module _ (P : Part) where
       → Counted (actedAll P acts b .core) (actedAll P acts b .memory)
   right-acts [] b size right = right
   right-acts (a ∷ acts) b size right = right-acts acts (acted P a b) (acted-size a b size) (acted-right a b size right)
+
+  -- a frame with readings inside, any list of them, and the call, refused or not
+  right-kept : Keeps P (λ b. (length (b .memory) ≡ P .size) × Counted (b .core) (b .memory))
+  right-kept =
+      record {
+        reads = λ t b k. (acted-size (reading t) b (k .0), acted-right (reading t) b (k .0) (k .1));
+        deselects = λ ran w s n b h k. (k .0, after-blank P ran w (b .core) s n ∙ k .1);
+      }
+
+  pub right-timed-acts : (acts : List TimedAct) (b : FrameBench) → length (b .memory) ≡ P .size → Counted (b .core) (b .memory)
+      → Counted (actedAllInTime P acts b .core) (actedAllInTime P acts b .memory)
+  right-timed-acts acts b size right = acted-all-in-time-keeps right-kept acts b (size, right) .1
+
+  pub right-timed-frame : (c : Core) (m : Lent) (w : Bool) (s : List ℕ) (n : ℕ) (ps ts : List ℕ) (room : ℕ) → Counted c (m .memory)
+      → Counted (framedInTime P c m w s n ps ts room .core) (inTimeLeft P c m w s n ps ts room .memory)
+  unfolding framedInTime inTimeLeft
+  right-timed-frame c m w s n ps ts room right =
+      pick-case (λ (b : FrameBench). Counted (b .core) (b .memory)) (isDone (inTimeOutcome P c m s n ps ts room))
+      (λ e. left-by-keeps right-kept ps ts (frameBench c (m .memory) (m .identification)) w s n (lent-size P m _ e, right) .1) (λ e. right)
 
   -- a driver's run, whatever it answers
   pub right-driven : (c : Core) (m i : List ℕ) (a : ℕ) (bytes : List ℕ) (interval limit : ℕ) → Counted c m
