@@ -32,7 +32,7 @@ pub record Calm (b x : FrameBench) : Type 0 where
   pub identification : x .identification ≡ b .identification
 
 module _ (P : Part) where
-  one-calm : (t : ℕ) (b : FrameBench) → running (b .core) ≡ false → Calm b (acted P (reading t) b)
+  pub one-calm : (t : ℕ) (b : FrameBench) → running (b .core) ≡ false → Calm b (acted P (reading t) b)
   one-calm t b e =
       let c = b .core in
       let none : c .left ≡ 0 = omega (arith, ltb-false 0 (c .left) e) in
