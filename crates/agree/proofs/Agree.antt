@@ -1,17 +1,18 @@
 -- The two models agree, demand 3: a frame's plan comes to what the frame model says of its bytes, and a drawing to its frames' plans.
-use Prim.Native.Nat.{ℕ, suc, _+_, _*_, _-_, _/_, _<_, _≤_}
-use mathlib.Core.Bool.{Bool, true, false, _&&_, true≢false}
-use mathlib.Core.List.{List, [], _∷_}
+use Prim.Native.Nat.{ℕ, suc, _*_, _-_, _/_, _<_, _≤_}
+use mathlib.Core.Bool.{Bool, true, false, _&&_}
+use mathlib.Core.List.{List, []}
 use mathlib.Core.Path.{_≡_, refl, sym, ap, ap₂, _∙_, subst, subst⁻¹}
 use lib.Dec.{eqb, leb}
-use lib.ListN.{take, drop, length, replicate, length-replicate}
+use lib.ListN.{take, length, replicate, length-replicate}
 use borrow.Author.Tests.{eq-eqb, le-leb, eqb-true, leb-true}
 use native.Mathlib.Omega.{arith}
 use Rattle.laws.specs.Pick.{at-yes, and-left, and-right, and-both}
 use Rattle.laws.specs.Table.{table}
 use Rattle.codes.specs.Part.{Part, partOf}
 use Rattle.codes.specs.Status.{on}
-use Rattle.chip.specs.Records.{running, lockByte}
+use Rattle.chip.specs.Cells.{memoryCells, identificationCells}
+use Rattle.chip.specs.Records.{lockByte}
 use Rattle.codes.specs.Refusals.{isDone}
 use Rattle.chip.specs.Ranges.{inRanges}
 use Rattle.codes.specs.declared.Outcome.{Outcome}
@@ -24,14 +25,14 @@ use Rattle.shown.proofs.Padding.{few-unused}
 use Rattle.frames.specs.After.{after}
 use Rattle.frames.specs.Answers.{frameReply, frameReplyUndriven, framedOutput}
 use Rattle.frames.specs.Play.{frame, FrameBench, frameBench, acted}
-use Rattle.frames.proofs.Kept.{after-within}
 use Rattle.timed_frames.specs.Schedules.{rising, due, passed, benchAt}
-use Rattle.timed_frames.specs.InTime.{loadedAt, ranIn, sightsIn, lastOf, leftBy}
-use Rattle.timed_frames.specs.Acts.{TimedAct, send, reading, actedInTime}
+use Rattle.timed_frames.specs.InTime.{loadedAt, ranIn, sightsIn, lastOf}
+use Rattle.timed_frames.specs.Acts.{send, actedInTime}
 use Rattle.timed_frames.specs.Answers.{inTimeOutcome, inTimeLeft, framedInTime, outputInTime}
 use Rattle.timed_frames.specs.declared.Mode.{Mode}
 use Rattle.timed_frames.proofs.Walks.{walk-on, bench-none, loaded-late}
-use Rattle.timed_frames.proofs.Calm.{Calm, calm-at}
+use Rattle.timed_frames.proofs.Calm.{Calm, passed-calm}
+use Rattle.timed_frames.proofs.Kept.{left-by-within, left-by-length}
 use Rattle.timed_frames.proofs.Untimed.{untimed-output}
 use Rattle.pins.specs.declared.Pins.{Pins}
 use Rattle.pins.specs.declared.Device.{Device}
@@ -45,7 +46,7 @@ use Rattle.agree.specs.Drawings.{Sendable, flat, bitsOf, Item, readingsA
 use Rattle.agree.specs.Reports.{shared, lentOf, Note, asOne, watched, outputBits, levelled, outputLevels, framesPlayed, SameSeen, Agreement, LevelAgreement}
 use Rattle.codes.proofs.Sound.{Sound, sound-of}
 use Rattle.laws.specs.Flags.{bit-on}
-use Rattle.agree.proofs.Ticks.{seenOf, endOf, metOf, decides, deselected}
+use Rattle.agree.proofs.Ticks.{seenOf, endOf, metOf, decides, decidedIn}
 use Rattle.agree.proofs.Steps.{Course, Still}
 use Rattle.agree.proofs.Bytes.{onQ, shown-bit}
 use Rattle.agree.proofs.Planned.{courseOf, met-plan, seen-plan, end-plan}
@@ -54,17 +55,11 @@ use Rattle.agree.proofs.Seen.{seen-table}
 use Rattle.agree.proofs.Ends.{end-table}
 use Rattle.agree.proofs.Pad.{pad-bits}
 use Rattle.agree.proofs.Levels.{plan-levels}
-use Rattle.agree.proofs.Waves.{Ready, read-ready, says}
-
-passed-ready : (P : Part) (ts : List ℕ) (b : FrameBench) → Ready P b → Ready P (passed P ts b)
-unfolding passed
-passed-ready P [] b k = k
-passed-ready P (t ∷ ts) b k = passed-ready P ts (actedInTime P (reading t) b) (read-ready P t b k)
+use Rattle.agree.proofs.Waves.{Ready, says}
 
 -- from the eighth edge on nothing moves where no cycle ran at it
 still-calm : (P : Part) (ps ts : List ℕ) (b : FrameBench) (k : ℕ) → 1 ≤ k → ranIn P ps ts b ≡ false → Calm (benchAt P ps ts b 1) (benchAt P ps ts b k)
-still-calm P ps ts b k h e =
-    subst (Calm (benchAt P ps ts b 1)) (walk-on P ps ts b 1 k h) (calm-at P (drop (due 1 ps) ps) (drop (due 1 ps) ts) (benchAt P ps ts b 1) k e)
+still-calm P ps ts b k h e = subst (Calm (benchAt P ps ts b 1)) (walk-on P ps ts b 1 k h) (passed-calm P _ (benchAt P ps ts b 1) e)
 
 module _ (P : Part) (sound : Sound P) where
   -- ---- one frame
@@ -155,23 +150,17 @@ module _ (P : Part) (sound : Sound P) where
         ∙ end-plan P sound (readingsAt ps ts) at next (last .core) w o s n (sendable .bytes) (few .0)
         ∙ end-table P sound T (last .core) w s n (few .0) (omega arith)
 
-    frame-left : deselected P w (endOf P is noFrame b) (metOf P is b) ≡ actedInTime P (send w o s n ps ts) b
+    frame-left : decidedIn P w (endOf P is noFrame b) (metOf P is b) ≡ actedInTime P (send w o s n ps ts) b
     frame-left =
-        ap (deselected P w (endOf P is noFrame b)) frame-met
+        ap (decidedIn P w (endOf P is noFrame b)) frame-met
         ∙ ap (λ c. frameBench c (last .memory) (last .identification)) frame-core
-
-    -- a cycle that runs at deselect ran at the eighth edge
-    ran-before : (r : Bool) → ranIn P ps ts b ≡ r → running (last .core) ≡ true → ranIn P ps ts b ≡ true
-    ran-before true e q = e
-    ran-before false e q = absurd (true≢false (sym q ∙ still-calm P ps ts b (suc (n / 8)) (omega arith) e .idle))
 
     frame-ready : Ready P (actedInTime P (send w o s n ps ts) b)
     frame-ready =
-        let k = passed-ready P (take (due (suc (n / 8)) ps) ts) b ready in
         record {
-          within = after-within P sound w (last .core) s n (ranIn P ps ts b) (ran-before (ranIn P ps ts b) refl) (k .within);
-          memory = k .memory;
-          identification = k .identification;
+          within = left-by-within P sound ps ts b w s n (ready .within);
+          memory = left-by-length memoryCells P ps ts b w s n ∙ ready .memory;
+          identification = left-by-length identificationCells P ps ts b w s n ∙ ready .identification;
         }
 
   -- ---- the start: an unselected device inside its ranges

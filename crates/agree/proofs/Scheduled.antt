@@ -1,18 +1,17 @@
 -- From one position to the next come the readings at it, where no position falls; and where no cycle ran at the eighth edge, cells, status and lock stay.
 use Prim.Native.Nat.{ℕ, suc, _≤_, _<_}
-use mathlib.Core.Bool.{Bool, true, false, _&&_}
+use mathlib.Core.Bool.{true, _&&_}
 use mathlib.Core.List.{List, [], _∷_}
-use mathlib.Core.Path.{_≡_, refl, sym, ap, ap₂, _∙_, subst}
+use mathlib.Core.Path.{_≡_, refl, sym, ap, ap₂, _∙_}
 use native.Mathlib.Omega.{arith}
 use native.Mathlib.Decide.{ℕ-discrete, decLe}
-use lib.Dec.{eqb, leb, ltb}
-use lib.ListN.{length, take, drop}
-use borrow.Author.Tests.{lt-ltb, le-ltb, leb-true, eq-eqb, ne-eqb, eqb-true}
-use Rattle.laws.specs.Pick.{pick, at-yes, at-no, and-left, and-right}
+use lib.Dec.{leb}
+use lib.ListN.{length, take}
+use borrow.Author.Tests.{lt-ltb, le-ltb, leb-true, eq-eqb, ne-eqb}
+use Rattle.laws.specs.Pick.{at-yes, at-no, and-left, and-right}
 use Rattle.codes.specs.Part.{Part}
-use Rattle.chip.specs.Records.{running}
 use Rattle.frames.specs.Play.{reading, FrameBench, acted}
-use Rattle.timed_frames.specs.Schedules.{rising, placesFit, due, passed, benchAt}
+use Rattle.timed_frames.specs.Schedules.{rising, due, passed, benchAt}
 use Rattle.agree.specs.Drawings.{readingsAt}
 
 module _ (most : ℕ) where

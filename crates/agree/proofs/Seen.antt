@@ -16,7 +16,6 @@ use Rattle.latch.specs.Identification.{identificationAt, identificationByte, id
 use Rattle.chip.specs.Lents.{Lent}
 use Rattle.chip.specs.Records.{status}
 use Rattle.codes.specs.Instructions.{decode, picksLock}
-use Rattle.chip.specs.declared.Core.{Core}
 use Rattle.latch.specs.declared.Latch.{Latch}
 use Rattle.codes.specs.declared.Instruction.{Instruction}
 use Rattle.codes.specs.declared.Instruction.the-variants.{Wren, Wrdi, Rdsr, Wrsr, Read, Write, Rdid, Wrid, Silence}

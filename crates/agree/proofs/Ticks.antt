@@ -65,5 +65,5 @@ unfoldable pub decides : Part → Core → Bool → Frame → Core
 decides P c w f = decidesAt P c w (f .bits) f
 
 -- the bench that deselect leaves
-abbrev pub deselected : Part → Bool → Frame → FrameBench → FrameBench
-deselected P w f b = frameBench (decides P (b .core) w f) (b .memory) (b .identification)
+abbrev pub decidedIn : Part → Bool → Frame → FrameBench → FrameBench
+decidedIn P w f b = frameBench (decides P (b .core) w f) (b .memory) (b .identification)

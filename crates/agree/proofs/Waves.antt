@@ -12,7 +12,7 @@ use Rattle.chip.specs.Records.{waitsPage, waitsIdentification}
 use Rattle.chip.proofs.Within.{Within}
 use Rattle.chip.proofs.Passing.{timed-length}
 use Rattle.chip.proofs.Recounts.{timed-in-within}
-use Rattle.frames.specs.Play.{FrameBench, frameBench}
+use Rattle.frames.specs.Play.{FrameBench}
 use Rattle.timed_frames.specs.Acts.{TimedAct, send, reading, actedInTime}
 use Rattle.timed_frames.specs.declared.Mode.{Mode}
 use Rattle.timed_frames.specs.declared.Mode.the-variants as mode
@@ -28,7 +28,7 @@ use Rattle.pins.specs.Answers.{PinBench, pinBench}
 use Rattle.agree.specs.Drawings.{Item, Phase, between, inside, paused, sOf, cOf, holdOf, stays, Sendable, readingsAt, plan, Wave, data′, stay′, end′}
 use Rattle.agree.specs.Drawings.{clock′, protect′, reading′, select′, rise′, fall′, time′, deselect′, hold′, idle′, resume′}
 use Rattle.agree.specs.Reports.{Note, Report, report, watched, framesPlayed}
-use Rattle.agree.proofs.Ticks.{risenIn, fallenIn, shows, seenOf, endOf, metOf, decidesAt, decides, deselected}
+use Rattle.agree.proofs.Ticks.{risenIn, fallenIn, shows, seenOf, endOf, metOf, decidesAt, decides, decidedIn}
 
 -- a bench of the pin model: the device x but for its pins at these levels, held or not, its frame part and its record
 abbrev pub standing : Device → (s c d w hold held : Bool) → Frame → FrameBench → PinBench
@@ -61,7 +61,7 @@ module _ {A : Type 0} (look : Level → A) (note : Note A) (P : Part) (x : Devic
 
   -- what the plan leaves: its frame part decides at deselect
   abbrev pub leftOf : List Item → Bool → Frame → FrameBench → FrameBench
-  leftOf is w f b = deselected P w (endOf P is f b) (metOf P is b)
+  leftOf is w f b = decidedIn P w (endOf P is f b) (metOf P is b)
 
   -- the plan's account of a frame with the items is left, then the acts
   pub planThen : List Item → List TimedAct → Bool → Frame → FrameBench → List A → List (Report A)
@@ -166,11 +166,11 @@ module _ {A : Type 0} (look : Level → A) (note : Note A) (P : Part) (x : Devic
     says (fall′ r) = λ f b seen k. says r (fallenIn P b f) b seen k
     says (time′ t r) = λ f b seen k. says r f (actedInTime P (reading t) b) seen k
     says (deselect′ {l = false} {w = w} {ks = ks} r) = λ f b seen k.
-        ap (λ l. report seen (deselected P w f b) ∷ l) (says r noFrame (deselected P w f b) k)
-        ∙ ap (λ l. reportThen ks l (deselected P w f b)) (sym (append-nil seen))
+        ap (λ l. report seen (decidedIn P w f b) ∷ l) (says r noFrame (decidedIn P w f b) k)
+        ∙ ap (λ l. reportThen ks l (decidedIn P w f b)) (sym (append-nil seen))
     says (deselect′ {l = true} {w = w} {ks = ks} r) = λ f b seen k.
-        ap (λ l. report seen (deselected P w f b) ∷ l) (says r noFrame (deselected P w f b) k)
-        ∙ ap (λ l. reportThen ks l (deselected P w f b)) (sym (append-nil seen))
+        ap (λ l. report seen (decidedIn P w f b) ∷ l) (says r noFrame (decidedIn P w f b) k)
+        ∙ ap (λ l. reportThen ks l (decidedIn P w f b)) (sym (append-nil seen))
     says (hold′ r) = λ f b seen k. says r f b seen k
     says (idle′ {l = false} false r) = λ f b seen k. says r f b seen k
     says (idle′ {l = false} true r) = λ f b seen k. says r f b seen k

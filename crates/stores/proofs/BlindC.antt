@@ -1,7 +1,7 @@
 -- The calls for C on records and devices that are equal but for the number of blank cells, both numbers inside their range: the same numbers and values, and
 -- records that are equal but for the number. What is lent to them and their output are those of the calls of `BlindFrames`, `BlindRuns`, `BlindDevices` and
 -- `BlindTexts`.
-use mathlib.Core.Path.{_≡_, refl, ap, ap₂, sym, _∙_}
+use mathlib.Core.Path.{_≡_, refl, ap, ap₂, _∙_}
 use mathlib.Core.Bool.{Bool, true, false}
 use mathlib.Core.List.{List}
 use Prim.Native.Nat.{ℕ}

@@ -1,6 +1,6 @@
 -- The public calls of the pin model on devices that are equal but for the number of blank cells, both numbers inside their range: the same outcome, the same
 -- answer to each question, the same lent cells and the same output, and devices that are equal but for the number.
-use mathlib.Core.Path.{_≡_, refl, ap, ap₂, sym, _∙_}
+use mathlib.Core.Path.{_≡_, refl, ap, ap₂, _∙_}
 use mathlib.Core.Bool.{Bool, true, false, _&&_}
 use mathlib.Core.List.{List}
 use Prim.Native.Nat.{ℕ}
@@ -13,23 +13,21 @@ use Rattle.codes.specs.declared.Outcome.{Outcome}
 use Rattle.codes.specs.declared.Outcome.the-variants as outcome
 use Rattle.codes.specs.declared.Refusal.the-variants.{MemoryLength, RecordRange, OutputLength}
 use Rattle.chip.specs.Lents.{Lent}
-use Rattle.chip.specs.Records.{ownPart, status, waitsPage, waitsIdentification}
-use Rattle.chip.specs.Ranges.{inRanges}
+use Rattle.chip.specs.Records.{status}
 use Rattle.chip.specs.Touched.{touchedAnswer}
 use Rattle.chip.specs.Time.{lentFits}
-use Rattle.chip.specs.declared.Core.{Core}
 use Rattle.edges.specs.Ranges.{frameFits}
 use Rattle.edges.specs.declared.Level.{Level}
 use Rattle.pins.specs.declared.Device.{Device}
 use Rattle.pins.specs.declared.Event.{Event}
 use Rattle.pins.specs.declared.QAnswer.the-variants as q-answer
 use Rattle.pins.specs.declared.StatusAnswer.the-variants as status-answer
-use Rattle.pins.specs.Devices.{devicePart, q}
+use Rattle.pins.specs.Devices.{devicePart}
 use Rattle.pins.specs.Ranges.{pinsFit, heldFits, emptyFits, ranFits, deviceFits}
 use Rattle.pins.specs.Events.{stepped, steppedCells}
 use Rattle.pins.specs.Answers.{recordOutcome, memoryOutcome, answer, answerMemory, qAnswer, statusAnswer, played}
 use Rattle.events.specs.Events.{areEvents}
-use Rattle.lists.specs.Answers.{playOutcome, playAnswer, playMemory, playIdentification, playOutput, playedQ, benchWith}
+use Rattle.lists.specs.Answers.{playOutcome, playAnswer, playMemory, playIdentification, playOutput, benchWith}
 use Rattle.stores.specs.Blind.{Alike, unnumbered, DeviceEqualBut, DeviceAlike, PinBenchEqualBut}
 use Rattle.stores.proofs.BlindFrames.{ranges-blind}
 use Rattle.stores.proofs.BlindPins.{event-blind, event-cells-blind, q-blind, events-blind, events-q-blind}

@@ -1,6 +1,6 @@
 -- Of records that are equal but for the number of blank cells every rule of the record and of the frame model gives what is equal but for it: the ranges
 -- (with both numbers inside theirs), the questions, a reading, a frame with its output, a poll, and any list of frames and readings.
-use mathlib.Core.Path.{_≡_, refl, ap, ap₂, sym, _∙_}
+use mathlib.Core.Path.{_≡_, ap, ap₂, sym, _∙_}
 use mathlib.Core.Bool.{Bool, true, false}
 use mathlib.Core.List.{List, [], _∷_}
 use Prim.Native.Nat.{ℕ}

@@ -1,7 +1,7 @@
 -- Of devices that are equal but for the number of blank cells every event gives what is equal but for it, with the same Q and the same lent cells; so does any
 -- list of events.
 use mathlib.Core.Path.{_≡_, refl, ap, ap₂, sym, _∙_}
-use mathlib.Core.Bool.{Bool, true, false, _&&_}
+use mathlib.Core.Bool.{Bool, false, _&&_}
 use mathlib.Core.List.{List, [], _∷_}
 use Prim.Native.Nat.{ℕ, _+_}
 use lib.Dec.{eqb, leb, ltb}
@@ -17,7 +17,6 @@ use Rattle.chip.specs.declared.Core.{Core}
 use Rattle.chip.specs.declared.Waiting.{Waiting}
 use Rattle.chip.specs.Lents.{Lent}
 use Rattle.chip.specs.Records.{running, waitsPage, waitsIdentification, withBlank}
-use Rattle.chip.specs.Blanks.{EqualBut}
 use Rattle.chip.specs.Time.{timed}
 use Rattle.chip.proofs.Recounts.{effect-renumbered, timed-renumbered, timed-cells-equal}
 use Rattle.edges.specs.declared.Frame.{Frame}

@@ -1,12 +1,12 @@
 -- The driver from benches that are equal but for the number of blank cells: it sends the same frames, answers the same, and leaves the same but for the
 -- number.
-use mathlib.Core.Path.{_≡_, refl, ap, ap₂, sym, _∙_}
+use mathlib.Core.Path.{_≡_, refl, ap, ap₂, _∙_}
 use mathlib.Core.Bool.{Bool}
 use mathlib.Core.List.{List, [], _∷_, _++_}
 use Prim.Native.Nat.{ℕ, zero, suc, _+_, _-_}
 use lib.Dec.{eqb, leb}
 use lib.ListN.{length}
-use Rattle.laws.specs.Pick.{pick, pick-cong}
+use Rattle.laws.specs.Pick.{pick}
 use Rattle.codes.specs.Part.{Part}
 use Rattle.codes.specs.Refusals.{isDone}
 use Rattle.codes.specs.declared.Outcome.{Outcome}

@@ -1,7 +1,7 @@
 -- The calls on texts with records and players that are equal but for the number of blank cells: export and import of an image, a chunk of a trace text and
 -- its end. Import hands back the same number, counted afresh.
 use mathlib.Core.Path.{_≡_, refl, ap, ap₂, sym, subst, _∙_}
-use mathlib.Core.Bool.{Bool, true, false, not, _&&_}
+use mathlib.Core.Bool.{Bool, true, false, _&&_}
 use mathlib.Core.List.{List, _++_}
 use Prim.Native.Nat.{ℕ, _+_}
 use lib.Dec.{eqb, leb}
@@ -10,14 +10,13 @@ use Rattle.laws.specs.Pick.{pick}
 use Rattle.codes.specs.Part.{Part}
 use Rattle.codes.specs.declared.Refusal.the-variants.{MemoryLength, RecordRange, OutputLength}
 use Rattle.chip.specs.Lents.{Lent}
-use Rattle.chip.specs.Records.{ownPart, running, withBlank}
+use Rattle.chip.specs.Records.{ownPart, withBlank}
 use Rattle.chip.specs.Ranges.{inRanges}
 use Rattle.chip.specs.Blanks.{blanks, EqualBut}
 use Rattle.chip.specs.Time.{lentFits}
 use Rattle.chip.specs.declared.Core.{Core}
 use Rattle.hex.specs.declared.HexReply.the-variants.{Done, NotTaken, Refused}
 use Rattle.hex.specs.declared.Imported.{Imported}
-use Rattle.hex.specs.Reading.{isGood}
 use Rattle.hex.specs.Writing.{imageText, imageRoom}
 use Rattle.hex.specs.Answers.{imaged, exportReply, exportOutput, takes, importedCells, importedTo, importAnswer, importMemory}
 use Rattle.pins.specs.declared.Device.{Device}

@@ -1,6 +1,6 @@
 -- A call that is given a record with the right number of blank cells for its memory hands one back: each call that is lent the memory, any list of frames
 -- and readings, with readings inside the frames too, any list of events, a driver's run, import, power-up, a chunk of a text.
-use mathlib.Core.Path.{_≡_, refl, ap, sym, _∙_}
+use mathlib.Core.Path.{_≡_, refl, sym, _∙_}
 use mathlib.Core.Bool.{Bool, true, false, true≢false}
 use mathlib.Core.List.{List, [], _∷_}
 use Prim.Native.Nat.{ℕ}

@@ -2,10 +2,10 @@
 -- at 0 are readings before the frame.
 use Prim.Native.Nat.{ℕ, zero, suc, _+_, _-_, _/_, _≤_}
 use mathlib.Core.Bool.{Bool, true, false}
-use mathlib.Core.List.{List, [], _∷_}
+use mathlib.Core.List.{List}
 use mathlib.Core.Path.{_≡_, refl, ap, ap₂, sym, _∙_, fun-ext}
 use native.Mathlib.Omega.{arith}
-use lib.Dec.{leb, eqb}
+use lib.Dec.{leb}
 use lib.ListN.{length, getD, take, drop}
 use borrow.Author.Tests.{le-leb, eq-eqb}
 use Rattle.laws.specs.Pick.{pick, at-yes, at-no}
@@ -19,7 +19,7 @@ use Rattle.codes.specs.declared.Instruction.the-variants.{Rdsr}
 use Rattle.chip.specs.Cells.{memoryCells, identificationCells}
 use Rattle.chip.specs.Records.{running, status, lockByte}
 use Rattle.chip.specs.declared.Core.{Core}
-use Rattle.chip.proofs.Within.{Within, within, in-ranges}
+use Rattle.chip.proofs.Within.{within, in-ranges}
 use Rattle.chip.proofs.Readings.{lent-both, lent-memory, lent-identification}
 use Rattle.fields.specs.Bytes.{instruction, address}
 use Rattle.shown.specs.Shown.{Sights, sights, byteOut, paddedAt, output, undriven}
@@ -27,14 +27,13 @@ use Rattle.frames.specs.After.{after}
 use Rattle.frames.specs.Answers.{frameOutcome, frameReply, framed, framedOutput}
 use Rattle.frames.specs.declared.FrameReply.the-variants.{Shown}
 use Rattle.frames.specs.Play.{FrameBench, frameBench}
-use Rattle.frames.proofs.Outcomes.{Taken, taken}
+use Rattle.frames.proofs.Outcomes.{taken}
 use Rattle.timed_frames.specs.Schedules.{due, passed, benchAt}
-use Rattle.timed_frames.specs.InTime.{isRdsr, loadedAt, ranIn, sightsIn, lastOf, leftBy}
+use Rattle.timed_frames.specs.InTime.{isRdsr, loadedAt, sightsIn, lastOf, leftBy}
 use Rattle.timed_frames.specs.Walked.{statusesOver}
 use Rattle.timed_frames.specs.declared.Mode.{Mode}
-use Rattle.timed_frames.specs.declared.Mode.the-variants.{Zero, Three}
 use Rattle.timed_frames.proofs.Walks.{due-add, walk-on, loaded-late}
-use Rattle.timed_frames.proofs.Calm.{Calm, calm-at, hushed}
+use Rattle.timed_frames.proofs.Calm.{calm-at, hushed}
 use Rattle.timed_frames.proofs.Passed.{passed-within, passed-length}
 
 -- ---- a frame that is not refused, of the plain call

@@ -15,7 +15,6 @@ use Rattle.fields.specs.Bytes.{instruction}
 use Rattle.shown.specs.Shown.{sights, output, undriven}
 use Rattle.frames.specs.After.{after}
 use Rattle.frames.specs.Answers.{frameOutcome, frameReply, framed, framedOutput}
-use Rattle.frames.specs.declared.Framed.{Framed}
 use Rattle.frames.specs.Play.{FrameBench}
 use Rattle.timed_frames.specs.Schedules.{due, passed, rising}
 use Rattle.timed_frames.specs.InTime.{leftBy}

@@ -1,5 +1,5 @@
 -- The whole call: a refused one is the plain call's refusal, one that is done is the frame after the readings at 0.
-use Prim.Native.Nat.{ℕ, _+_, _*_, _-_, _<_, _≤_}
+use Prim.Native.Nat.{ℕ, _*_, _-_, _≤_}
 use mathlib.Core.Bool.{Bool, true, false, _&&_, and-true, true≢false}
 use mathlib.Core.List.{List}
 use mathlib.Core.Path.{_≡_, refl, ap, ap₂, sym, _∙_}
@@ -23,7 +23,6 @@ use Rattle.fields.specs.Bytes.{instruction}
 use Rattle.fields.specs.Counts.{bitsFit, longestFrame}
 use Rattle.shown.specs.Shown.{output, undriven}
 use Rattle.frames.specs.Answers.{frameOutcome, frameReply, frameReplyNumber, framed, framedOutput}
-use Rattle.frames.specs.declared.FrameReply.{FrameReply}
 use Rattle.frames.specs.declared.FrameReply.the-variants.{Shown}
 use Rattle.frames.specs.declared.Framed.{Framed}
 use Rattle.frames.specs.Play.{FrameBench, frameBench}

@@ -1,6 +1,6 @@
 -- Clock readings inside a frame, as document 02, Item 12, has them: a list of byte positions and a list of readings.
 -- Position k is after k whole bytes: 0 after select, before the first edge.
-use Prim.Native.Nat.{ℕ, zero, suc, _/_}
+use Prim.Native.Nat.{ℕ, suc, _/_}
 use mathlib.Core.Bool.{Bool, true, _&&_}
 use mathlib.Core.List.{List, [], _∷_}
 use lib.Dec.{eqb, leb, ltb}
