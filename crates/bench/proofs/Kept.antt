@@ -1,9 +1,10 @@
--- An answer crosses to C as its number and its values, and nothing of it is lost: from these it is put together again. Records cross as they are.
+-- An answer crosses to C as its number and its values, and nothing of it is lost: from these it is put together again. Records cross as they are. A mode
+-- comes over as its number, and both modes do.
 use mathlib.Core.Path.{_≡_, refl, ap, _∙_}
-use mathlib.Core.Bool.{false}
+use mathlib.Core.Bool.{false, and-true}
 use Prim.Native.Nat.{ℕ, _≤_}
 use native.Mathlib.Omega.{arith}
-use lib.Dec.{eqb}
+use lib.Dec.{eqb, leb}
 use borrow.Author.Tests.{ne-eqb}
 use Rattle.laws.specs.Pick.{pick, at-yes, at-no}
 use Rattle.codes.specs.Refusals.{refusalNumber, number}
@@ -19,6 +20,9 @@ use Rattle.chip.specs.declared.Protection.the-variants as protection
 use Rattle.frames.specs.Answers as frames
 use Rattle.frames.specs.declared.FrameReply as frame-answer
 use Rattle.frames.specs.declared.FrameReply.the-variants as frame
+use Rattle.timed_frames.specs.declared.Mode.{Mode}
+use Rattle.timed_frames.specs.declared.Mode.the-variants as mode
+use Rattle.bench.specs.Calls.{timedTaken, modeOf}
 use Rattle.chip.specs.Touched.{touchedNumber, touchedValue}
 use Rattle.chip.specs.declared.Touched.{Touched}
 use Rattle.chip.specs.declared.Touched.the-variants as touched
@@ -117,6 +121,23 @@ frameOf n u = pick (eqb n 0) (frame.Shown u) (frame.Refused (refusalOf n))
 pub frame-kept : (x : frame-answer.FrameReply) → frameOf (frames.frameReplyNumber x) (frames.frameReplyUndriven x) ≡ x
 frame-kept (frame.Shown u) = at-yes _ _ refl
 frame-kept (frame.Refused r) = at-no _ _ (not-done r) ∙ ap frame.Refused (refusal-kept r)
+
+-- ---- a mode by its number
+
+abbrev pub modeNumber : Mode → ℕ
+modeNumber mode.Zero = 0
+modeNumber mode.Three = 3
+
+pub mode-kept : (o : Mode) → modeOf (modeNumber o) ≡ o
+mode-kept mode.Zero = at-no _ _ refl
+mode-kept mode.Three = at-yes _ _ refl
+
+-- so that W alone says whether the call is taken
+pub mode-taken : (w : ℕ) (o : Mode) → timedTaken w (modeNumber o) ≡ leb w 1
+mode-taken w mode.Zero = and-true (leb w 1)
+mode-taken w mode.Three = and-true (leb w 1)
+
+-- ---- Q and the questions, the driver, HEX texts
 
 abbrev pub levelOf : ℕ → Level
 levelOf v = pick (eqb v 0) Zero (pick (eqb v 1) One Z)

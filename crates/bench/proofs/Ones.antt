@@ -39,6 +39,8 @@ use Rattle.bench.proofs.core_calls.cartvesper_clock_reading.Kinds as cl
 use Rattle.bench.proofs.core_calls.cartvesper_clock_reading.Reads as clock-reading-reads
 use Rattle.bench.proofs.frame_call.cartvesper_frame.Kinds as frame
 use Rattle.bench.proofs.frame_call.cartvesper_frame.Reads as frame-reads
+use Rattle.bench.proofs.timed_call.cartvesper_timed_frame.Kinds as timed-frame
+use Rattle.bench.proofs.timed_call.cartvesper_timed_frame.Reads as timed-frame-reads
 use Rattle.bench.proofs.device_calls.cartvesper_device_read_clock.Kinds as device-read-clock
 use Rattle.bench.proofs.device_calls.cartvesper_device_read_clock.Reads as device-read-clock-reads
 use Rattle.bench.proofs.device_calls.cartvesper_device_play.Kinds as device-play
@@ -123,6 +125,18 @@ frame-one κs a z z′ e e′ p q = same (p .0) (q .0)
 
 pub frame-output : OneExit frame.ps frame.r frame-reads.Post (λ κs e. now (e .1 .1 .1 .1 .1 .1 .0))
 frame-output κs a z z′ e e′ p q = same (p .1) (q .1)
+
+pub timed-frame-one : OneResult timed-frame.ps timed-frame.r timed-frame-reads.Post
+timed-frame-one κs a z z′ e e′ p q = same (p .0) (q .0)
+
+pub timed-frame-memory : OneExit timed-frame.ps timed-frame.r timed-frame-reads.Post (λ κs e. now (e .1 .0))
+timed-frame-memory κs a z z′ e e′ p q = same (p .1 .0) (q .1 .0)
+
+pub timed-frame-identification : OneExit timed-frame.ps timed-frame.r timed-frame-reads.Post (λ κs e. now (e .1 .1 .0))
+timed-frame-identification κs a z z′ e e′ p q = same (p .1 .1 .0) (q .1 .1 .0)
+
+pub timed-frame-output : OneExit timed-frame.ps timed-frame.r timed-frame-reads.Post (λ κs e. now (e .1 .1 .1 .1 .1 .1 .1 .1 .1 .0))
+timed-frame-output κs a z z′ e e′ p q = same (p .1 .1 .1) (q .1 .1 .1)
 
 pub device-read-clock-one : OneResult device-read-clock.ps device-read-clock.r device-read-clock-reads.Post
 device-read-clock-one κs a z z′ e e′ p q = same (p .0) (q .0)

@@ -1,6 +1,6 @@
 -- What each call for C answers, for every number that C may hand over.
 use Prim.Native.Nat.{ℕ}
-use mathlib.Core.Bool.{Bool, _&&_}
+use mathlib.Core.Bool.{Bool, _&&_, _||_}
 use mathlib.Core.List.{List}
 use lib.ListN.{length}
 use lib.Dec.{eqb, leb}
@@ -20,6 +20,9 @@ use Rattle.chip.specs.declared.Core.{Core}
 use Rattle.bench.specs.declared.CoreAnswer.{CoreAnswer}
 use Rattle.bench.specs.declared.LatchAnswer.{LatchAnswer}
 use Rattle.frames.specs.Answers.{framed, framedOutput, frameReplyNumber, frameReplyUndriven}
+use Rattle.timed_frames.specs.Answers.{framedInTime, inTimeLeft, outputInTime}
+use Rattle.timed_frames.specs.declared.Mode.{Mode}
+use Rattle.timed_frames.specs.declared.Mode.the-variants.{Zero, Three}
 use Rattle.pins.specs.declared.Device.{Device}
 use Rattle.pins.specs.Devices.{resting}
 use Rattle.pins.specs.Ranges.{deviceFits}
@@ -90,6 +93,33 @@ frameCall P c m d w s n room =
 
 abbrev pub frameCallOutput : Part → Core → List ℕ → List ℕ → ℕ → List ℕ → ℕ → List ℕ → List ℕ
 frameCallOutput P c m d w s n out = pick (leb w 1) (framedOutput P c m d s n out) out
+
+-- the frame with clock readings inside it: W is a level, and the mode's number is 0 or 3. Any other is outside the
+-- ranges, as a level of 2 is
+abbrev pub timedTaken : ℕ → ℕ → Bool
+timedTaken w o = leb w 1 && (eqb o 0 || eqb o 3)
+
+abbrev pub modeOf : ℕ → Mode
+modeOf o = pick (eqb o 3) Three Zero
+
+abbrev pub timedCall : Part → Core → Lent → ℕ → ℕ → List ℕ → ℕ → List ℕ → List ℕ → ℕ → FrameAnswer
+timedCall P c m w o s n ps ts room =
+    let r = framedInTime P c m (on w) s n ps ts room in
+    pick (timedTaken w o)
+    (frameAnswer (frameReplyNumber (r .answer)) (frameReplyUndriven (r .answer)) (r .core))
+    (frameAnswer (badLevel P (length (m .memory)) (length (m .identification))) 0 c)
+
+abbrev pub timedCallMemory : Part → Core → Lent → ℕ → ℕ → List ℕ → ℕ → List ℕ → List ℕ → ℕ → List ℕ
+timedCallMemory P c m w o s n ps ts room =
+    pick (timedTaken w o) (inTimeLeft P c m (on w) s n ps ts room .memory) (m .memory)
+
+abbrev pub timedCallIdentification : Part → Core → Lent → ℕ → ℕ → List ℕ → ℕ → List ℕ → List ℕ → ℕ → List ℕ
+timedCallIdentification P c m w o s n ps ts room =
+    pick (timedTaken w o) (inTimeLeft P c m (on w) s n ps ts room .identification) (m .identification)
+
+abbrev pub timedCallOutput : Part → Core → Lent → ℕ → ℕ → List ℕ → ℕ → List ℕ → List ℕ → List ℕ → List ℕ
+timedCallOutput P c m w o s n ps ts out =
+    pick (timedTaken w o) (outputInTime P c m (modeOf o) s n ps ts out) out
 
 -- ---- the pin model
 

@@ -10,6 +10,7 @@ mod frame_call;
 mod hex_calls;
 mod lay_call;
 mod part_calls;
+mod timed_call;
 
 use chip::Core;
 use latch::Latch;
