@@ -39,10 +39,10 @@ extern "C" {
 enum {
     CARTVESPER_DONE = 0,
     CARTVESPER_MEMORY_LENGTH = 1, /* memory or identification page not of the part's length; at power-up too */
-    CARTVESPER_RECORD_RANGE = 2,  /* record, part, level or flag outside its range, or no event; also a number of blank
-                                     cells above the memory's size */
+    CARTVESPER_RECORD_RANGE = 2,  /* record, part, level, flag or mode outside its range, or no event; also a number of
+                                     blank cells above the memory's size */
     CARTVESPER_FRAME_LENGTH = 3,  /* slice above the memory's size plus 4 bytes */
-    CARTVESPER_BIT_COUNT = 4,     /* bit count doesn't fit the slice */
+    CARTVESPER_BIT_COUNT = 4,     /* bit count doesn't fit the slice; of a timed frame also lists that don't fit */
     CARTVESPER_OUTPUT_LENGTH = 5, /* output length differs */
     CARTVESPER_CYCLE_LENGTH = 6,  /* cycle length not 1 to the part's longest */
     CARTVESPER_ADDRESS_RANGE = 7, /* address + length above the memory's size, no such address, or no part k */
@@ -125,6 +125,9 @@ enum { CARTVESPER_LOCK_ADDRESS = 0x400, CARTVESPER_LOCK_DATA = 0x02 };
 
 /* The value of Q where it is not driven. */
 enum { CARTVESPER_Z = 2 };
+
+/* The SPI mode of a timed frame. */
+enum { CARTVESPER_MODE0 = 0, CARTVESPER_MODE3 = 3 };
 
 /* The kinds of events in a list. */
 enum {
@@ -280,6 +283,22 @@ cartvesper_core_answer cartvesper_clock_reading(cartvesper_core core, uint32_t r
 cartvesper_frame_answer cartvesper_frame(cartvesper_core core, const uint8_t *memory, size_t size,
                                          const uint8_t *identification, size_t cells, uint8_t w, const uint8_t *bytes,
                                          size_t length, size_t bits, uint8_t *out, size_t room);
+/* A whole frame with clock readings inside it: a poll that sits on RDSR sees the cycle end. Reading i comes at position
+ * positions[i], after that many whole bytes: from 0, after select and before the first clock, to bits / 8, before S
+ * rises. Positions rise or stay; those that are equal come in the list's order.
+ *   Output byte k of RDSR is the status as it was when that byte was loaded. In mode 0 that is before the readings at
+ *   position k, in mode 3 after them.
+ *   Whether a cycle runs is judged at the eighth clock, in both modes after the readings at 0 and before those at 1. So
+ *   an instruction that a cycle stops is ignored where the cycle ends at 1 or later. WEL, BP1, BP0, SRWD and the lock
+ *   are judged at deselect, after all readings.
+ * A reading may store what waits, so both slices are lent to be written. 2 also for a mode that is not CARTVESPER_MODE0
+ * or CARTVESPER_MODE3. 4 also for lists of unequal length (places, times) and for a position that falls or is above
+ * bits / 8. With no readings it answers as cartvesper_frame does, in either mode. */
+cartvesper_frame_answer cartvesper_timed_frame(cartvesper_core core, uint8_t *memory, size_t size,
+                                               uint8_t *identification, size_t cells, uint8_t w, uint8_t mode,
+                                               const uint8_t *bytes, size_t length, size_t bits,
+                                               const size_t *positions, size_t places, const uint32_t *readings,
+                                               size_t times, uint8_t *out, size_t room);
 /* number 0 and value 1 where the record is inside its ranges, else number 2 */
 cartvesper_value cartvesper_core_in_ranges(cartvesper_core core);
 /* the status byte */

@@ -111,6 +111,10 @@ static struct {
     uint64_t gained, lost, rewritten;         /* marked cells at a page cycle's end: became FFh, were FFh, stayed FFh */
     uint64_t at_zero, at_size;                /* page cycles' ends whose sum was held at 0, at the memory's size */
     uint64_t scanned, twins;                  /* numbers of blank cells seen to be right; calls with two numbers */
+    uint64_t timed, inside, wraps, unfit;     /* timed frames; their readings, wraps between them; lists that got 4 */
+    uint64_t ended_at[3];                     /* cycles that ended inside one: at position 0, between, at the last */
+    uint64_t seen;                            /* RDSR frames that showed WIP 1, and at their end 0 */
+    uint64_t timed_drawn[2], drawn_ends[2];   /* drawn at the pins, in mode 0 and 3; in which a cycle ended */
     uint64_t of_part[PLAIN_PARTS];            /* frames ended, by the part: those of the frame model and at the pins */
     uint64_t numbers[14];                     /* answers by their number */
 } counts;
@@ -187,9 +191,21 @@ typedef struct {
     size_t length;
     const uint64_t *events;
     size_t count;
+    int timed; /* with the schedule's readings */
 } call_in_hand;
 
 static call_in_hand hand;
+
+/* the readings inside the timed frame in hand, and how long its two lists are said to be */
+enum { PLACES = 64 };
+
+typedef struct {
+    size_t positions[PLACES + 1], places;
+    uint32_t readings[PLACES + 1];
+    size_t times;
+} lists;
+
+static lists schedule, schedule_kept;
 
 static void begin_call(const cartvesper_core *core, const cartvesper_device *device, const char *format, ...)
 {
@@ -203,10 +219,22 @@ static void begin_call(const cartvesper_core *core, const cartvesper_device *dev
     hand.has_latches = 0;
     hand.bytes = NULL;
     hand.events = NULL;
+    hand.timed = 0;
     va_start(values, format);
     vsnprintf(hand.call, sizeof hand.call, format, values);
     va_end(values);
     counts.calls++;
+}
+
+static void print_schedule(void)
+{
+    printf("  positions:");
+    for (size_t i = 0; i < schedule.places; i++)
+        printf(" %zu", schedule.positions[i]);
+    printf("\n  readings:");
+    for (size_t i = 0; i < schedule.times; i++)
+        printf(" %" PRIu32, schedule.readings[i]);
+    printf("\n");
 }
 
 static void print_hand(const char *what)
@@ -221,6 +249,8 @@ static void print_hand(const char *what)
         printf("  earlier:\n"), print_latch(&hand.earlier), printf("  later:\n"), print_latch(&hand.later);
     if (hand.bytes)
         printf("  bytes:\n      "), print_bytes(hand.bytes, hand.length);
+    if (hand.timed)
+        print_schedule();
     if (hand.events)
         printf("  events (kind.value):\n");
     for (size_t i = 0; hand.events && i < hand.count; i++)
@@ -663,6 +693,18 @@ static size_t output_span(size_t length, size_t room)
 /* a library that wrote the frame's bytes would be seen here */
 static uint8_t frame_bytes_kept[LONGEST + 3];
 
+static void compare_framed(const cartvesper_core *given, const cartvesper_frame_answer *lib,
+                           const cartvesper_frame_answer *plain, size_t length, size_t span)
+{
+    compare_numbers("the number", lib->number, plain->number);
+    compare_numbers("the undriven count", lib->undriven, plain->undriven);
+    compare_cores("the record", &lib->core, &plain->core);
+    compare_bytes("the output (or beside it)", lib_out.before, plain_out.before, span, GUARD);
+    compare_bytes("the frame's own bytes", frame_bytes, frame_bytes_kept, length, 0);
+    compare_memory();
+    check_core(lib->number, given, &lib->core);
+}
+
 static uint32_t try_frame(cartvesper_core *core, lengths lent, uint8_t w, size_t length, size_t bits, size_t room)
 {
     cartvesper_core given = *core;
@@ -677,13 +719,7 @@ static uint32_t try_frame(cartvesper_core *core, lengths lent, uint8_t w, size_t
                                                    length, bits, or_null(lib_out.bytes, room), room);
     cartvesper_frame_answer plain = plain_frame_call(given, LENT(plain_memory, lent), w, or_null(frame_bytes, length),
                                                      length, bits, or_null(plain_out.bytes, room), room);
-    compare_numbers("the number", lib.number, plain.number);
-    compare_numbers("the undriven count", lib.undriven, plain.undriven);
-    compare_cores("the record", &lib.core, &plain.core);
-    compare_bytes("the output (or beside it)", lib_out.before, plain_out.before, span, GUARD);
-    compare_bytes("the frame's own bytes", frame_bytes, frame_bytes_kept, length, 0);
-    compare_memory();
-    check_core(lib.number, &given, &lib.core);
+    compare_framed(&given, &lib, &plain, length, span);
     counts.frames++;
     compare_numbers("blank cells after a frame (second: wanted)", lib.core.blank, given.blank);
     counts.driven += lib.number == 0 ? bits - lib.undriven : 0;
@@ -692,6 +728,72 @@ static uint32_t try_frame(cartvesper_core *core, lengths lent, uint8_t w, size_t
         count_frame_end(&given, &lib.core, bits, lib.undriven < bits);
     *core = lib.core;
     try_core_touched(core);
+    return lib.number;
+}
+
+/* both lists as four arguments */
+#define SCHEDULE                                                                                                       \
+    or_null(schedule.positions, schedule.places), schedule.places, or_null(schedule.readings, schedule.times),         \
+        schedule.times
+
+/* which reading of the schedule ends the cycle that the record is in, or how many there are */
+static size_t ending(const cartvesper_core *core)
+{
+    uint32_t left = core->left, last = core->last;
+    for (size_t i = 0; i < schedule.places; i++) {
+        uint32_t elapsed = schedule.readings[i] - last;
+        if (elapsed >= left)
+            return i;
+        left -= elapsed;
+        last = schedule.readings[i];
+    }
+    return schedule.places;
+}
+
+/* a timed frame that was done: where its cycle ended, and whether a poll saw it */
+static void count_timed(const cartvesper_core *before, size_t length, size_t bits)
+{
+    size_t end = before->left > 0 ? ending(before) : schedule.places;
+    counts.inside += schedule.places;
+    for (size_t i = 1; i < schedule.places; i++)
+        counts.wraps += schedule.readings[i] < schedule.readings[i - 1];
+    if (end == schedule.places)
+        return;
+    counts.ended_at[schedule.positions[end] == 0 ? 0 : schedule.positions[end] < bits / 8 ? 1 : 2]++;
+    if (length > 2 && frame_bytes[0] == RDSR)
+        counts.seen += (lib_out.bytes[1] & 1) && !(lib_out.bytes[length - 1] & 1);
+}
+
+static uint32_t try_timed(cartvesper_core *core, lengths lent, uint8_t w, uint8_t mode, size_t length, size_t bits,
+                          size_t room)
+{
+    uint8_t page[CELLS];
+    cartvesper_core given = *core;
+    size_t span = output_span(length, room);
+    begin_call(&given, NULL, "timed frame of %zu bytes, %zu bits, w %d, mode %d, room %zu, memory %zu, page %zu",
+               length, bits, w, mode, room, lent.size, lent.cells);
+    hand.bytes = frame_bytes;
+    hand.length = length;
+    hand.timed = 1;
+    keep_page(page, &given);
+    stale_outputs(span);
+    memcpy(frame_bytes_kept, frame_bytes, length);
+    memcpy(&schedule_kept, &schedule, sizeof schedule); /* padding too */
+    cartvesper_frame_answer lib =
+        cartvesper_timed_frame(given, LENT(lib_memory, lent), w, mode, or_null(frame_bytes, length), length, bits,
+                               SCHEDULE, or_null(lib_out.bytes, room), room);
+    cartvesper_frame_answer plain =
+        plain_timed_frame_call(given, LENT(plain_memory, lent), w, mode, or_null(frame_bytes, length), length, bits,
+                               SCHEDULE, or_null(plain_out.bytes, room), room);
+    compare_framed(&given, &lib, &plain, length, span);
+    compare_bytes("the lists", (uint8_t *)&schedule, (uint8_t *)&schedule_kept, sizeof schedule, 0);
+    counts.timed++;
+    if (lib.number == 0) {
+        count_cycle_end(&given, &lib.core, page);
+        check_blank(&given, &lib.core, page);
+        count_timed(&given, length, bits);
+    }
+    *core = lib.core;
     return lib.number;
 }
 
@@ -1131,6 +1233,79 @@ static void frame_step(cartvesper_core *core)
     uint8_t w = percent(2) ? (uint8_t)random32() : percent(70);
     size_t count = percent(2) ? bits + 8 - below(17) : bits;
     try_frame(core, random_lengths(core->part, 2), w, length, percent(1) ? random32() : count, off_by_one(length, 2));
+}
+
+/* ---- timed frames */
+
+/* for a frame of so many bits: positions that rise or stay, and readings that aim at the cycle's end as it stands after
+ * those before them */
+static void random_schedule(const cartvesper_core *core, size_t bits)
+{
+    cartvesper_core aim = *core;
+    size_t most = bits / 8, at = 0;
+    schedule.places = schedule.times = percent(15) ? 0 : percent(10) ? below(PLACES + 1) : 1 + below(4);
+    for (size_t i = 0; i < schedule.places; i++) {
+        if (percent(75))
+            at += below(percent(70) && most - at > 3 ? 4 : (uint32_t)(most - at) + 1);
+        uint32_t reading = random_reading(&aim), elapsed = reading - aim.last;
+        aim.left = elapsed >= aim.left ? 0 : aim.left - elapsed;
+        aim.last = reading;
+        schedule.positions[i] = at;
+        schedule.readings[i] = reading;
+    }
+}
+
+/* one thing that gets 4: lists of unequal length, a position beyond the frame's whole bytes, one that falls */
+static void spoil_schedule(size_t bits)
+{
+    const size_t beyond[] = {bits / 8 + 1, bits / 8 + 2, SIZE_MAX, (size_t)1 << 32, (size_t)1 << 63};
+    size_t at = schedule.places ? below((uint32_t)schedule.places) : 0;
+    uint32_t kind = below(3);
+    if (kind == 0 || schedule.places == 0)
+        schedule.times = schedule.places == 0 || (schedule.places < PLACES && percent(50)) ? schedule.places + 1
+                                                                                           : schedule.places - 1;
+    else if (kind == 1 || schedule.places == 1 || bits < 8)
+        schedule.positions[at] = beyond[below(5)];
+    else {
+        at += at == 0;
+        schedule.positions[at - 1] = 1 + below((uint32_t)(bits / 8));
+        schedule.positions[at] = schedule.positions[at - 1] - 1;
+    }
+}
+
+/* a random frame; many are polls of some length */
+static size_t random_timed_frame(uint8_t part, size_t *bits)
+{
+    size_t length = random_frame(part, bits, below(400) == 0);
+    if (!percent(30))
+        return length;
+    length = 2 + below(20);
+    random_bytes(frame_bytes, length);
+    frame_bytes[0] = RDSR;
+    *bits = 8 * length - (percent(30) ? below(8) : 0);
+    return length;
+}
+
+static void timed_step(cartvesper_core *core)
+{
+    static const uint8_t others[] = {1, 2, 4, 255};
+    const lengths lent = random_lengths(core->part, 2);
+    size_t bits, length = random_timed_frame(core->part, &bits), room = off_by_one(length, 2);
+    uint8_t w = percent(2) ? (uint8_t)random32() : percent(70), mode = percent(50) ? 0 : 3;
+    random_schedule(core, bits);
+    if (percent(3))
+        mode = percent(70) ? others[below(4)] : (uint8_t)random32();
+    if (percent(2))
+        try_timed(core, lent, w, mode, length, percent(50) ? random32() : bits + 8 - below(17), room);
+    else if (!percent(10))
+        try_timed(core, lent, w, mode, length, bits, room);
+    else {
+        spoil_schedule(bits);
+        uint32_t number = try_timed(core, lent, w, mode, length, bits, room);
+        if (number == 0 || number > 4)
+            fail_numbers("lists that do not fit (second: wanted, or 1, 2, 3)", number, 4);
+        counts.unfit += number == 4;
+    }
 }
 
 /* frames at the limits of the slice, several refusals at once */
@@ -1986,6 +2161,12 @@ static void try_core_calls(const cartvesper_core *core)
     try_frame(&copy, random_lengths(core->part, 20), (uint8_t)(percent(10) ? random32() : below(2)), length,
               off_by_one(bits, 20), off_by_one(length, 20));
     copy = *core;
+    random_schedule(core, bits);
+    if (percent(20))
+        spoil_schedule(bits);
+    try_timed(&copy, random_lengths(core->part, 20), (uint8_t)(percent(10) ? random32() : below(2)),
+              (uint8_t)(percent(10) ? random32() : 3 * below(2)), length, off_by_one(bits, 20), off_by_one(length, 20));
+    copy = *core;
     try_reading(&copy, random_reading(core), random_lengths(core->part, 20));
     copy = *core;
     random_write(&copy, 20);
@@ -2669,6 +2850,28 @@ static void twin_frames(cartvesper_core core, cartvesper_core twin)
     compare_memory();
 }
 
+static void twin_timed(cartvesper_core core, cartvesper_core twin)
+{
+    const lengths lent = random_lengths(core.part, 5);
+    size_t bits, length = random_timed_frame(core.part, &bits), room = off_by_one(length, 5);
+    uint8_t w = (uint8_t)below(2), mode = percent(50) ? 0 : 3;
+    random_schedule(&core, bits);
+    begin_call(&core, NULL, "timed frame of %zu bits, its twin with %" PRIu32 " blank cells", bits, twin.blank);
+    hand.bytes = frame_bytes;
+    hand.length = length;
+    hand.timed = 1;
+    stale_outputs(output_span(length, room));
+    cartvesper_frame_answer one = cartvesper_timed_frame(core, LENT(lib_memory, lent), w, mode, frame_bytes, length,
+                                                         bits, SCHEDULE, lib_out.bytes, room);
+    cartvesper_frame_answer other = cartvesper_timed_frame(twin, LENT(plain_memory, lent), w, mode, frame_bytes,
+                                                           length, bits, SCHEDULE, plain_out.bytes, room);
+    compare_numbers("the number (second: its twin's)", one.number, other.number);
+    compare_numbers("the undriven count (second: its twin's)", one.undriven, other.undriven);
+    compare_twin_cores(&one.core, other.core);
+    compare_bytes("the output (or beside it)", lib_out.before, plain_out.before, output_span(length, room), GUARD);
+    compare_memory();
+}
+
 static void twin_writes(cartvesper_core core, cartvesper_core twin)
 {
     const lengths lent = random_lengths(core.part, 5);
@@ -2754,6 +2957,7 @@ static void try_twins(int count)
         twin_questions(&device, &twin);
         twin_readings(device.core, twin.core);
         twin_frames(device.core, twin.core);
+        twin_timed(device.core, twin.core);
         twin_writes(device.core, twin.core);
         twin_events(&device, &twin);
         twin_lists(&device, &twin);
@@ -2805,6 +3009,20 @@ static void idle_moves(cartvesper_device *device, uint32_t pauses)
     }
 }
 
+static size_t next_reading; /* of the schedule */
+
+/* 02, Item 12: the readings after so many whole bytes, after the falling edge in mode 0 and before it in mode 3; never
+ * in a pause, which C low (mode 0) allows between them */
+static void cross_readings(cartvesper_device *device, size_t position, int mode, uint32_t pauses)
+{
+    while (next_reading < schedule.places && schedule.positions[next_reading] == position) {
+        if (!mode)
+            maybe_pause(device, pauses);
+        idle_moves(device, pauses);
+        whole_event(device, CLOCK, schedule.readings[next_reading++]);
+    }
+}
+
 static void cross_edge(cartvesper_device *device, size_t bit, int mode, uint32_t pauses, const uint8_t *expected)
 {
     if (mode)
@@ -2825,9 +3043,14 @@ static void cross_draw(cartvesper_device *device, size_t bits, int mode, uint32_
     leading_z = 0;
     driven_yet = 0;
     whole_event(device, SET_C, (uint32_t)mode);
+    next_reading = 0;
     whole_event(device, SET_S, 0);
-    for (size_t bit = 0; bit < bits; bit++)
+    cross_readings(device, 0, mode, pauses);
+    for (size_t bit = 0; bit < bits; bit++) {
         cross_edge(device, bit, mode, pauses, expected);
+        if (bit % 8 == 7)
+            cross_readings(device, (bit + 1) / 8, mode, pauses);
+    }
     if (!mode)
         maybe_pause(device, pauses);
     whole_event(device, SET_S, 1);
@@ -2868,6 +3091,7 @@ static void cross_given(cartvesper_device *device, size_t length, size_t bits, u
     compare_numbers("frame number", answer.number, 0);
     cross_tail(expected, length, bits);
     whole_event(device, SET_W, w);
+    schedule.places = schedule.times = 0;
     cross_draw(device, bits, percent(50), pauses, expected);
     begin_call(&core, NULL, "frame %02X of %zu bits drawn (record: after the frame)", length ? frame_bytes[0] : 0,
                bits);
@@ -2879,6 +3103,36 @@ static void cross_given(cartvesper_device *device, size_t length, size_t bits, u
     compare_memory();
     if (percent(50))
         cross_memory(device, &core);
+}
+
+/* frame_bytes with the schedule's readings, by the timed call and drawn at the pins */
+static void cross_timed(cartvesper_device *device, size_t length, size_t bits, int mode, uint32_t pauses)
+{
+    static uint8_t expected[LONGEST + 1];
+    cartvesper_core core = device->core;
+    const lengths lent = whole(core.part);
+    uint8_t w = (uint8_t)percent(70);
+    int ends = core.left > 0 && ending(&core) < schedule.places;
+    start_memory = lib_memory;
+    cartvesper_frame_answer answer =
+        cartvesper_timed_frame(core, LENT(lib_memory, lent), w, mode ? CARTVESPER_MODE3 : CARTVESPER_MODE0, frame_bytes,
+                               length, bits, SCHEDULE, expected, length);
+    lib_memory = start_memory;
+    compare_numbers("timed frame number", try_timed(&core, lent, w, mode ? 3 : 0, length, bits, length), 0);
+    cross_tail(expected, length, bits);
+    singles_memory = lib_memory;
+    lib_memory = plain_memory = start_memory;
+    whole_event(device, SET_W, w);
+    cross_draw(device, bits, mode, pauses, expected);
+    begin_call(&core, NULL, "timed frame %02X of %zu bits drawn in mode %d (record: after the frame)",
+               length ? frame_bytes[0] : 0, bits, mode ? 3 : 0);
+    hand.timed = 1;
+    compare_numbers("readings at the pins (second: of the lists)", next_reading, schedule.places);
+    compare_numbers("leading Z (first: pins, second: frame's undriven)", leading_z, answer.undriven);
+    compare_cores("core (library: pins, plain: frame)", &device->core, &core);
+    compare_lent("what is lent after pins (first) and the timed frame (second)", &lib_memory, &singles_memory);
+    counts.timed_drawn[mode]++;
+    counts.drawn_ends[mode] += (uint64_t)ends;
 }
 
 static void cross_frame(cartvesper_device *device, int longest)
@@ -3061,13 +3315,60 @@ static void cross_session(int frames)
         cross_frame(&device, below(1000) == 0);
 }
 
+/* timed frames drawn at the pins: a cycle runs at the start of most */
+static void cross_timed_session(int frames)
+{
+    cartvesper_device device;
+    which one = random_which(0);
+    size_t bits, length;
+    new_memory();
+    try_device_power_up(&device, one, random_cycle(one.part), percent(20), percent(20), percent(30), random_clock());
+    for (int i = 0; i < frames; i++) {
+        do
+            length = random_timed_frame(one.part, &bits);
+        while (length > 600);
+        if (device.core.left == 0 && percent(70))
+            begin_cycle(&device.core);
+        random_schedule(&device.core, bits);
+        cross_timed(&device, length, bits, percent(50), percent(50) ? below(30) : 0);
+    }
+    check_right(&device.core);
+}
+
+/* timed frames, plain ones and readings, one after the other */
+static void timed_session(int steps)
+{
+    new_memory();
+    cartvesper_core core = random_core();
+    core.blank = plain_blank(lib_memory.bytes, whole(core.part).size);
+    for (int i = 0; i < steps; i++) {
+        if (core.left == 0 && percent(40))
+            begin_cycle(&core);
+        if (percent(70))
+            timed_step(&core);
+        else if (percent(70))
+            frame_step(&core);
+        else
+            try_reading(&core, random_reading(&core), random_lengths(core.part, 2));
+        if (percent(5))
+            check_right(&core);
+    }
+    check_right(&core);
+}
+
 /* ---- the cases of document 01 that are about the chip, with the values it gives */
 
-static void case_frame(cartvesper_core *core, const char *hex, size_t bits)
+static size_t case_bytes(const char *hex)
 {
     size_t length = 0;
     for (char *end = (char *)hex; *end != 0; length++)
         frame_bytes[length] = (uint8_t)strtoul(end, &end, 16);
+    return length;
+}
+
+static void case_frame(cartvesper_core *core, const char *hex, size_t bits)
+{
+    size_t length = case_bytes(hex);
     try_frame(core, whole(core->part), 1, length, bits ? bits : 8 * length, length);
 }
 
@@ -3855,11 +4156,191 @@ static void cases_numbers(void)
     case_number("M95M01: 4,294,967,295 blank cells (second: wanted)", M95M01, 4294967295, 2);
 }
 
+/* ---- readings inside a frame: 02, Item 12 */
+
+/* two positions and two readings at most */
+static void put_lists(size_t places, size_t times, size_t first, size_t second)
+{
+    schedule = (lists){{first, second}, places, {100, 200}, times};
+}
+
+/* lists that fit, and lists that do not */
+static const struct {
+    const char *what;
+    size_t places, times, first, second;
+    const char *hex;
+    size_t bits;
+    uint32_t number;
+} list_cases[] = {
+    {"no readings (second: wanted)", 0, 0, 0, 0, "05 00 00", 24, 0},
+    {"no position, one reading (second: wanted)", 0, 1, 0, 0, "05 00 00", 24, 4},
+    {"one position, no reading (second: wanted)", 1, 0, 0, 0, "05 00 00", 24, 4},
+    {"two positions, one reading (second: wanted)", 2, 1, 0, 0, "05 00 00", 24, 4},
+    {"equal positions (second: wanted)", 2, 2, 1, 1, "05 00 00", 24, 0},
+    {"a position that falls (second: wanted)", 2, 2, 2, 1, "05 00 00", 24, 4},
+    {"at the end (second: wanted)", 1, 1, 3, 0, "05 00 00", 24, 0},
+    {"one past the end (second: wanted)", 1, 1, 4, 0, "05 00 00", 24, 4},
+    {"the second one past the end (second: wanted)", 2, 2, 0, 4, "05 00 00", 24, 4},
+    {"2^64 - 1 (second: wanted)", 1, 1, SIZE_MAX, 0, "05 00 00", 24, 4},
+    {"the second 2^64 - 1 (second: wanted)", 2, 2, 0, SIZE_MAX, "05 00 00", 24, 4},
+    {"2^64 - 1, then 0 (second: wanted)", 2, 2, SIZE_MAX, 0, "05 00 00", 24, 4},
+    {"2^32 (second: wanted)", 1, 1, (size_t)1 << 32, 0, "05 00 00", 24, 4},
+    {"23 bits, after two bytes (second: wanted)", 1, 1, 2, 0, "05 00 00", 23, 0},
+    {"23 bits, after three (second: wanted)", 1, 1, 3, 0, "05 00 00", 23, 4},
+    {"7 bits, at 0 (second: wanted)", 1, 1, 0, 0, "05", 7, 0},
+    {"7 bits, at 1 (second: wanted)", 1, 1, 1, 0, "05", 7, 4},
+    {"an empty frame, at 0 (second: wanted)", 2, 2, 0, 0, "", 0, 0},
+    {"an empty frame, at 1 (second: wanted)", 1, 1, 1, 0, "", 0, 4},
+};
+
+static void cases_lists(void)
+{
+    memset(&lib_memory, 0xFF, sizeof lib_memory);
+    plain_memory = lib_memory;
+    for (size_t i = 0; i < sizeof list_cases / sizeof *list_cases; i++)
+        for (uint8_t mode = 0; mode <= 3; mode += 3) {
+            cartvesper_core core;
+            size_t length = case_bytes(list_cases[i].hex);
+            try_power_up(&core, (which){M95512, 0}, 5000, 0, 0, 0, 0);
+            put_lists(list_cases[i].places, list_cases[i].times, list_cases[i].first, list_cases[i].second);
+            case_expect(list_cases[i].what,
+                        try_timed(&core, whole(M95512), 1, mode, length, list_cases[i].bits, length),
+                        list_cases[i].number);
+            /* the last reading has come, or none */
+            case_expect(list_cases[i].what, core.last, list_cases[i].number ? 0 : 100 * (uint32_t)schedule.times);
+        }
+}
+
+/* the order of the refusals: 1, 2, 3, 4, 5 */
+static void cases_modes(void)
+{
+    static const uint8_t modes[] = {1, 2, 4, 128, 255};
+    const lengths own = whole(M95512), short_memory = {own.size - 1, own.cells};
+    cartvesper_core core, damaged;
+    try_power_up(&core, (which){M95512, 0}, 5000, 0, 0, 0, 0);
+    damaged = core;
+    damaged.wel = 2;
+    case_bytes("05 00 00");
+    put_lists(1, 1, 1, 0);
+    for (size_t i = 0; i < sizeof modes; i++) {
+        case_expect("a mode that is none (second: wanted)", try_timed(&core, own, 1, modes[i], 3, 24, 3), 2);
+        case_expect("and a memory one byte short (second: wanted)",
+                    try_timed(&core, short_memory, 1, modes[i], 3, 24, 3), 1);
+        case_expect("and a slice too long (second: wanted)", try_timed(&core, own, 1, modes[i], 65541, 24, 3), 2);
+    }
+    case_expect("a level of 2 (second: wanted)", try_timed(&core, own, 2, 3, 3, 24, 3), 2);
+    case_expect("a record outside its ranges (second: wanted)", try_timed(&damaged, own, 1, 3, 3, 24, 3), 2);
+    put_lists(1, 0, 0, 0);
+    case_expect("2 before 4 (second: wanted)", try_timed(&core, own, 1, 1, 3, 24, 3), 2);
+    case_expect("3 before 4 (second: wanted)", try_timed(&core, own, 1, 0, 65541, 24, 3), 3);
+    case_expect("4 before 5 (second: wanted)", try_timed(&core, own, 1, 3, 3, 24, 2), 4);
+    put_lists(1, 1, 3, 0);
+    case_expect("5 alone (second: wanted)", try_timed(&core, own, 1, 3, 3, 24, 2), 5);
+}
+
+/* a cycle of 5,000 with byte 11h for cell 0, or another WREN and write; then a frame with a reading that ends it */
+static cartvesper_core case_ended(uint8_t part, const char *write, const char *hex, size_t bits, int mode, size_t at)
+{
+    cartvesper_core core;
+    size_t length;
+    case_start_of(&core, part, 0);
+    case_frame(&core, write, 0);
+    put_lists(1, 1, at, 0);
+    schedule.readings[0] = core.last + core.left; /* wraps: the clock started near its end */
+    length = case_bytes(hex);
+    case_expect("a timed frame (second: wanted)",
+                try_timed(&core, whole(part), 1, (uint8_t)mode, length, bits ? bits : 8 * length, length), 0);
+    case_expect("the cycle has ended (second: wanted)", core.left, 0);
+    return core;
+}
+
+/* the status bytes of an RDSR of three of them */
+static void case_seen(int mode, size_t at, uint32_t one, uint32_t two, uint32_t three)
+{
+    case_ended(M95512, "02 00 00 11", "05 00 00 00", 0, mode, at);
+    case_expect("RDSR, first status byte (second: wanted)", lib_out.bytes[1], one);
+    case_expect("RDSR, second (second: wanted)", lib_out.bytes[2], two);
+    case_expect("RDSR, third (second: wanted)", lib_out.bytes[3], three);
+    case_expect("RDSR, the cell stored (second: wanted)", lib_memory.bytes[0], 0x11);
+}
+
+static void cases_seen(void)
+{
+    case_seen(0, 0, 0x00, 0x00, 0x00);
+    case_seen(3, 0, 0x00, 0x00, 0x00);
+    case_seen(0, 1, 0x03, 0x00, 0x00);
+    case_seen(3, 1, 0x00, 0x00, 0x00);
+    case_seen(0, 2, 0x03, 0x03, 0x00);
+    case_seen(3, 2, 0x03, 0x00, 0x00);
+    case_seen(0, 3, 0x03, 0x03, 0x03);
+    case_seen(3, 3, 0x03, 0x03, 0x00);
+    case_seen(0, 4, 0x03, 0x03, 0x03); /* before S rises: nothing is shown any more */
+    case_seen(3, 4, 0x03, 0x03, 0x03);
+    case_ended(M95512, "02 00 00 11", "05 00 00", 23, 0, 2);
+    case_expect("23 bits, mode 0, at 2 (second: wanted)", lib_out.bytes[2], 0x03);
+    case_ended(M95512, "02 00 00 11", "05 00 00", 23, 3, 2);
+    case_expect("23 bits, mode 3, at 2 (second: wanted)", lib_out.bytes[2], 0x01);
+    case_ended(M95512, "01 8C", "05 00 00", 0, 0, 1);
+    case_expect("a status cycle, before (second: wanted)", lib_out.bytes[1], 0x03);
+    case_expect("a status cycle, after (second: wanted)", lib_out.bytes[2], 0x8C);
+}
+
+/* "no cycle" is judged after the readings at 0 and before those at 1; WEL at deselect */
+static void cases_judged(int mode)
+{
+    cartvesper_core core;
+    for (size_t at = 0; at <= 1; at++) {
+        case_ended(M95512, "02 00 00 11", "03 00 00 00", 0, mode, at);
+        case_expect("READ: the cell (second: wanted)", lib_out.bytes[3], at == 0 ? 0x11 : 0xFF);
+        core = case_ended(M95512, "02 00 00 11", "06", 0, mode, at);
+        case_expect("WREN: WEL (second: wanted)", core.wel, at == 0);
+        core = case_ended(M95512, "02 00 00 11", "02 00 00 22", 0, mode, at);
+        case_expect("WRITE: the cycle's end took WEL (second: wanted)", cartvesper_core_status(core).value, 0x00);
+        core = case_ended(M95512D, "82 04 00 02", "83 04 00 00", 0, mode, at);
+        case_expect("83h: the lock (second: wanted)", lib_out.bytes[3], at == 0 ? 0x01 : 0xFF);
+        case_expect("and in the record (second: wanted)", core.lock, 1);
+        case_ended(M95512D, "82 00 05 2A", "83 00 05 00", 0, mode, at);
+        case_expect("83h: the page (second: wanted)", lib_out.bytes[3], at == 0 ? 0x2A : 0xFF);
+        case_expect("and in its cells (second: wanted)", lib_memory.identification[5], 0x2A);
+        core = case_ended(M95M01, "02 00 00 00 11", "04", 0, mode, at);
+        case_expect("WRDI of the M95M01: WEL (second: wanted)", core.wel, 0);
+        core = case_ended(M95512, "02 00 00 11", "06", 7, mode, 0);
+        case_expect("7 bits: WEL (second: wanted)", core.wel, 0);
+    }
+}
+
+/* the counter wraps inside the frame, between positions 1 and 2, and one of 5,000 microseconds is left; then none */
+static void cases_wrap(int mode)
+{
+    cartvesper_core core;
+    case_start(&core, 0);
+    case_frame(&core, "02 00 00 11", 0);
+    put_lists(2, 2, 1, 2);
+    schedule.readings[0] = 4294967295;
+    schedule.readings[1] = 4993;
+    size_t length = case_bytes("05 00 00 00");
+    try_timed(&core, whole(M95512), 1, (uint8_t)mode, length, 32, length);
+    case_expect("a wrap, one microsecond left (second: wanted)", core.left, 1);
+    case_expect("a wrap, the last reading (second: wanted)", core.last, 4993);
+    case_expect("a wrap, third status byte (second: wanted)", lib_out.bytes[3], 0x03);
+    put_lists(2, 2, 1, 2);
+    schedule.readings[0] = 4993;
+    schedule.readings[1] = 4994;
+    try_timed(&core, whole(M95512), 1, (uint8_t)mode, length, 32, length);
+    case_expect("a wrap, ended (second: wanted)", core.left, 0);
+    case_expect("a wrap, second status byte (second: wanted)", lib_out.bytes[2], mode == 0 ? 0x03 : 0x00);
+    case_expect("a wrap, third status byte (second: wanted)", lib_out.bytes[3], 0x00);
+}
+
 /* ---- */
 
 static void run_round(void)
 {
     frame_session(300);
+    for (int i = 0; i < 5; i++) {
+        timed_session(200);
+        cross_timed_session(20);
+    }
     for (int i = 0; i < 8; i++)
         driver_session(100);
     try_parts(1000);
@@ -3930,6 +4411,14 @@ static void print_summary(uint64_t rounds)
     printf("; 82h and 83h of the M95512 %" PRIu64 "\n", counts.unknown);
     printf("WRDI in a cycle: WEL became 0 %" PRIu64 ", ignored %" PRIu64 "; readings in a cycle at WEL 0 %" PRIu64 "\n",
            counts.disabled, counts.stayed, counts.unlatched);
+    printf("timed frames %" PRIu64 " with %" PRIu64 " readings inside (wraps between two %" PRIu64 "), lists refused %"
+           PRIu64, counts.timed, counts.inside, counts.wraps, counts.unfit);
+    printf("; cycles ended at position 0 %" PRIu64 ", inside %" PRIu64 ", at the last %" PRIu64
+           "; polls that saw the end %" PRIu64 "\n",
+           counts.ended_at[0], counts.ended_at[1], counts.ended_at[2], counts.seen);
+    printf("timed frames drawn at the pins against the timed call: mode 0 %" PRIu64 ", a cycle ended in %" PRIu64
+           "; mode 3 %" PRIu64 ", a cycle ended in %" PRIu64 "\n",
+           counts.timed_drawn[0], counts.drawn_ends[0], counts.timed_drawn[1], counts.drawn_ends[1]);
     printf("frames in hand made field by field %" PRIu64 "\n", counts.fields_swept);
     printf("frames drawn at the pins against the frame call %" PRIu64 "\n", counts.drawn);
     printf("records inside the ranges built by hand %" PRIu64 ", damaged records %" PRIu64 " (%" PRIu64
@@ -3986,6 +4475,13 @@ int main(int argc, char **argv)
     cases_driven();
     cases_uncounted();
     cases_numbers();
+    cases_lists();
+    cases_modes();
+    cases_seen();
+    for (int mode = 0; mode <= 3; mode += 3) {
+        cases_judged(mode);
+        cases_wrap(mode);
+    }
     sweep_fields(0);
     for (current_round = 0; current_round < rounds; current_round++)
         run_round();

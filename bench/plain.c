@@ -654,6 +654,72 @@ uint64_t plain_frame(cartvesper_core *core, const uint8_t *memory, const uint8_t
     return bits;
 }
 
+/* ---- the frame level, with readings inside a frame: 02, Item 12. A byte at a time, in the order of the edges */
+
+typedef struct {
+    cartvesper_core *core;
+    uint8_t *memory, *identification;
+    const uint8_t *bytes;
+    plain_schedule left; /* the readings that have not come */
+    int ran;             /* a cycle ran at the eighth edge */
+} timed_walk;
+
+/* all readings after k whole bytes */
+static void come_at(timed_walk *walk, size_t k)
+{
+    plain_schedule *left = &walk->left;
+    for (; left->count > 0 && *left->positions == k; left->positions++, left->readings++, left->count--)
+        plain_time(walk->core, walk->memory, walk->identification, *left->readings);
+}
+
+/* the byte that the falling edge after k whole bytes loads; -1 where Q is not driven */
+static int loaded_after(const timed_walk *walk, size_t k)
+{
+    const plain_row *row = row_of(walk->core->part);
+    uint32_t head = head_of(row), address;
+    if (k > 0 && walk->bytes[0] == RDSR)
+        return plain_status(walk->core);
+    if (k < head || walk->ran)
+        return -1;
+    address = frame_address(row, walk->bytes) + (uint32_t)(k - head);
+    if (walk->bytes[0] == READ)
+        return walk->memory[address & (row->size - 1)];
+    if (!is_rdid(row, walk->bytes[0]))
+        return -1;
+    return of_lock(frame_address(row, walk->bytes)) ? walk->core->lock : walk->identification[cell_of(row, address)];
+}
+
+/* position k and the byte after it: the falling edge before the readings in mode 0, after them in mode 3 */
+static int timed_byte(timed_walk *walk, int mode, size_t k)
+{
+    int shown = mode == 0 ? loaded_after(walk, k) : -1;
+    come_at(walk, k);
+    if (mode == 3)
+        shown = loaded_after(walk, k);
+    if (k == 0)
+        walk->ran = walk->core->left > 0;
+    return shown;
+}
+
+uint64_t plain_timed_frame(cartvesper_core *core, uint8_t *memory, uint8_t *identification, int w, int mode,
+                           const uint8_t *bytes, size_t length, size_t bits, plain_schedule schedule, uint8_t *out)
+{
+    timed_walk walk = {core, memory, identification, bytes, schedule, 0};
+    uint64_t undriven = bits;
+    for (size_t k = 0; k < length; k++) {
+        int shown = timed_byte(&walk, mode, k);
+        if (shown >= 0 && undriven == bits)
+            undriven = 8 * k;
+        out[k] = (uint8_t)(shown >= 0 ? shown : 0xFF);
+    }
+    come_at(&walk, length); /* after the last byte, before S rises */
+    if (length > 0)
+        fill_tail(out, length, bits);
+    if (bits >= 8 && !(walk.ran && needs_no_cycle(row_of(core->part), bytes[0])))
+        frame_execute(core, w, bytes, length, bits);
+    return undriven;
+}
+
 /* ---- the pin level */
 
 void plain_device_power_up(cartvesper_device *device, int part, int lock, uint32_t cycle, int srwd, int bp1, int bp0,
@@ -1123,6 +1189,34 @@ cartvesper_frame_answer plain_frame_call(cartvesper_core core, const uint8_t *me
     cartvesper_frame_answer answer = {frame_refusal(&core, size, cells, w, length, bits, room), 0, core};
     if (answer.number == 0)
         answer.undriven = plain_frame(&answer.core, memory, identification, w, bytes, length, bits, out);
+    return answer;
+}
+
+/* as many positions as readings, none that falls, none beyond the frame's whole bytes */
+static int schedule_ok(size_t bits, const size_t *positions, size_t places, size_t times)
+{
+    if (places != times)
+        return 0;
+    for (size_t i = 0; i < places; i++)
+        if (positions[i] > bits / 8 || (i > 0 && positions[i] < positions[i - 1]))
+            return 0;
+    return 1;
+}
+
+cartvesper_frame_answer plain_timed_frame_call(cartvesper_core core, uint8_t *memory, size_t size,
+                                               uint8_t *identification, size_t cells, uint8_t w, uint8_t mode,
+                                               const uint8_t *bytes, size_t length, size_t bits,
+                                               const size_t *positions, size_t places, const uint32_t *readings,
+                                               size_t times, uint8_t *out, size_t room)
+{
+    uint8_t level = mode == 0 || mode == 3 ? w : 2; /* a mode that is none is refused as a level that is none */
+    cartvesper_frame_answer answer = {frame_refusal(&core, size, cells, level, length, bits, room), 0, core};
+    plain_schedule schedule = {positions, readings, places};
+    if ((answer.number == 0 || answer.number == 5) && !schedule_ok(bits, positions, places, times))
+        answer.number = 4;
+    if (answer.number == 0)
+        answer.undriven = plain_timed_frame(&answer.core, memory, identification, w, mode, bytes, length, bits,
+                                            schedule, out);
     return answer;
 }
 

@@ -47,6 +47,15 @@ void plain_time(cartvesper_core *core, uint8_t *memory, uint8_t *identification,
 /* a whole frame; out has the slice's length; gives back how many leading bits were undriven */
 uint64_t plain_frame(cartvesper_core *core, const uint8_t *memory, const uint8_t *identification, int w,
                      const uint8_t *bytes, size_t length, size_t bits, uint8_t *out);
+/* the readings of a frame, each after so many whole bytes: rising or staying, at most as many as the frame has */
+typedef struct {
+    const size_t *positions;
+    const uint32_t *readings;
+    size_t count;
+} plain_schedule;
+/* the same with readings inside it, byte by byte; mode is 0 or 3 */
+uint64_t plain_timed_frame(cartvesper_core *core, uint8_t *memory, uint8_t *identification, int w, int mode,
+                           const uint8_t *bytes, size_t length, size_t bits, plain_schedule schedule, uint8_t *out);
 
 /* ---- the pin level */
 
@@ -93,6 +102,11 @@ cartvesper_core_answer plain_clock_reading_call(cartvesper_core core, uint32_t r
 cartvesper_frame_answer plain_frame_call(cartvesper_core core, const uint8_t *memory, size_t size,
                                          const uint8_t *identification, size_t cells, uint8_t w, const uint8_t *bytes,
                                          size_t length, size_t bits, uint8_t *out, size_t room);
+cartvesper_frame_answer plain_timed_frame_call(cartvesper_core core, uint8_t *memory, size_t size,
+                                               uint8_t *identification, size_t cells, uint8_t w, uint8_t mode,
+                                               const uint8_t *bytes, size_t length, size_t bits,
+                                               const size_t *positions, size_t places, const uint32_t *readings,
+                                               size_t times, uint8_t *out, size_t room);
 cartvesper_value plain_core_in_ranges_call(cartvesper_core core);
 cartvesper_value plain_core_status_call(cartvesper_core core);
 cartvesper_value plain_core_lowest_protected_call(cartvesper_core core);
