@@ -12,13 +12,15 @@
 #include <unistd.h>
 
 enum { CELLS = CARTVESPER_LARGEST_PAGE, WORDS = CELLS / 64 }; /* of a latch */
-enum { ROLES = 4, ROOM = 1 << 18 }; /* memory, input, output, identification page; room for the longest slice */
+/* memory, input, output, identification page, the positions and the readings of a timed frame; room for the longest */
+enum { ROLES = 6, ROOM = 1 << 18 };
 enum { MOST_DRAWN = 4 + CELLS + 4 }; /* bytes of a frame at the pins: around the end of the largest page */
 
 static int on_heap;
 static uint8_t part; /* of the devices at work */
 static uint8_t *areas[ROLES];
 static uint64_t state, seen, calls;
+static uint64_t timed, ended; /* timed frames done, cycles that ended inside one */
 
 static uint32_t random32(void)
 {
@@ -181,6 +183,47 @@ static void check_frame(slices lent)
     core = answer.core;
     give_back(bytes);
     give_back(out);
+}
+
+/* lists that mostly fit: positions that rise or stay, up to the frame's whole bytes, and readings that go on */
+static void fill_lists(size_t *positions, size_t places, uint32_t *readings, size_t times, size_t most)
+{
+    size_t at = 0;
+    uint32_t last = core.last;
+    for (size_t i = 0; i < places; i++) {
+        at += below((uint32_t)(most - at) + 1) / (1 + below(4));
+        positions[i] = below(200) ? at : SIZE_MAX - below(2);
+    }
+    for (size_t i = 0; i < times; i++)
+        readings[i] = last += below(3000);
+}
+
+/* a cycle may end inside it and store into what is lent; its lists lie where they just fit, as all does */
+static void check_timed(slices lent)
+{
+    size_t length = below(2) ? random_length() : 1 + below(12), room = below(8) ? length : about(length);
+    size_t places = below(4) ? below(6) : below(600), times = below(8) ? places : about(places);
+    uint8_t *bytes = lend(1, length, 1), *out = lend(2, room, 1), mode = (uint8_t)(below(16) ? 3 * below(2) : below(5));
+    size_t *positions = lend(4, places, sizeof *positions);
+    uint32_t *readings = lend(5, times, sizeof *readings);
+    size_t bits = length == 0 ? 0 : 8 * length - (below(4) ? 0 : below(9));
+    fill(bytes, length);
+    if (length > 0)
+        bytes[0] = below(2) ? CARTVESPER_RDSR : random_code();
+    fill_lists(positions, places, readings, times, bits / 8);
+    enable(&core);
+    cartvesper_frame_answer answer =
+        cartvesper_timed_frame(core, LENT(lent), (uint8_t)below(2), mode, bytes, length, bits, positions, places,
+                               readings, times, out, room);
+    if (answer.number == 0)
+        look(out, room);
+    timed += answer.number == 0;
+    ended += core.left > 0 && answer.core.left == 0;
+    core = answer.core;
+    give_back(bytes);
+    give_back(out);
+    give_back(positions);
+    give_back(readings);
 }
 
 static void check_reading(slices lent)
@@ -353,12 +396,13 @@ static void check_call(void)
         if (below(4) == 0 && device.frame.taken == 0)
             begin_cycle(&device.core);
         check_frame(lent);
+        check_timed(lent);
         check_reading(lent);
         check_play(lent);
         check_write(lent);
         check_cells(cartvesper_core_touched(core));
         check_cells(cartvesper_device_touched(device));
-        calls += 8;
+        calls += 9;
     }
     check_hex(lent);
     calls += 2;
@@ -399,6 +443,8 @@ int main(int argc, char **argv)
             begin_part();
         check_call();
     }
-    printf("check %s: nothing beside the lent bytes was touched in %llu calls\n", argv[1], (unsigned long long)calls);
+    printf("check %s: nothing beside the lent bytes was touched in %llu calls; of %llu timed frames %llu saw a cycle "
+           "end\n",
+           argv[1], (unsigned long long)calls, (unsigned long long)timed, (unsigned long long)ended);
     return 0;
 }

@@ -114,6 +114,50 @@ static void write_by_hand(cartvesper_core *core)
     printf("READ at 007E: %02X %02X %02X %02X\n", out[3], out[4], out[5], out[6]);
 }
 
+/* ---- one long poll: the clock is read inside the frame, and RDSR sees the cycle end */
+
+enum { STATUSES = 7 };
+
+/* Reading i comes after positions[i] whole bytes: here one after each, 1,000 microseconds later. Status byte k is
+ * loaded before the reading at position k in mode 0 and after it in mode 3, so that mode 3 sees the end one byte
+ * earlier. A reading stores the page, so both slices are lent to be written. */
+static cartvesper_frame_answer poll_on(const cartvesper_core *core, uint8_t mode, size_t times, uint8_t *out)
+{
+    const uint8_t rdsr[1 + STATUSES] = {CARTVESPER_RDSR};
+    size_t positions[STATUSES];
+    uint32_t readings[STATUSES];
+    for (uint32_t i = 0; i < STATUSES; i++) {
+        positions[i] = i + 1;
+        readings[i] = core->last + 1000 * (i + 1);
+    }
+    return cartvesper_timed_frame(*core, LENT(core->part), 1, mode, rdsr, sizeof rdsr, 8 * sizeof rdsr, positions,
+                                  STATUSES, readings, times, out, sizeof rdsr);
+}
+
+static void long_poll(cartvesper_core *core, uint8_t mode, uint8_t data)
+{
+    const uint8_t wren[1] = {CARTVESPER_WREN}, write[4] = {CARTVESPER_WRITE, 0x00, 0x7E, data};
+    uint8_t out[1 + STATUSES];
+    send("WREN", core, wren, 1, out);
+    send("WRITE", core, write, 4, out);
+    cartvesper_frame_answer answer = poll_on(core, mode, STATUSES, out);
+    must_be_done("timed frame", answer.number);
+    *core = answer.core;
+    printf("mode %u, one RDSR through the cycle:", mode);
+    for (int i = 1; i <= STATUSES; i++)
+        printf(" %02X", out[i]);
+    printf("; cell 007E %02X\n", memory[0x7E]);
+}
+
+static void long_polls(cartvesper_core *core)
+{
+    uint8_t out[1 + STATUSES];
+    long_poll(core, CARTVESPER_MODE0, 0x12);
+    long_poll(core, CARTVESPER_MODE3, 0x13);
+    printf("one reading too few: %u\n", poll_on(core, CARTVESPER_MODE0, STATUSES - 1, out).number);
+    printf("mode 1: %u\n", poll_on(core, 1, STATUSES, out).number);
+}
+
 /* ---- the driver: any run of bytes, with a poll each 1,000 microseconds and at most 5,001 polls in a wait */
 
 static cartvesper_driver_answer drive(const cartvesper_core *core, uint64_t address, const uint8_t *bytes,
@@ -373,6 +417,7 @@ int main(void)
     cartvesper_core core = powered.core;
     print_blank("as delivered", &core);
     write_by_hand(&core);
+    long_polls(&core);
     write_by_driver(&core);
     retries(&core);
     image(&core);

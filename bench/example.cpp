@@ -1,4 +1,5 @@
-// The library from C++: the driver writes a run, and a list of pin events reads the first cell back.
+// The library from C++: the driver writes a run, a poll sees the end of a cycle, and a list of pin events reads the
+// first cell back.
 #include "cartvesper.h"
 #include <algorithm>
 #include <cstdio>
@@ -25,6 +26,18 @@ int main() {
     auto late = cartvesper_write(run.core, memory.data(), memory.size(), identification.data(), identification.size(),
                                  0x0100, bytes, sizeof bytes, 1000, 1);
     std::printf("limit 1: number %u, cells to be touched %u\n", late.number, cartvesper_core_touched(late.core).value);
+
+    // one RDSR with a clock reading between its two status bytes, which ends that cycle
+    const std::vector<uint8_t> rdsr{CARTVESPER_RDSR, 0, 0};
+    const std::vector<size_t> positions{1};
+    const std::vector<uint32_t> readings{late.core.last + late.core.left};
+    std::vector<uint8_t> shown_statuses(rdsr.size());
+    auto polled = cartvesper_timed_frame(late.core, memory.data(), memory.size(), identification.data(),
+                                         identification.size(), 1, CARTVESPER_MODE0, rdsr.data(), rdsr.size(),
+                                         8 * rdsr.size(), positions.data(), positions.size(), readings.data(),
+                                         readings.size(), shown_statuses.data(), shown_statuses.size());
+    std::printf("timed frame: number %u, status %02X then %02X, cell 0100 %02X\n", polled.number, shown_statuses[1],
+                shown_statuses[2], memory[0x0100]);
 
     auto device = cartvesper_device_power_up(CARTVESPER_M95512, 0, CARTVESPER_LONGEST_CYCLE, 0, 0, 0, run.core.last,
                                              memory.data(), memory.size())

@@ -1,6 +1,6 @@
-# The library from Python: the records as ctypes structures, a WRITE by frames, a run of the driver, the number of blank
-# cells, two retries in a row, the M95512-D's lock, and an M95M01. Argument: the shared object (docs/LINKING.md says how
-# to make it from the archive).
+# The library from Python: the records as ctypes structures, a WRITE by frames, a poll with clock readings inside it, a
+# run of the driver, the number of blank cells, two retries in a row, the M95512-D's lock, and an M95M01. Argument: the
+# shared object (docs/LINKING.md says how to make it from the archive).
 import ctypes
 import sys
 from ctypes import POINTER, Structure, c_size_t, c_uint8, c_uint32, c_uint64
@@ -52,6 +52,7 @@ BYTES = POINTER(c_uint8)
 library = ctypes.CDLL(sys.argv[1])
 power_up, reading = library.cartvesper_power_up, library.cartvesper_clock_reading
 frame, write = library.cartvesper_frame, library.cartvesper_write
+timed_frame = library.cartvesper_timed_frame
 touched, lay = library.cartvesper_core_touched, library.cartvesper_lay
 LENT = [BYTES, c_size_t, BYTES, c_size_t]  # the memory, the identification page
 power_up.restype = CoreAnswer
@@ -59,6 +60,9 @@ power_up.argtypes = [c_uint8, c_uint8, c_uint32, c_uint8, c_uint8, c_uint8, c_ui
 reading.restype, reading.argtypes = CoreAnswer, [Core, c_uint32, *LENT]
 frame.restype = FrameAnswer
 frame.argtypes = [Core, *LENT, c_uint8, BYTES, c_size_t, c_size_t, BYTES, c_size_t]
+timed_frame.restype = FrameAnswer
+timed_frame.argtypes = [Core, *LENT, c_uint8, c_uint8, BYTES, c_size_t, c_size_t, POINTER(c_size_t), c_size_t,
+                        POINTER(c_uint32), c_size_t, BYTES, c_size_t]
 touched.restype, touched.argtypes = Value, [Core]
 lay.restype, lay.argtypes = LatchAnswer, [Latch, Latch]
 write.restype, write.argtypes = DriverAnswer, [Core, *LENT, c_uint64, BYTES, c_size_t, c_uint32, c_uint32]
@@ -93,6 +97,24 @@ page_write = Latch.from_buffer_copy(core.waits.latch)
 core = reading(core, 5000, *lent).core
 core, out = send(core, [0x03, 0x00, 0x7E, 0, 0])
 print("READ at 007E", out[3:].hex(), "cells to be touched", touched(core).value)
+
+
+
+def long_poll(core, mode, times):
+    """One RDSR of seven status bytes, the clock read after each whole byte; its answer, and what Q showed."""
+    sent, out = (c_uint8 * 8)(0x05), (c_uint8 * 8)()
+    places = (c_size_t * 7)(*range(1, 8))
+    readings = (c_uint32 * times)(*[core.last + 1000 * (i + 1) for i in range(times)])
+    return timed_frame(core, *lent, 1, mode, sent, 8, 64, places, 7, readings, times, out, 8), bytes(out)
+
+
+for mode in (0, 3):  # the cycle's 5,000 microseconds end inside the frame
+    core, _ = send(core, [0x06])
+    core, _ = send(core, [0x02, 0x00, 0x7E, 0x12 + mode])
+    polled, out = long_poll(core, mode, 7)
+    core = polled.core
+    print("mode", mode, "RDSR", out[1:].hex(), "cell 007E", bytes(memory[0x7E:0x7F]).hex())
+print("a reading too few", long_poll(core, 0, 6)[0].number, "mode 1", long_poll(core, 1, 7)[0].number)
 
 run = (c_uint8 * 300)(*[i % 251 for i in range(300)])
 done = write(core, *lent, 100, run, 300, 1000, 5001)

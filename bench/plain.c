@@ -1192,8 +1192,7 @@ cartvesper_frame_answer plain_frame_call(cartvesper_core core, const uint8_t *me
     return answer;
 }
 
-/* as many positions as readings, none that falls, none beyond the frame's whole bytes */
-static int schedule_ok(size_t bits, const size_t *positions, size_t places, size_t times)
+int plain_schedule_ok(size_t bits, const size_t *positions, size_t places, size_t times)
 {
     if (places != times)
         return 0;
@@ -1212,7 +1211,7 @@ cartvesper_frame_answer plain_timed_frame_call(cartvesper_core core, uint8_t *me
     uint8_t level = mode == 0 || mode == 3 ? w : 2; /* a mode that is none is refused as a level that is none */
     cartvesper_frame_answer answer = {frame_refusal(&core, size, cells, level, length, bits, room), 0, core};
     plain_schedule schedule = {positions, readings, places};
-    if ((answer.number == 0 || answer.number == 5) && !schedule_ok(bits, positions, places, times))
+    if ((answer.number == 0 || answer.number == 5) && !plain_schedule_ok(bits, positions, places, times))
         answer.number = 4;
     if (answer.number == 0)
         answer.undriven = plain_timed_frame(&answer.core, memory, identification, w, mode, bytes, length, bits,

@@ -47,12 +47,14 @@ void plain_time(cartvesper_core *core, uint8_t *memory, uint8_t *identification,
 /* a whole frame; out has the slice's length; gives back how many leading bits were undriven */
 uint64_t plain_frame(cartvesper_core *core, const uint8_t *memory, const uint8_t *identification, int w,
                      const uint8_t *bytes, size_t length, size_t bits, uint8_t *out);
-/* the readings of a frame, each after so many whole bytes: rising or staying, at most as many as the frame has */
+/* the readings of a frame, each after so many whole bytes */
 typedef struct {
     const size_t *positions;
     const uint32_t *readings;
     size_t count;
 } plain_schedule;
+/* as many positions as readings, none that falls, none beyond the frame's whole bytes */
+int plain_schedule_ok(size_t bits, const size_t *positions, size_t places, size_t times);
 /* the same with readings inside it, byte by byte; mode is 0 or 3 */
 uint64_t plain_timed_frame(cartvesper_core *core, uint8_t *memory, uint8_t *identification, int w, int mode,
                            const uint8_t *bytes, size_t length, size_t bits, plain_schedule schedule, uint8_t *out);

@@ -293,6 +293,120 @@ static void call_ends(size_t n)
     }
 }
 
+/* ---- one timed frame; operation = frame. With no readings plain C sends the plain frame, which is the same */
+
+enum { STATUSES = 64 }; /* bytes of a long poll, with a reading at the boundary of each */
+
+static size_t positions[STATUSES];
+static uint32_t readings[STATUSES];
+static size_t places;
+
+static void lib_send_timed(void)
+{
+    cartvesper_frame_answer a =
+        cartvesper_timed_frame(lib.core, LENT(lib), 1, CARTVESPER_MODE0, frame_bytes, frame_length, 8 * frame_length,
+                               positions, places, readings, places, lib.out, frame_length);
+    if (a.number)
+        refused();
+    lib.core = a.core;
+}
+
+static void lib_timed(size_t n)
+{
+    while (n-- > 0)
+        lib_send_timed();
+}
+
+static void call_send_timed(void)
+{
+    cartvesper_frame_answer a =
+        plain_timed_frame_call(plain.core, LENT(plain), 1, CARTVESPER_MODE0, frame_bytes, frame_length,
+                               8 * frame_length, positions, places, readings, places, plain.out, frame_length);
+    if (a.number)
+        refused();
+    plain.core = a.core;
+}
+
+static void call_timed(size_t n)
+{
+    while (n-- > 0)
+        call_send_timed();
+}
+
+static void set_up_timed_rdsr(void)
+{
+    set_up_rdsr();
+    places = 0;
+}
+
+static void set_up_timed_read(void)
+{
+    set_up_read();
+    places = 0;
+}
+
+static void set_up_long_timed_read(void)
+{
+    set_up_long_read();
+    places = 0;
+}
+
+/* RDSR through the cycle of a whole page, the clock read after each byte: it ends halfway, and the page is stored. The
+ * record is copied in as above */
+static void set_up_polls(void)
+{
+    set_up_ends();
+    frame_bytes[0] = RDSR;
+    frame_length = 1 + STATUSES;
+    places = STATUSES;
+    for (uint32_t i = 0; i < STATUSES; i++) {
+        positions[i] = i + 1;
+        readings[i] = (i + 1) * row.longest_cycle / (STATUSES / 2);
+    }
+}
+
+static void lib_polls(size_t n)
+{
+    while (n-- > 0) {
+        next_waiting(&lib.core, n);
+        lib_send_timed();
+    }
+}
+
+static void plain_send_timed(void)
+{
+    plain_schedule schedule = {positions, readings, places};
+    plain_timed_frame(&plain.core, plain.memory, plain.identification, 1, CARTVESPER_MODE0, frame_bytes, frame_length,
+                      8 * frame_length, schedule, plain.out);
+}
+
+static void plain_polls(size_t n)
+{
+    while (n-- > 0) {
+        next_waiting(&plain.core, n);
+        plain_send_timed();
+    }
+}
+
+static void tested_polls(size_t n)
+{
+    while (n-- > 0) {
+        next_waiting(&plain.core, n);
+        test_core();
+        if (!plain_schedule_ok(8 * frame_length, positions, places, places))
+            refused();
+        plain_send_timed();
+    }
+}
+
+static void call_polls(size_t n)
+{
+    while (n-- > 0) {
+        next_waiting(&plain.core, n);
+        call_send_timed();
+    }
+}
+
 /* ---- pin events: streams of frames drawn in mode 0; operation = event */
 
 static void emit(unsigned kind, uint32_t value)
@@ -537,6 +651,8 @@ typedef struct {
 } speed_case;
 
 #define FRAMES lib_frames, plain_frames, call_frames, tested_frames, 512, 0
+#define TIMED lib_timed, plain_frames, call_timed, tested_frames, 512, 0
+#define POLLS lib_polls, plain_polls, call_polls, tested_polls, 512, 0
 #define WRITES lib_writes, plain_writes, call_writes, tested_writes, 512, 0
 #define ENDS lib_ends, plain_ends, call_ends, tested_ends, 512, 0
 #define SINGLES lib_events, plain_events, call_events, tested_events, 512, 1
@@ -545,8 +661,12 @@ typedef struct {
 
 static const speed_case cases[] = {
     {"frame RDSR, 2 bytes", M95512, set_up_rdsr, FRAMES},
+    {"timed frame RDSR, 2 bytes, no readings", M95512, set_up_timed_rdsr, TIMED},
     {"frame READ, 259 bytes", M95512, set_up_read, FRAMES},
+    {"timed frame READ, 259 bytes, no readings", M95512, set_up_timed_read, TIMED},
     {"frame READ, 65,539 bytes", M95512, set_up_long_read, FRAMES},
+    {"timed frame READ, 65,539 bytes, no readings", M95512, set_up_long_timed_read, TIMED},
+    {"timed frame RDSR, 65 bytes, 64 readings", M95512, set_up_polls, POLLS},
     {"WREN, WRITE of 128 bytes, cycle's end", M95512, set_up_write, WRITES},
     {"clock reading that ends a page cycle", M95512, set_up_ends, ENDS},
     {"pin event, READ frames, one by one", M95512, set_up_read_stream, SINGLES},
@@ -559,6 +679,7 @@ static const speed_case cases[] = {
     {"M95M01, frame READ, 259 bytes", M95M01, set_up_read, FRAMES},
     {"M95M01, WREN, WRITE of 256 bytes, cycle's end", M95M01, set_up_write, WRITES},
     {"M95M01, clock reading that ends a page cycle", M95M01, set_up_ends, ENDS},
+    {"M95M01, timed frame RDSR, 65 bytes, 64 readings", M95M01, set_up_polls, POLLS},
     {"M95M01, pin event, READ frames, as a list", M95M01, set_up_read_stream, LISTS},
     {"M95M01, pin event, WRITE frames, as a list", M95M01, set_up_write_stream, LISTS},
     {"M95M01, driver, 131,072 bytes, interval 1,000", M95M01, set_up_run, RUNS},
@@ -629,7 +750,7 @@ static void run_case(const speed_case *one, int through_call)
     each = one->is_stream ? (double)event_count : 1;
     for (int k = 0; k < 3; k++)
         ns[k] = sides[k].time / sides[k].runs / each;
-    printf("%-46s %14.2f %14.2f %8.2f %14.2f %8.2f\n", one->name, ns[0], ns[1], ns[1] / ns[0], ns[2], ns[2] / ns[0]);
+    printf("%-48s %14.2f %14.2f %8.2f %14.2f %8.2f\n", one->name, ns[0], ns[1], ns[1] / ns[0], ns[2], ns[2] / ns[0]);
     fflush(stdout);
 }
 
@@ -637,7 +758,7 @@ int main(int argc, char **argv)
 {
     int through_call = argc > 1 && strcmp(argv[1], "call") == 0;
     printf("C compiler: %s %s\n", COMPILER, __VERSION__);
-    printf("%-46s %14s %14s %8s %14s %8s\n", "", "library ns", through_call ? "call ns" : "plain ns", "ratio",
+    printf("%-48s %14s %14s %8s %14s %8s\n", "", "library ns", through_call ? "call ns" : "plain ns", "ratio",
            "tested ns", "ratio");
     for (size_t i = 0; i < sizeof cases / sizeof *cases; i++)
         run_case(&cases[i], through_call);
