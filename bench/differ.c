@@ -3054,7 +3054,6 @@ static void cross_draw(cartvesper_device *device, size_t bits, int mode, uint32_
     if (!mode)
         maybe_pause(device, pauses);
     whole_event(device, SET_S, 1);
-    counts.drawn++;
 }
 
 /* then both cycles end: the memories must agree too */
@@ -3093,6 +3092,7 @@ static void cross_given(cartvesper_device *device, size_t length, size_t bits, u
     whole_event(device, SET_W, w);
     schedule.places = schedule.times = 0;
     cross_draw(device, bits, percent(50), pauses, expected);
+    counts.drawn++;
     begin_call(&core, NULL, "frame %02X of %zu bits drawn (record: after the frame)", length ? frame_bytes[0] : 0,
                bits);
     compare_numbers("leading Z (first: pins, second: frame's undriven)", leading_z, answer.undriven);
