@@ -1,6 +1,6 @@
 -- The calls for C on records and devices that are equal but for the number of blank cells, both numbers inside their range: the same numbers and values, and
--- records that are equal but for the number. What is lent to them and their output are those of the calls of `BlindFrames`, `BlindRuns`, `BlindDevices` and
--- `BlindTexts`.
+-- records that are equal but for the number. What is lent to them and their output are those of the calls of `BlindFrames`, `BlindTimed`, `BlindRuns`,
+-- `BlindDevices` and `BlindTexts`.
 use mathlib.Core.Path.{_≡_, refl, ap, ap₂, _∙_}
 use mathlib.Core.Bool.{Bool, true, false}
 use mathlib.Core.List.{List}
@@ -18,6 +18,7 @@ use Rattle.chip.specs.Blanks.{EqualBut}
 use Rattle.chip.specs.Time.{lentFits}
 use Rattle.chip.specs.declared.Core.{Core}
 use Rattle.frames.specs.Answers.{frameReplyNumber, frameReplyUndriven, framed}
+use Rattle.timed_frames.specs.Answers.{framedInTime}
 use Rattle.driver.specs.Answers.{runReplyNumber, runReplyPages, runReplyFrames}
 use Rattle.hex.specs.Answers.{takes}
 use Rattle.edges.specs.Falling.{levelNumber}
@@ -34,9 +35,10 @@ use Rattle.bench.specs.declared.DeviceAnswer.{DeviceAnswer}
 use Rattle.bench.specs.declared.FrameAnswer.{FrameAnswer}
 use Rattle.bench.specs.declared.DriverAnswer.{DriverAnswer}
 use Rattle.bench.specs.Calls.{valueAnswer, badLevel, inRangesCall, statusCall, lowestProtectedCall, protectedCall, touchedCall, readingCall, frameCall}
-use Rattle.bench.specs.Calls.{pinCall, clockPinCall, qCall, deviceStatusCall, deviceInRangesCall, playCall, writeCall, importCall}
+use Rattle.bench.specs.Calls.{timedTaken, timedCall, pinCall, clockPinCall, qCall, deviceStatusCall, deviceInRangesCall, playCall, writeCall, importCall}
 use Rattle.stores.specs.Blind.{Alike, DeviceEqualBut, DeviceAlike}
 use Rattle.stores.proofs.BlindFrames.{ranges-blind, reading-blind, frame-blind, frame-core-blind}
+use Rattle.stores.proofs.BlindTimed.{timed-frame-blind, timed-core-blind}
 use Rattle.stores.proofs.BlindRuns.{driven-blind, driven-core-blind}
 use Rattle.stores.proofs.BlindPins.{q-blind}
 use Rattle.stores.proofs.BlindDevices.{fits-blind, set-blind, lent-set-blind, play-blind}
@@ -108,6 +110,27 @@ module _ (P : Part) (c d : Core) (a : Alike P c d) where
 
   pub frame-call-blind : (m i : List ℕ) (w : ℕ) (s : List ℕ) (n room : ℕ) → FrameAnswerEqualBut (frameCall P c m i w s n room) (frameCall P d m i w s n room)
   frame-call-blind m i w s n room = frames m i (on w) (leb w 1) (badLevel P (length m) (length i)) s n room
+
+  -- the frame with readings inside it, W at a level and the mode 0 or 3, or 2
+  timed-frames : (m : Lent) (w : Bool) (u : Bool) (bad : ℕ) (s : List ℕ) (n : ℕ) (ps ts : List ℕ) (room : ℕ)
+      → let by : Core → FrameAnswer = λ (x : Core).
+      let r = framedInTime P x m w s n ps ts room in
+      pick u (record { number = frameReplyNumber (r .answer); undriven = frameReplyUndriven (r .answer); core = r .core })
+      (record { number = bad; undriven = 0; core = x }) in
+      FrameAnswerEqualBut (by c) (by d)
+  unfolding pick
+  timed-frames m w true bad s n ps ts room =
+      record {
+        number = ap frameReplyNumber (timed-frame-blind P c d a m w s n ps ts room);
+        undriven = ap frameReplyUndriven (timed-frame-blind P c d a m w s n ps ts room);
+        core = timed-core-blind P c d a m w s n ps ts room;
+      }
+  timed-frames m w false bad s n ps ts room = record { number = refl; undriven = refl; core = a .same }
+
+  pub timed-call-blind : (m : Lent) (w o : ℕ) (s : List ℕ) (n : ℕ) (ps ts : List ℕ) (room : ℕ)
+      → FrameAnswerEqualBut (timedCall P c m w o s n ps ts room) (timedCall P d m w o s n ps ts room)
+  timed-call-blind m w o s n ps ts room =
+      timed-frames m (on w) (timedTaken w o) (badLevel P (length (m .memory)) (length (m .identification))) s n ps ts room
 
   -- ---- the driver
 
