@@ -3641,6 +3641,8 @@ static void case_refused(const char *what, cartvesper_core core, lengths lent, u
     memset(frame_bytes, 0, 5);
     for (frame_bytes[0] = WRID; frame_bytes[0] <= RDID; frame_bytes[0]++)
         case_expect(what, try_frame(&sent, lent, 1, 5, 40, 5), number);
+    schedule.places = schedule.times = 0;
+    case_expect(what, try_timed(&sent, lent, 1, CARTVESPER_MODE3, 5, 40, 5), number);
     case_expect(what, try_event(&device, SET_C, 1, lent), number);
     case_expect(what, try_reading(&core, core.last + core.left, lent), number);
 }
@@ -4384,6 +4386,34 @@ static void print_causes(const char *what, const uint64_t *causes, int count)
     printf("\n");
 }
 
+static void print_timed(void)
+{
+    printf("timed frames %" PRIu64 " with %" PRIu64 " readings inside (wraps between two %" PRIu64 "), lists refused %"
+           PRIu64, counts.timed, counts.inside, counts.wraps, counts.unfit);
+    printf("; cycles ended at position 0 %" PRIu64 ", inside %" PRIu64 ", at the last %" PRIu64
+           "; polls that saw the end %" PRIu64 "\n",
+           counts.ended_at[0], counts.ended_at[1], counts.ended_at[2], counts.seen);
+    printf("timed frames drawn at the pins against the timed call: mode 0 %" PRIu64 ", a cycle ended in %" PRIu64
+           "; mode 3 %" PRIu64 ", a cycle ended in %" PRIu64 "\n",
+           counts.timed_drawn[0], counts.drawn_ends[0], counts.timed_drawn[1], counts.drawn_ends[1]);
+}
+
+/* laying, runs sent twice, the driver and the split */
+static void print_writes(void)
+{
+    printf("page writes laid over another %" PRIu64 ", refused %" PRIu64 ", laws %" PRIu64, counts.lays, counts.unlaid,
+           counts.laws);
+    printf(", pairs whose order matters %" PRIu64 "\n", counts.ordered);
+    printf("writes laid byte by byte %" PRIu64 ", pages stored by two writes and by one %" PRIu64 "\n",
+           counts.bytewise, counts.stored);
+    printf("runs sent twice, both done %" PRIu64 ", a cycle at the first one's start %" PRIu64 "\n",
+           counts.twice, counts.busy);
+    printf("runs of the driver %" PRIu64 ", a status cycle ended in the first wait %" PRIu64 ", pages done %" PRIu64
+           ", frames sent %" PRIu64 "\n",
+           counts.runs, counts.moved, counts.pages, counts.sent);
+    printf("parts asked for %" PRIu64 "\n", counts.parts);
+}
+
 static void print_summary(uint64_t rounds)
 {
     printf("no difference: seed %" PRIu64 ", %" PRIu64 " rounds, %" PRIu64 " calls compared\n", seed, rounds,
@@ -4411,14 +4441,7 @@ static void print_summary(uint64_t rounds)
     printf("; 82h and 83h of the M95512 %" PRIu64 "\n", counts.unknown);
     printf("WRDI in a cycle: WEL became 0 %" PRIu64 ", ignored %" PRIu64 "; readings in a cycle at WEL 0 %" PRIu64 "\n",
            counts.disabled, counts.stayed, counts.unlatched);
-    printf("timed frames %" PRIu64 " with %" PRIu64 " readings inside (wraps between two %" PRIu64 "), lists refused %"
-           PRIu64, counts.timed, counts.inside, counts.wraps, counts.unfit);
-    printf("; cycles ended at position 0 %" PRIu64 ", inside %" PRIu64 ", at the last %" PRIu64
-           "; polls that saw the end %" PRIu64 "\n",
-           counts.ended_at[0], counts.ended_at[1], counts.ended_at[2], counts.seen);
-    printf("timed frames drawn at the pins against the timed call: mode 0 %" PRIu64 ", a cycle ended in %" PRIu64
-           "; mode 3 %" PRIu64 ", a cycle ended in %" PRIu64 "\n",
-           counts.timed_drawn[0], counts.drawn_ends[0], counts.timed_drawn[1], counts.drawn_ends[1]);
+    print_timed();
     printf("frames in hand made field by field %" PRIu64 "\n", counts.fields_swept);
     printf("frames drawn at the pins against the frame call %" PRIu64 "\n", counts.drawn);
     printf("records inside the ranges built by hand %" PRIu64 ", damaged records %" PRIu64 " (%" PRIu64
@@ -4426,30 +4449,15 @@ static void print_summary(uint64_t rounds)
            counts.unreached, counts.damaged, counts.damaged_calls, counts.swept);
     printf("cells touched asked for %" PRIu64 ", not 0 %" PRIu64 ", latches made cell by cell %" PRIu64 "\n",
            counts.asked, counts.some, counts.marked);
-    printf("page writes laid over another %" PRIu64 ", refused %" PRIu64 ", laws %" PRIu64, counts.lays, counts.unlaid,
-           counts.laws);
-    printf(", pairs whose order matters %" PRIu64 "\n", counts.ordered);
-    printf("writes laid byte by byte %" PRIu64 ", pages stored by two writes and by one %" PRIu64 "\n",
-           counts.bytewise, counts.stored);
-    printf("runs sent twice, both done %" PRIu64 ", a cycle at the first one's start %" PRIu64 "\n",
-           counts.twice, counts.busy);
-    printf("runs of the driver %" PRIu64 ", a status cycle ended in the first wait %" PRIu64 ", pages done %" PRIu64
-           ", frames sent %" PRIu64 "\n",
-           counts.runs, counts.moved, counts.pages, counts.sent);
-    printf("parts asked for %" PRIu64 "\n", counts.parts);
+    print_writes();
     printf("refusals, and endings 9 and 13:");
     for (int i = 1; i < 10; i++)
         printf(" %d: %" PRIu64 ",", i, counts.numbers[i]);
     printf(" 13: %" PRIu64 "\n", counts.numbers[13]);
 }
 
-int main(int argc, char **argv)
+static void cases_by_hand(void)
 {
-    seed = argc > 1 ? strtoull(argv[1], NULL, 10) : 1;
-    uint64_t rounds = argc > 2 ? strtoull(argv[2], NULL, 10) : 100;
-    state = (seed + 1) * 0x9E3779B97F4A7C15ULL | 1;
-    for (int i = 0; i < 20; i++)
-        next64();
     cases_a_b();
     case_c();
     cases_d_e();
@@ -4482,6 +4490,16 @@ int main(int argc, char **argv)
         cases_judged(mode);
         cases_wrap(mode);
     }
+}
+
+int main(int argc, char **argv)
+{
+    seed = argc > 1 ? strtoull(argv[1], NULL, 10) : 1;
+    uint64_t rounds = argc > 2 ? strtoull(argv[2], NULL, 10) : 100;
+    state = (seed + 1) * 0x9E3779B97F4A7C15ULL | 1;
+    for (int i = 0; i < 20; i++)
+        next64();
+    cases_by_hand();
     sweep_fields(0);
     for (current_round = 0; current_round < rounds; current_round++)
         run_round();
