@@ -327,12 +327,6 @@ static void call_send_timed(void)
     plain.core = a.core;
 }
 
-static void call_timed(size_t n)
-{
-    while (n-- > 0)
-        call_send_timed();
-}
-
 static void set_up_timed_rdsr(void)
 {
     set_up_rdsr();
@@ -651,7 +645,7 @@ typedef struct {
 } speed_case;
 
 #define FRAMES lib_frames, plain_frames, call_frames, tested_frames, 512, 0
-#define TIMED lib_timed, plain_frames, call_timed, tested_frames, 512, 0
+#define TIMED lib_timed, plain_frames, call_frames, tested_frames, 512, 0
 #define POLLS lib_polls, plain_polls, call_polls, tested_polls, 512, 0
 #define WRITES lib_writes, plain_writes, call_writes, tested_writes, 512, 0
 #define ENDS lib_ends, plain_ends, call_ends, tested_ends, 512, 0
