@@ -28,7 +28,7 @@ use Rattle.frames.specs.declared.Framed.{Framed}
 use Rattle.frames.specs.Play.{FrameBench, frameBench}
 use Rattle.timed_frames.specs.Schedules.{due, placesFit, benchAt}
 use Rattle.timed_frames.specs.InTime.{ranIn, sightsIn, leftBy}
-use Rattle.timed_frames.specs.Answers.{inTimeOutcome, inTimeNumber, inTimeLeft, given, framedInTime, outputInTime}
+use Rattle.timed_frames.specs.Answers.{inTimeOutcome, inTimeNumber, inTimeLeft, given, framedInTime, outputInTime, AnsweredInTime}
 use Rattle.timed_frames.specs.declared.Mode.{Mode}
 use Rattle.timed_frames.proofs.Walks.{bench-part}
 use Rattle.timed_frames.proofs.Opened.{none-left, still-taken, opened-left, opened-sights}
@@ -112,15 +112,7 @@ module _ (P : Part) (c : Core) (m : Lent) (w : Bool) (o : Mode) (s : List ℕ) (
   abbrev told : Outcome
   told = inTimeOutcome P c m s n ps ts (length out)
 
-  abbrev pub Answered : Framed → List ℕ → List ℕ → List ℕ → Type 0
-  Answered r cells page shown =
-      (r ≡ framedInTime P c m w s n ps ts (length out))
-      × ((frameReplyNumber (r .answer) ≡ inTimeNumber P c m s n ps ts (length out))
-      × ((cells ≡ inTimeLeft P c m w s n ps ts (length out) .memory)
-      × ((page ≡ inTimeLeft P c m w s n ps ts (length out) .identification)
-      × (shown ≡ outputInTime P c m o s n ps ts out))))
-
-  numbered : {r : Framed} → r ≡ framedInTime P c m w s n ps ts (length out)
+  pub numbered : {r : Framed} → r ≡ framedInTime P c m w s n ps ts (length out)
       → frameReplyNumber (r .answer) ≡ inTimeNumber P c m s n ps ts (length out)
   unfolding framedInTime
   numbered e =
@@ -131,7 +123,7 @@ module _ (P : Part) (c : Core) (m : Lent) (w : Bool) (o : Mode) (s : List ℕ) (
       → frameOutcome P c (length (m .memory)) (length (m .identification)) (length s) k (length out) ≡ told → isDone told ≡ false
       → r ≡ framed P c (m .memory) (m .identification) w s k (length out)
       → shown ≡ framedOutput P c (m .memory) (m .identification) s k out
-      → Answered r (m .memory) (m .identification) shown
+      → AnsweredInTime P c m w o s n ps ts out r (m .memory) (m .identification) shown
   unfolding framed framedOutput framedInTime inTimeLeft outputInTime
   turned-away k {r = r} same away e h =
       let left : pick (isDone told) (leftBy P ps ts (given c m) w s n) (given c m) ≡ given c m = at-no _ _ away in
@@ -158,7 +150,7 @@ module _ (P : Part) (c : Core) (m : Lent) (w : Bool) (o : Mode) (s : List ℕ) (
       → r .answer ≡ Shown (undriven Q (instruction Q s) (running (y .core)) n)
       → frameBench (r .core) cells page ≡ leftBy Q qs us y w s n
       → shown ≡ output Q (running (y .core)) (sightsIn Q qs us y o) s n
-      → Answered r cells page shown
+      → AnsweredInTime P c m w o s n ps ts out r cells page shown
   unfolding framedInTime inTimeLeft outputInTime
   carried-out {Q = Q} {qs = qs} {us = us} {cells = cells} {page = page} {y = y} {r = r} done part later times first answer left shows =
       let b = given c m in
@@ -221,6 +213,6 @@ module _ (c : Core) (m : Lent) (s : List ℕ) (n : ℕ) (ps ts : List ℕ) (k : 
       → r .answer ≡ Shown (undriven Q (instruction Q s) (running (y .core)) n)
       → frameBench (r .core) cells page ≡ leftBy Q (rest ps) (rest ts) y w s n
       → shown ≡ output Q (running (y .core)) (sightsIn Q (rest ps) (rest ts) y o) s n
-      → Answered P c m w o s n ps ts out r cells page shown
+      → AnsweredInTime P c m w o s n ps ts out r cells page shown
   next-carried w o out fits done =
       carried-out P c m w o s n ps ts out (placed P c m s n ps ts (length out) fits ∙ done) part (from ps) (from ts) first

@@ -3,6 +3,7 @@
 use Prim.Native.Nat.{ℕ}
 use mathlib.Core.Bool.{Bool, _&&_}
 use mathlib.Core.List.{List}
+use mathlib.Core.Path.{_≡_}
 use lib.ListN.{length}
 use lib.Dec.{eqb, leb}
 use Rattle.laws.specs.Pick.{pick}
@@ -18,7 +19,7 @@ use Rattle.chip.specs.declared.Core.{Core}
 use Rattle.fields.specs.Bytes.{instruction}
 use Rattle.fields.specs.Counts.{bitsFit, longestFrame}
 use Rattle.shown.specs.Shown.{output, undriven}
-use Rattle.frames.specs.Answers.{frameReply}
+use Rattle.frames.specs.Answers.{frameReply, frameReplyNumber}
 use Rattle.frames.specs.Play.{FrameBench, frameBench}
 use Rattle.frames.specs.declared.Framed.{Framed}
 use Rattle.timed_frames.specs.Schedules.{placesFit}
@@ -67,3 +68,14 @@ unfoldable pub outputInTime : Part → Core → Lent → Mode → List ℕ → �
 outputInTime P c m o s n ps ts out =
     pick (isDone (inTimeOutcome P c m s n ps ts (length out)))
     (output P (ranIn P ps ts (given c m)) (sightsIn P ps ts (given c m) o) s n) out
+
+-- what the call hands back and leaves, all of it: the answer with the record, its number, the memory, the
+-- identification page and the output
+abbrev pub AnsweredInTime : Part → Core → Lent → Bool → Mode → List ℕ → ℕ → List ℕ → List ℕ → List ℕ
+    → Framed → List ℕ → List ℕ → List ℕ → Type 0
+AnsweredInTime P c m w o s n ps ts out r cells page shown =
+    (r ≡ framedInTime P c m w s n ps ts (length out))
+    × ((frameReplyNumber (r .answer) ≡ inTimeNumber P c m s n ps ts (length out))
+    × ((cells ≡ inTimeLeft P c m w s n ps ts (length out) .memory)
+    × ((page ≡ inTimeLeft P c m w s n ps ts (length out) .identification)
+    × (shown ≡ outputInTime P c m o s n ps ts out))))

@@ -9,7 +9,8 @@ ghost use mathlib.Core.Bool.{true, false};
 ghost use Rattle.codes.specs.Refusals.{isDone};
 ghost use Rattle.codes.specs.declared.Outcome.the-variants.{Done};
 ghost use Rattle.frames.specs.Answers.{frameOutcome, frameReplyNumber};
-ghost use Rattle.timed_frames.specs.Answers.{inTimeNumber, inTimeLeft, framedInTime, outputInTime};
+ghost use Rattle.timed_frames.specs.Schedules.{placesFit};
+ghost use Rattle.timed_frames.specs.Answers.{AnsweredInTime, inTimeNumber, inTimeLeft, framedInTime, outputInTime};
 use chip::Core;
 use chip::lent_fits;
 use fields::bits_fit;
@@ -35,7 +36,7 @@ const NO_COUNT: usize = 0xffff_ffff_ffff_ffff;
 
 // A frame with clock readings inside it, for every input. The lists say at which byte position each reading comes.
 // Refusals 1, 2, 3, 4 and 5 in that order leave everything as it was; 4 is also for lists of unequal lengths and for
-// positions that fall or pass the frame's whole bytes.
+// positions that fall or pass the frame's whole bytes. With empty lists it is the plain call, at its rate.
 pub fn timed_frame(
     core: Core,
     memory: &mut [u8],
@@ -65,6 +66,9 @@ pub fn timed_frame(
         ≡ outputInTime (ownPart core) core (lent (now (memory .entry)) (now (identification .entry))) mode
         (now (bytes .entry)) bits (now (positions .entry)) (now (readings .entry)) (now (out .entry)) ⌝ }
 {
+    if (positions.len() == 0) & (readings.len() == 0) {
+        return frames::frame(core, memory, identification, w, bytes, bits, out);
+    }
     if !places_fit(bits, positions, readings) {
         return frames::frame(core, memory, identification, w, bytes, NO_COUNT, out);
     }
@@ -78,6 +82,40 @@ pub fn timed_frame(
     ) {
         return frames::frame(core, memory, identification, w, bytes, bits, out);
     }
+    carried_out(
+        core,
+        memory,
+        identification,
+        w,
+        mode,
+        bytes,
+        bits,
+        positions,
+        readings,
+        out,
+    )
+}
+
+// A frame that is not refused: the readings at 0 come, and then it is one at whose eighth edge a cycle ran or none did.
+fn carried_out(
+    core: Core,
+    memory: &mut [u8],
+    identification: &mut [u8],
+    w: bool,
+    mode: Mode,
+    bytes: &[u8],
+    bits: usize,
+    positions: &[usize],
+    readings: &[u32],
+    out: &mut [u8],
+) -> Framed
+    requires { ⌜ placesFit bits (now positions) (now readings) ≡ true ⌝ }
+    requires { ⌜ frameOutcome (ownPart core) core (length (now memory)) (length (now identification))
+        (length (now bytes)) bits (length (now out)) ≡ Done ⌝ }
+    ensures { λ r. ⌜ AnsweredInTime (ownPart core) core (lent (now (memory .entry)) (now (identification .entry))) w mode
+        (now (bytes .entry)) bits (now (positions .entry)) (now (readings .entry)) (now (out .entry))
+        r (now (memory .exit)) (now (identification .exit)) (now (out .exit)) ⌝ }
+{
     let start = Walk {
         core: core,
         next: 0,

@@ -1,0 +1,168 @@
+-- The readings at 0 come, and the frame goes on with the rest of its lists: by what the frames in a cycle and out of one promise.
+use Prim.Native.Nat.{ℕ}
+use mathlib.Core.Bool.{true}
+use mathlib.Core.List.{List}
+use mathlib.Core.Path.{_≡_, sym, _∙_}
+use native.Mathlib.Omega.{arith}
+use lib.Dec.{eqb}
+use lib.ListN.{length}
+use borrow.Author.Tests.{eqb-true}
+use Rattle.laws.specs.Pick.{and-left}
+use Rattle.chip.specs.Lents.{lent}
+use Rattle.frames.specs.Play.{frameBench}
+use Rattle.timed_frames.specs.Schedules.{due, placesFit}
+use Rattle.timed_frames.proofs.Walks.{due-most}
+use Rattle.timed_frames.proofs.Whole.{next-fits, next-carried}
+use borrow.Author.Needs.{needs}
+use Rattle.timed_frames.proofs.carried_out.Statement.{statement}
+use Rattle.timed_frames.proofs.carried_out.Tie as tie
+
+-- lists that fit are of one length
+same-lengths : (n : ℕ) (ps ts : List ℕ) → placesFit n ps ts ≡ true → length ps ≡ length ts
+same-lengths n ps ts e = eqb-true (length ps) (length ts) (and-left (eqb (length ps) (length ts)) _ e)
+
+to-requires : tie.Need-to-requires
+to-requires c κs =
+    let start = c .before .before .before .before .before .before .before .before in
+    let a = start .args in
+    (same-lengths (a .bits) (a .positions .now) (a .readings .now) (start .pre .0), omega arith)
+
+mul-rest : tie.Need-mul-rest
+mul-rest c =
+    let start = c .before .before .before .before .before .before .before .before .before .before .before .before .before .before in
+    omega (arith, c .before .before .before .before .before .to .ensures .0, due-most 1 (start .args .positions .now), start .good, start .fits)
+
+sub-rest : tie.Need-sub-rest
+sub-rest c =
+    let a = c .before .before .before .before .before .before .before .before .before .before .before .before .before .before .args in
+    omega (arith, c .before .before .before .before .before .to .ensures .0, due-most 1 (a .positions .now))
+
+part-rest-start : tie.Need-part-rest-start
+part-rest-start c =
+    let a = c .before .before .before .before .before .before .before .before .before .before .before .before .before .before .args in
+    omega (arith, c .before .before .before .before .before .to .ensures .0, due-most 1 (a .positions .now))
+
+part-rest-end : tie.Need-part-rest-end
+part-rest-end c = search needs
+
+mul-times : tie.Need-mul-times
+mul-times c =
+    let start = c .before .before .before .before .before .before .before .before .before .before .before .before .before .before .before in
+    omega (arith, c .before .before .before .before .before .before .to .ensures .0, due-most 1 (start .args .positions .now), start .good, start .fits)
+
+sub-times : tie.Need-sub-times
+sub-times c =
+    let start = c .before .before .before .before .before .before .before .before .before .before .before .before .before .before .before in
+    let a = start .args in
+    omega (arith, c .before .before .before .before .before .before .to .ensures .0, due-most 1 (a .positions .now), same-lengths (a .bits) (a .positions .now) (a .readings .now) (start .pre .0))
+
+part-times-start : tie.Need-part-times-start
+part-times-start c =
+    let start = c .before .before .before .before .before .before .before .before .before .before .before .before .before .before .before in
+    let a = start .args in
+    omega (arith, c .before .before .before .before .before .before .to .ensures .0, due-most 1 (a .positions .now), same-lengths (a .bits) (a .positions .now) (a .readings .now) (start .pre .0))
+
+part-times-end : tie.Need-part-times-end
+part-times-end c = search needs
+
+running-requires : tie.Need-running-requires
+running-requires c κs = search needs
+
+ran-frame-requires : tie.Need-ran-frame-requires
+ran-frame-requires c κs =
+    let start = c .before .before .before .before .before .before .before .before .before .before .before .before .before .before .before .before .before .before .before .before .before in
+    let a = start .args in
+    let ps = a .positions .now in
+    let ts = a .readings .now in
+    let m = lent (a .memory .now) (a .identification .now) in
+    let to = c .before .before .before .before .before .before .before .before .before .before .before .before .to in
+    let y = frameBench (to .result .core) (to .last .1 .1 .1 .1 .0) (to .last .1 .1 .1 .1 .1 .0) in
+    let came : to .result .next ≡ due 1 ps = omega (arith, to .ensures .0) in
+    let next = next-fits (a .core) m (a .bytes .now) (a .bits) ps ts (to .result .next) y came (to .ensures .1)
+    (same-lengths (a .bits) ps ts (start .pre .0)) (length (a .out .now)) (start .pre .1) in
+    (next .0, (next .1, sym (c .before .before .before .before .running .ensures) ∙ c .before .before .before .if1 .taken))
+
+same-length : tie.Need-same-length
+same-length c = search needs
+
+same-length-2 : tie.Need-same-length-2
+same-length-2 c = search needs
+
+same-length-3 : tie.Need-same-length-3
+same-length-3 c = search needs
+
+returns : tie.Need-returns
+returns c =
+    let start = c .before .before .before .before .before .before .before .before .before .before .before .before .before .before .before .before .before .before .before .before .before .before .before .before .before .before .before .before in
+    let a = start .args in
+    let ps = a .positions .now in
+    let ts = a .readings .now in
+    let m = lent (a .memory .now) (a .identification .now) in
+    let to = c .before .before .before .before .before .before .before .before .before .before .before .before .before .before .before .before .before .before .before .to in
+    let y = frameBench (to .result .core) (to .last .1 .1 .1 .1 .0) (to .last .1 .1 .1 .1 .1 .0) in
+    let came : to .result .next ≡ due 1 ps = omega (arith, to .ensures .0) in
+    let f = c .before .before .before .before .before .before .ran-frame .ensures in
+    next-carried (a .core) m (a .bytes .now) (a .bits) ps ts (to .result .next) y came (to .ensures .1)
+    (a .w) (a .mode) (a .out .now) (start .pre .0) (start .pre .1) (f .0) (f .1 .0) (f .1 .1)
+
+quiet-frame-requires : tie.Need-quiet-frame-requires
+quiet-frame-requires c κs =
+    let start = c .before .before .before .before .before .before .before .before .before .before .before .before .before .before .before .before .before .before .before .before .before in
+    let a = start .args in
+    let ps = a .positions .now in
+    let ts = a .readings .now in
+    let m = lent (a .memory .now) (a .identification .now) in
+    let to = c .before .before .before .before .before .before .before .before .before .before .before .before .to in
+    let y = frameBench (to .result .core) (to .last .1 .1 .1 .1 .0) (to .last .1 .1 .1 .1 .1 .0) in
+    let came : to .result .next ≡ due 1 ps = omega (arith, to .ensures .0) in
+    let next = next-fits (a .core) m (a .bytes .now) (a .bits) ps ts (to .result .next) y came (to .ensures .1)
+    (same-lengths (a .bits) ps ts (start .pre .0)) (length (a .out .now)) (start .pre .1) in
+    (next .0, (next .1, sym (c .before .before .before .before .running .ensures) ∙ c .before .before .before .if1 .left))
+
+same-length-4 : tie.Need-same-length-4
+same-length-4 c = search needs
+
+same-length-5 : tie.Need-same-length-5
+same-length-5 c = search needs
+
+same-length-6 : tie.Need-same-length-6
+same-length-6 c = search needs
+
+returns-2 : tie.Need-returns-2
+returns-2 c =
+    let start = c .before .before .before .before .before .before .before .before .before .before .before .before .before .before .before .before .before .before .before .before .before .before .before .before .before .before .before .before in
+    let a = start .args in
+    let ps = a .positions .now in
+    let ts = a .readings .now in
+    let m = lent (a .memory .now) (a .identification .now) in
+    let to = c .before .before .before .before .before .before .before .before .before .before .before .before .before .before .before .before .before .before .before .to in
+    let y = frameBench (to .result .core) (to .last .1 .1 .1 .1 .0) (to .last .1 .1 .1 .1 .1 .0) in
+    let came : to .result .next ≡ due 1 ps = omega (arith, to .ensures .0) in
+    let f = c .before .before .before .before .before .before .quiet-frame .ensures in
+    next-carried (a .core) m (a .bytes .now) (a .bits) ps ts (to .result .next) y came (to .ensures .1)
+    (a .w) (a .mode) (a .out .now) (start .pre .0) (start .pre .1) (f .0) (f .1 .0) (f .1 .1 (a .mode))
+
+pub carried-out-spec : {M : Type 1} → statement M
+carried-out-spec =
+    tie.close
+    (tie.spec
+    to-requires
+    mul-rest
+    sub-rest
+    part-rest-start
+    part-rest-end
+    mul-times
+    sub-times
+    part-times-start
+    part-times-end
+    running-requires
+    ran-frame-requires
+    same-length
+    same-length-2
+    same-length-3
+    returns
+    quiet-frame-requires
+    same-length-4
+    same-length-5
+    same-length-6
+    returns-2)
