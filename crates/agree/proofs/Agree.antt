@@ -43,7 +43,8 @@ use Rattle.pins.specs.Answers.{pinBench}
 use Rattle.pins.specs.Ranges.{pinsFit, heldFits, emptyFits, ranFits, deviceFits}
 use Rattle.edges.specs.Ranges.{frameFits}
 use Rattle.agree.specs.Drawings.{Sendable, flat, bitsOf, Item, readingsAt, plan}
-use Rattle.agree.specs.Reports.{shared, lentOf, Note, asOne, watched, outputBits, levelled, outputLevels, framesPlayed, SameSeen, Agreement, LevelAgreement}
+use Rattle.agree.specs.Reports.{shared, lentOf, Note, asOne, watched, outputBits}
+use Rattle.agree.specs.Reports.{levelled, outputLevels, framesPlayed, SameSeen, Agreement, LevelAgreement}
 use Rattle.codes.proofs.Sound.{Sound, sound-of}
 use Rattle.laws.specs.Flags.{bit-on}
 use Rattle.agree.proofs.Ticks.{seenOf, endOf, metOf, decides, decidedIn}

@@ -96,7 +96,8 @@ module _ (P : Part) (sound : Sound P) where
       pick-case (λ d. countFits d n ≡ false) (picksLock a)
       (λ p. failed _ (λ e.
       let exactly : n ≡ 8 * (P .addressBytes + 2) = eqb-true n (8 * (P .addressBytes + 2)) e in
-      never (and-both (leb (8 * (P .addressBytes + 2)) n) (eqb (n % 8) 0) (le-leb (8 * (P .addressBytes + 2)) n (omega arith)) (eq-eqb (n % 8) 0 (omega arith))) f))
+      never (and-both (leb (8 * (P .addressBytes + 2)) n) (eqb (n % 8) 0) (le-leb (8 * (P .addressBytes + 2)) n (omega arith))
+      (eq-eqb (n % 8) 0 (omega arith))) f))
       (λ p. f)
 
 module _ (P : Part) (sound : Sound P) (T : Course) (c : Core) (w : Bool) where
@@ -274,7 +275,8 @@ module _ (P : Part) (sound : Sound P) (T : Course) (c : Core) (w : Bool) where
   own-cell A = sym (div-add-mod' A (P .page)) ∙ ap (λ y. A / P .page * P .page + y) (sym (mod-mod A (P .page)))
 
   page-written : (i : Instruction) (A : ℕ) → Latches i (A / P .page) → (us : List ℕ) (v : ℕ) → decode P v ≡ i
-      → bytesEnd P sound T (suc (P .addressBytes)) (afterBytes P sound T v (suc (P .addressBytes)) A 0 0 0 unlatched) us ≡ Wrote v (suc (P .addressBytes) + length us) A us
+      → bytesEnd P sound T (suc (P .addressBytes)) (afterBytes P sound T v (suc (P .addressBytes)) A 0 0 0 unlatched) us
+      ≡ Wrote v (suc (P .addressBytes) + length us) A us
   page-written i A t us v e =
       ap (λ a. bytesEnd P sound T (suc (P .addressBytes)) (afterBytes P sound T v (suc (P .addressBytes)) a 0 0 0 unlatched) us) (own-cell A)
       ∙ data-latched i (A / P .page) t us v (suc (P .addressBytes)) (A % P .page) unlatched e (omega arith)
@@ -418,7 +420,8 @@ module _ (P : Part) (sound : Sound P) (T : Course) (c : Core) (w : Bool) where
 
       -- its address is in
       addressed : (i : Instruction) → Writer i → step P sound T 0 v noFrame ≡ afterBytes P sound T v 1 0 0 0 0 unlatched → decode P v ≡ i
-          → End ≡ decidesAt P c w k (bytesEnd P sound T (suc (P .addressBytes)) (afterBytes P sound T v (suc (P .addressBytes)) (address P s) 0 0 0 unlatched) (payload P s))
+          → End ≡ decidesAt P c w k (bytesEnd P sound T (suc (P .addressBytes))
+          (afterBytes P sound T v (suc (P .addressBytes)) (address P s) 0 0 0 unlatched) (payload P s))
       addressed i t begun e =
           ap (λ l. decidesAt P c w k (bytesEnd P sound T 1 (step P sound T 0 v noFrame) l)) (take-all j vs (omega (arith, most, even)))
           ∙ ap (λ g. decidesAt P c w k (bytesEnd P sound T 1 g vs)) begun
@@ -463,7 +466,8 @@ module _ (P : Part) (sound : Sound P) (T : Course) (c : Core) (w : Bool) where
           let d = drop (suc (P .addressBytes)) vs in
           let count : suc (length d) ≡ length (payload P s) = sym (ap length payload-first) in
           addressed Wrid identifies (step-first P sound T Wrid v e) e
-          ∙ ap (λ l. decidesAt P c w k (bytesEnd P sound T (suc (P .addressBytes)) (afterBytes P sound T v (suc (P .addressBytes)) A 0 0 0 unlatched) l)) payload-first
+          ∙ ap (λ l. decidesAt P c w k (bytesEnd P sound T (suc (P .addressBytes))
+          (afterBytes P sound T v (suc (P .addressBytes)) A 0 0 0 unlatched) l)) payload-first
           ∙ ap (decidesAt P c w k) (lock-taken first d v A e lock)
           ∙ decides-bytes Wrid v (suc (P .addressBytes) + suc (length d)) k A first 0 0 unlatched e past
           ∙ ap (λ y. Does Wrid y A first first unlatched) (ap (λ y. 8 * (suc (P .addressBytes) + y) + k) count ∙ ap (λ y. 8 * y + k) count-all ∙ bits-all)
@@ -494,7 +498,8 @@ module _ (P : Part) (sound : Sound P) (T : Course) (c : Core) (w : Bool) where
   short-end : (s : List ℕ) (n : ℕ) → n < 8 → decidesAt P c w n noFrame ≡ after P (T .runs 0) w c s n
   unfolding decidesAt
   short-end s n h =
-      at-no _ _ (cut-short P (decode P 0) 0 0 (8 * 0 + n) (on 0) (on (c .wel)) (on (c .srwd) && not (on (bit w))) (barred P c (decode P 0) 0) (on 0) (omega arith))
+      at-no _ _ (cut-short P (decode P 0) 0 0 (8 * 0 + n) (on 0) (on (c .wel)) (on (c .srwd) && not (on (bit w))) (barred P c (decode P 0) 0) (on 0)
+      (omega arith))
       ∙ sym (at-no _ _ (cut-short P (instruction P s) (address P s) (getD s (P .addressBytes + 1) 0) n (T .runs 0) (on (c .wel)) (on (c .srwd) && not w)
       (barred P c (instruction P s) (address P s)) false h))
 

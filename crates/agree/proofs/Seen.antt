@@ -199,7 +199,8 @@ module _ (P : Part) (sound : Sound P) (T : Course) (m : Lent) (lock : ℕ) (stil
             let a = addressTo P s k in
             let here : suc k + 0 ≡ suc k = omega arith in
             ap₂ (λ x l. x ∷ l)
-            (ap (λ t. onQ t (afterBytes P sound T v (suc k) a 0 0 0 unlatched)) (drives-bytes P sound T i v (suc k) a 0 0 0 unlatched e ∙ read-off (suc k) (omega arith))
+            (ap (λ t. onQ t (afterBytes P sound T v (suc k) a 0 0 0 unlatched))
+            (drives-bytes P sound T i v (suc k) a 0 0 0 unlatched e ∙ read-off (suc k) (omega arith))
             ∙ sym (cell-off (address P s) (suc k) (omega arith)))
             (ap (λ f. bytesSeen P sound T onQ (suc (suc k)) f us) (read-address u v n k e q (tail 0 ∙ ap (λ y. getD s y 0) here))
             ∙ read-seen us v n (suc k) e (omega arith)

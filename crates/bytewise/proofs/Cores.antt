@@ -90,7 +90,8 @@ module _ (P : Part) (sound : Sound P) where
       (last-first others waiting l ∙ ap (λ (t : Bool). l && (others && (waiting && t))) (empty-true (waitsLatch (c .waits))))
       ∙ regrouped l all (blankFits P c)
 
-  frame-first : (f : Frame) → frameFits P f ≡ (latchFits P (latches P (decode P (f .code)) (f .address) (f .taken)) (f .latch) && frameFits P (withLatch noLatch f))
+  frame-first : (f : Frame) → frameFits P f
+      ≡ (latchFits P (latches P (decode P (f .code)) (f .address) (f .taken)) (f .latch) && frameFits P (withLatch noLatch f))
   frame-first f =
       let i = decode P (f .code) in
       let others = countsFit P f && codeFits f in

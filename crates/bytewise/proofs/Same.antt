@@ -41,7 +41,8 @@ use Rattle.pins.specs.declared.Event.the-variants.{S, C, D, W, Hold, Time}
 use Rattle.bytewise.specs.Forms as forms
 use Rattle.bytewise.specs.Forms.{Apart, waitsWith, coreWith, latchesWith, restOf, apart, CoreApart, coreApart}
 use Rattle.bytewise.specs.Deeds.{Deed, keep, empty, latching, send, clear, finish, handAfter, waitsAfter, executedDeed, byteDeed, risingDeed, deedOf}
-use Rattle.bytewise.specs.Deeds.{readBlank, renumbered, formRest, formStepped, formCells, formFits, FormBench, formNext, formPlayed, formFramed, formRead, readCells, formCoreFits}
+use Rattle.bytewise.specs.Deeds.{readBlank, renumbered, formRest, formStepped, formCells, formFits}
+use Rattle.bytewise.specs.Deeds.{FormBench, formNext, formPlayed, formFramed, formRead, readCells, formCoreFits}
 use Rattle.bytewise.specs.Bytewise.{Bytewise, byteForm, view, viewed, coreViewed}
 use Rattle.bytewise.proofs.View.{view-none, view-latched, view-fits, view-stored, view-written}
 use Rattle.bytewise.proofs.Doing.{stepped-does}

@@ -111,7 +111,8 @@ module _ (P : Part) (p : ℕ) (l : Latch) (m : List ℕ) where
       ap (count (λ i. blankAt after (p * P .page + P .page + i))) (ap (λ (k : ℕ). k - (p * P .page + P .page)) same)
       ∙ count-cong (λ i. blankAt after (p * P .page + P .page + i)) (λ i. blankAt m (p * P .page + P .page + i))
       (length m - (p * P .page + P .page))
-      (λ i h. ap (λ (x : ℕ). eqb x 0xff) (cell (p * P .page + P .page + i) (omega arith) ∙ at-no _ _ (after-page P p (p * P .page + P .page + i) (omega arith)))) in
+      (λ i h. ap (λ (x : ℕ). eqb x 0xff)
+      (cell (p * P .page + P .page + i) (omega arith) ∙ at-no _ _ (after-page P p (p * P .page + P .page + i) (omega arith)))) in
       omega (
         arith,
         exchange m after same,

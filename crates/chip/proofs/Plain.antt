@@ -31,7 +31,8 @@ module _ (P : Part) (c : Core) (plain : P .identified ≡ false) (w : Within P c
   tied-at : (n : ℕ) → c .waits .kind ≡ n
       → pick (running c) ((P .wrdiInCycle || on (c .wel)) && (eqb n 1 || eqb n 2 || false && (eqb n 3 || eqb n 4))) (eqb n 0) ≡ true
   tied-at n e =
-      ap₂ (λ k i. pick (running c) ((P .wrdiInCycle || on (c .wel)) && (eqb k 1 || eqb k 2 || i && (eqb k 3 || eqb k 4))) (eqb k 0)) (sym e) (sym plain) ∙ w .tie
+      ap₂ (λ k i. pick (running c) ((P .wrdiInCycle || on (c .wel)) && (eqb k 1 || eqb k 2 || i && (eqb k 3 || eqb k 4))) (eqb k 0)) (sym e) (sym plain)
+      ∙ w .tie
 
   neither : (r d : Bool) → pick r (d && false) false ≡ true → ⊥
   unfolding pick

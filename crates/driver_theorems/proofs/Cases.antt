@@ -49,7 +49,8 @@ record Computed (m i bytes : List ℕ) : Type 0 where
   polls-700 : pagePolls (runH m i bytes 700 .acts) ≡ 8 ∷ 8 ∷ 8 ∷ 8 ∷ []
 
 computed : (m i : List ℕ) (f : ℕ → ℕ) → Computed m i (table 300 f)
-unfolding partOf table from run pagesFrom pageActs pageWait firstWait pollsOn pick decode verdictBy timed zeros latchedFrom pageParts count edge start end splitAddress splitLength piece
+unfolding partOf table from run pagesFrom pageActs pageWait firstWait pollsOn pick decode verdictBy timed zeros latchedFrom pageParts count edge start
+    end splitAddress splitLength piece
 computed m i f = record { at-1000 = refl; at-700 = refl; polls-700 = refl }
 
 -- the run is not refused, so the answer is its own

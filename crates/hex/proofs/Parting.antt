@@ -38,7 +38,8 @@ module _ (P : Part) where
       pick-cong (saysRecord P t) (partedNone t)
       (λ e. ap (partedFirst (recordAt t)) (enough n k (drop (lineLength t) t) (shorter t n h) (shorter t k i)))
 
-  by-one : (t : List ℕ) → partedBy P (suc (length t)) t ≡ pick (saysRecord P t) (partedFirst (recordAt t) (partedBy P (length t) (drop (lineLength t) t))) (partedNone t)
+  by-one : (t : List ℕ) → partedBy P (suc (length t)) t
+      ≡ pick (saysRecord P t) (partedFirst (recordAt t) (partedBy P (length t) (drop (lineLength t) t))) (partedNone t)
   unfolding partedBy
   by-one t = refl
 

@@ -595,7 +595,8 @@ module _ (k : Cells) (P : Part) (sound : Sound P) (i : ℕ) where
   marked-addressed es b sized fits s m = marked-addressed-from es b noHand sized fits (unselected-clocked (b .device) fits s) m
 
   -- a cell that does not wait, and that no frame accepted in the list addressed by the bytes since its own select, is as it was
-  pub accepted-cell : (es : List ℕ) (b : PinBench) → i < cellCount k P → length (cellsOf k b) ≡ cellCount k P → Sized (b .device) → deviceFits P (b .device) ≡ true
+  pub accepted-cell : (es : List ℕ) (b : PinBench) → i < cellCount k P → length (cellsOf k b) ≡ cellCount k P → Sized (b .device)
+      → deviceFits P (b .device) ≡ true
       → selected (b .device) ≡ false → awaitedIn k P (b .device .core) i ≡ false → acceptedCell k P i es b noHand ≡ false
       → getD (cellsOf k (played P es b)) i 0 ≡ getD (cellsOf k b) i 0
   accepted-cell es b below size sized fits s a none =

@@ -60,7 +60,8 @@ module _ (P : Part) (i : ℕ) where
   unmarked-frame sound l p e = go (inPage P p i) refl
     where
       go : (b : Bool) → inPage P p i ≡ b → (inPage P p i && marked l (i - p * P .page)) ≡ false
-      go true q = and-no-right (inPage P p i) (marked l (i - p * P .page)) (unmarked P l (i - p * P .page) e (lt-of-lt-of-le (in-offset P p i q .0) (sound .page-room)))
+      go true q = and-no-right (inPage P p i) (marked l (i - p * P .page))
+          (unmarked P l (i - p * P .page) e (lt-of-lt-of-le (in-offset P p i q .0) (sound .page-room)))
       go false q = and-no-left (inPage P p i) (marked l (i - p * P .page)) q
 
   -- ---- a data byte for another cell

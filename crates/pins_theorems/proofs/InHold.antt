@@ -20,7 +20,8 @@ use Rattle.pins.specs.Events.{judgedNow, executedNow, decided, deselecting, onS
 module _ (P : Part) (x : Device) where
   -- what an executed frame has passed at its deselect
   pub passed-now : isExecuted (judgedNow P x) ≡ true
-      → Passed P (decode P (x .frame .code)) (x .frame .address) (x .frame .value) (8 * x .frame .taken + x .frame .bits) (on (x .frame .ran)) (on (x .core .wel))
+      → Passed P (decode P (x .frame .code)) (x .frame .address) (x .frame .value) (8 * x .frame .taken + x .frame .bits) (on (x .frame .ran))
+      (on (x .core .wel))
       (on (x .core .srwd) && not (on (x .pins .w))) (barred P (x .core) (decode P (x .frame .code)) (x .frame .address)) (on (x .held))
   passed-now e =
       passed P (decode P (x .frame .code)) (x .frame .address) (x .frame .value) (8 * x .frame .taken + x .frame .bits) (on (x .frame .ran)) (on (x .core .wel))
@@ -52,6 +53,7 @@ module _ (P : Part) (x : Device) where
   pub held-write : (n : ℕ) → isWrite (decode P (x .frame .code)) ≡ true → deselecting P (withHeldAt n x) ≡ deselecting P x
   held-write n w =
       let same : judgedNow P (withHeldAt n x) ≡ judgedNow P x =
-      verdict-held P (decode P (x .frame .code)) (x .frame .address) (x .frame .value) (8 * x .frame .taken + x .frame .bits) (on (x .frame .ran)) (on (x .core .wel))
+      verdict-held P (decode P (x .frame .code)) (x .frame .address) (x .frame .value) (8 * x .frame .taken + x .frame .bits) (on (x .frame .ran))
+      (on (x .core .wel))
       (on (x .core .srwd) && not (on (x .pins .w))) (barred P (x .core) (decode P (x .frame .code)) (x .frame .address)) (on n) (on (x .held)) w in
       ap (λ v. withPins (withS 1 (x .pins)) (withHeld false (withFrame noFrame (withCore (pick (isExecuted v) (executedNow P x) (x .core)) x)))) same

@@ -67,7 +67,8 @@ module _ (P : Part) (x : Device) where
   on-hold-core Q stays level = pick-case (λ (y : Device). Q (y .core)) (on (x .pins .c)) (λ e. stays) (λ e. stays)
 
   pub stepped-core : (Q : Event → Core → Type 0) → ((e : Event) → endsCycle e (x .core) ≡ false → Q e (x .core))
-      → (on (x .pins .s) ≡ false → isExecuted (judgedNow P x) ≡ true → Q (S true) (executedNow P x)) → ((t : ℕ) (m : List ℕ) → Q (Time t) (timedIn P t (x .core) m))
+      → (on (x .pins .s) ≡ false → isExecuted (judgedNow P x) ≡ true → Q (S true) (executedNow P x))
+      → ((t : ℕ) (m : List ℕ) → Q (Time t) (timedIn P t (x .core) m))
       → (m : Lent) (e : Event) → Q e (stepped P m e x .core)
   unfolding onD onW onTime
   stepped-core Q stays does passes m (S true) = on-s-core (Q (S true)) (stays (S true) refl) does

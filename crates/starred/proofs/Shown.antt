@@ -131,7 +131,8 @@ unfolding partOf due passed each pick verdictBy decode latchedFrom zeros bitOn c
 one-less = fresh-blank m95512 65535 (m95512 .size) 5000 (actedAllInTime m95512 acts-before start .core) refl refl (lit≤ tt) refl
 
 pub frames-seen : Seen run
-unfolding run led framesPlayed outputInTime rising due passed partOf inRanges each pick verdictBy decode latchedFrom zeros bitOn timed timedCells stored table from output flat
+unfolding run led framesPlayed outputInTime rising due passed partOf inRanges each pick verdictBy decode latchedFrom zeros bitOn timed timedCells
+    stored table from output flat
 frames-seen =
     subst Seen (sym (by-number m95512 65535 5000 acts-before acts-after start one-less))
     (record { bits = refl; registers = refl; cell = refl; number = refl })
@@ -180,7 +181,8 @@ pub record PollSeen (o : Mode) (rs : List (Report Bool)) : Type 0 where
   pub cell : firstCells rs ≡ 0xff ∷ 0xff ∷ 0x00 ∷ []
 
 pub poll-frames-seen : (o : Mode) → PollSeen o (pollingRun o)
-unfolding pollingRun framesPlayed outputInTime rising due passed partOf inRanges each pick verdictBy decode latchedFrom zeros bitOn timed timedCells stored table from output flat
+unfolding pollingRun framesPlayed outputInTime rising due passed partOf inRanges each pick verdictBy decode latchedFrom zeros bitOn timed timedCells
+    stored table from output flat
 poll-frames-seen mode.Zero = record { bits = refl; registers = refl; cell = refl }
 poll-frames-seen mode.Three = record { bits = refl; registers = refl; cell = refl }
 
@@ -198,7 +200,8 @@ readingActs o p = writing o ++ (send true o (0x03 ∷ 0x00 ∷ 0x00 ∷ 0x00 ∷
 pub read-late : (o : Mode)
     → (bitsSeen (framesPlayed outputBits m95512 (readingActs o 0) start) ≡ ones ∷ (ones ++ ones ++ ones ++ ones) ∷ (ones ++ ones ++ ones ++ none) ∷ [])
     × (bitsSeen (framesPlayed outputBits m95512 (readingActs o 1) start) ≡ ones ∷ (ones ++ ones ++ ones ++ ones) ∷ (ones ++ ones ++ ones ++ ones) ∷ [])
-unfolding framesPlayed outputInTime rising due passed partOf inRanges each pick verdictBy decode latchedFrom zeros bitOn timed timedCells stored table from output flat
+unfolding framesPlayed outputInTime rising due passed partOf inRanges each pick verdictBy decode latchedFrom zeros bitOn timed timedCells stored table
+    from output flat
 read-late mode.Zero = (refl, refl)
 read-late mode.Three = (refl, refl)
 
@@ -252,7 +255,8 @@ pub record PageSeen (rs : List (Report Bool)) : Type 0 where
   pub number : numbers rs ≡ 65536 ∷ 65536 ∷ 65536 ∷ 65536 ∷ 65536 ∷ 65536 ∷ 65536 ∷ 65536 ∷ 65536 ∷ []
 
 pub page-frames-seen : PageSeen identificationRun
-unfolding identificationRun framesPlayed outputInTime rising due passed inRanges each pick verdictBy decode latchedFrom zeros bitOn timed timedCells timedBlank stored table from output flat
+unfolding identificationRun framesPlayed outputInTime rising due passed inRanges each pick verdictBy decode latchedFrom zeros bitOn timed timedCells
+    timedBlank stored table from output flat
 page-frames-seen = record { bits = refl; registers = refl; last = refl; first = refl; locked = refl; number = refl }
 
 -- and so the pin model, from the same device
@@ -271,7 +275,8 @@ unselectedD =
       identification = length-replicate {A = ℕ} (m95512d .page) 0xff;
     }
 
-pub page-pins-seen : (es : List Event) → Wave m95512d (between false) false true [] identificationActs es → PageSeen (watched asOne m95512d es [] deliveredBenchD)
+pub page-pins-seen : (es : List Event) → Wave m95512d (between false) false true [] identificationActs es
+    → PageSeen (watched asOne m95512d es [] deliveredBenchD)
 unfolding partOf pick SameSeen identificationRun
 page-pins-seen es r = subst PageSeen (sym (agreement 1 deliveredBenchD identificationActs es unselectedD r)) page-frames-seen
 
@@ -318,7 +323,8 @@ unfolding due passed each pick verdictBy decode latchedFrom zeros bitOn count
 two-less = fresh-blank m95m01 131070 (m95m01 .size) 4000 (actedAllInTime m95m01 megabit-before megabit-start .core) refl refl (lit≤ tt) refl
 
 pub megabit-frames-seen : MegabitSeen megabitRun
-unfolding megabitRun led framesPlayed outputInTime rising due passed inRanges each pick verdictBy decode latchedFrom zeros bitOn timed timedCells stored table from output flat
+unfolding megabitRun led framesPlayed outputInTime rising due passed inRanges each pick verdictBy decode latchedFrom zeros bitOn timed timedCells
+    stored table from output flat
 megabit-frames-seen =
     subst MegabitSeen (sym (by-number m95m01 131070 4000 megabit-before megabit-after megabit-start two-less))
     (record { bits = refl; registers = refl; last = refl; first = refl; number = refl })

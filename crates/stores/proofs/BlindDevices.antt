@@ -79,8 +79,10 @@ module _ (P : Part) (x y : Device) (a : DeviceAlike P x y) where
   answer-blind o p e x′ y′ h =
       pick-devices (isDone o) x′ y′ x y h (a .same) ∙ ap (λ (r : Outcome). unnumbered (pick (isDone r) y′ y)) e
 
-  pub set-blind : (m : Lent) (e : Event) → DeviceEqualBut (answer (recordOutcome P x) (stepped P m e x) x .device) (answer (recordOutcome P y) (stepped P m e y) y .device)
-  set-blind m e = answer-blind (recordOutcome P x) (recordOutcome P y) record-outcome-blind (stepped P m e x) (stepped P m e y) (event-blind P x y (a .same) m e)
+  pub set-blind : (m : Lent) (e : Event)
+      → DeviceEqualBut (answer (recordOutcome P x) (stepped P m e x) x .device) (answer (recordOutcome P y) (stepped P m e y) y .device)
+  set-blind m e = answer-blind (recordOutcome P x) (recordOutcome P y) record-outcome-blind (stepped P m e x) (stepped P m e y)
+      (event-blind P x y (a .same) m e)
 
   pub lent-set-blind : (m : Lent) (e : Event)
       → DeviceEqualBut (answer (memoryOutcome P x m) (stepped P m e x) x .device) (answer (memoryOutcome P y m) (stepped P m e y) y .device)

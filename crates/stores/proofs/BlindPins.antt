@@ -133,7 +133,8 @@ module _ (P : Part) where
       record {
         device =
             event-blind P (b .device) (d .device) (h .device) (lentTo b) (eventOf e)
-            ∙ ap₂ (λ (m i : List ℕ). unnumbered (stepped P (record { memory = m; identification = i }) (eventOf e) (d .device))) (h .memory) (h .identification);
+            ∙ ap₂ (λ (m i : List ℕ). unnumbered (stepped P (record { memory = m; identification = i }) (eventOf e) (d .device))) (h .memory)
+            (h .identification);
         memory =
             event-cells-blind P (b .device) (d .device) (h .device) waitsPage (b .memory) (eventOf e)
             ∙ ap (steppedMemory P (eventOf e) (d .device)) (h .memory);

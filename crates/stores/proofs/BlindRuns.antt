@@ -50,7 +50,8 @@ wait-blind P i limit b d e =
     (polls-blind P i (limit - 1) (actedAll P (latePoll i b) b) (actedAll P (latePoll i b) d) (acts-blind P (latePoll i b) b d e)
     ∙ ap (λ (l : List Act). pollsOn P i (limit - 1) (actedAll P l d)) late)
 
-page-blind : (P : Part) (i limit a : ℕ) (bytes : List ℕ) (b d : FrameBench) → FrameBenchEqualBut b d → pageActs P i limit a bytes b ≡ pageActs P i limit a bytes d
+page-blind : (P : Part) (i limit a : ℕ) (bytes : List ℕ) (b d : FrameBench) → FrameBenchEqualBut b d → pageActs P i limit a bytes b
+    ≡ pageActs P i limit a bytes d
 unfolding pageActs
 page-blind P i limit a bytes b d e =
     let sent = wrenAndWrite P a bytes in
@@ -67,7 +68,8 @@ pages-blind P i limit a bytes (suc n) k b d e =
     let next = acts-blind P l b d e in
     let others = pages-blind P i limit a bytes n (suc k) (actedAll P l b) (actedAll P l d) next in
     ap₂ (λ (c : Core) (r : Run). pick (running c) (stopped l timedOut) (pageDone l r)) (next .core) others
-    ∙ ap (λ (j : List Act). pick (running (actedAll P j d .core)) (stopped j timedOut) (pageDone j (pagesFrom P i limit a bytes n (suc k) (actedAll P j d)))) acts
+    ∙ ap (λ (j : List Act). pick (running (actedAll P j d .core)) (stopped j timedOut)
+    (pageDone j (pagesFrom P i limit a bytes n (suc k) (actedAll P j d)))) acts
 
 pub run-blind : (P : Part) (i limit a : ℕ) (bytes : List ℕ) (b d : FrameBench) → FrameBenchEqualBut b d
     → run P i limit a bytes b ≡ run P i limit a bytes d

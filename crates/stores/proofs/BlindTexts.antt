@@ -57,7 +57,8 @@ module _ (P : Part) (c d : Core) (a : Alike (ownPart c) c d) (m : List ℕ) wher
   module _ (t : List ℕ) where
     -- the answers are equal once the records' numbers are
     imports : (u v w : Bool) (x y : Core) → EqualBut x y
-        → let by : Core → Imported = λ (z : Core). pick u (pick v (pick w (importedTo Done (withBlank (blanks (importedCells P m t)) z)) (importedTo NotTaken z))
+        → let by : Core → Imported = λ (z : Core). pick u
+        (pick v (pick w (importedTo Done (withBlank (blanks (importedCells P m t)) z)) (importedTo NotTaken z))
         (importedTo (Refused RecordRange) z)) (importedTo (Refused MemoryLength) z) in
         (by x .answer ≡ by y .answer) × EqualBut (by x .core) (by y .core)
     unfolding pick

@@ -1,4 +1,5 @@
--- However a text is cut into chunks, the outputs together with that of its end are the output of the text, and the device and what is lent to it are those after its last good line.
+-- However a text is cut into chunks, the outputs together with that of its end are the output of the text, and the device and what is lent to it are
+-- those after its last good line.
 use mathlib.Core.Path.{_≡_, refl, ap, sym, subst, _∙_}
 use mathlib.Core.Bool.{Bool, true, false}
 use mathlib.Core.List.{List, [], _∷_, _++_, append-assoc, append-nil}
@@ -28,7 +29,8 @@ use Rattle.lines.specs.Reading.{fresh, stopped, read, found, ended, lineFits}
 use Rattle.lines.proofs.Hand.{read-fits, fresh-fits, ended-fits}
 use Rattle.lines.proofs.Runs.{read-append, read-still, found-still}
 use Rattle.trace.specs.Texts.{firstLine, goodLines, textEvents, textNumbers, textIsBad, textBench, textOutput}
-use Rattle.trace.specs.Chunks.{headed, badLineBetween, benchOf, playedLines, shownLines, chunkBench, chunkPlayer, chunkOutput, endPlayer, endOutput, SoFar, afterChunk, afterChunks, beforeText, joined}
+use Rattle.trace.specs.Chunks.{headed, badLineBetween, benchOf, playedLines, shownLines, chunkBench, chunkPlayer}
+use Rattle.trace.specs.Chunks.{chunkOutput, endPlayer, endOutput, SoFar, afterChunk, afterChunks, beforeText, joined}
 use Rattle.trace.proofs.Cases.{nothing}
 use Rattle.trace.proofs.Plays.{own-fits}
 use Rattle.trace.proofs.Chunking.{lines-played, lines-shown}
@@ -165,7 +167,8 @@ unfolding afterChunks joined
 whole-bench n [] = no-bench n
 whole-bench n (x ∷ xs) = rw (all-chunks (beforeText n) (fresh-fits 0 (omega arith)) x xs) (text-bench n (x ++ joined xs))
 
--- ---- so no chunk of a text gets 2: a chunk leaves a player inside its ranges (whose latch has a page's cells, as an array has by its type) inside them, and so do the start and the end
+-- ---- so no chunk of a text gets 2: a chunk leaves a player inside its ranges (whose latch has a page's cells, as an array has by its type) inside them,
+-- and so do the start and the end
 
 start-line : lineFits (fresh 0) ≡ true
 start-line = fresh-fits 0 (omega arith)

@@ -31,7 +31,8 @@ use Rattle.player.specs.declared.Player.{Player}
 use Rattle.player.specs.Players.{startBench, startPlayer, playerFits}
 use Rattle.player.proofs.Starts.{start-row}
 use Rattle.trace.specs.Texts.{textIsBad}
-use Rattle.trace.specs.Chunks.{benchOf, playedLines, chunkBench, chunkPlayer, endPlayer, playerNumber, room, feedNumber, endNumber, SoFar, afterChunk, afterChunks, beforeText, joined, numbersGiven, has11}
+use Rattle.trace.specs.Chunks.{benchOf, playedLines, chunkBench, chunkPlayer, endPlayer, playerNumber, room, feedNumber}
+use Rattle.trace.specs.Chunks.{endNumber, SoFar, afterChunk, afterChunks, beforeText, joined, numbersGiven, has11}
 use Rattle.trace.proofs.Choosing.{feed-done, end-done}
 use Rattle.trace.proofs.Whole.{split, text-ended}
 use Rattle.trace.proofs.Cut.{start-fits, start-sized, chunk-fits, chunk-sized}

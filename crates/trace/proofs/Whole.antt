@@ -1,4 +1,5 @@
--- A text byte by byte and line by line: the events that the bytes give are those of the good lines, and the text is stopped at the end exactly where it has a bad line.
+-- A text byte by byte and line by line: the events that the bytes give are those of the good lines, and the text is stopped at the end exactly where it
+-- has a bad line.
 use mathlib.Core.Path.{_≡_, refl, ap, sym, subst, _∙_}
 use mathlib.Core.Bool.{Bool, true, false, _||_, true≢false}
 use mathlib.Core.List.{List, [], _∷_, _++_, map}
@@ -223,6 +224,7 @@ pub text-found : (x : List ℕ) → found (fresh 0) x ≡ map numberOf (goodLine
 unfolding Right
 text-found x = right 1000000 0 x refl .0
 
-pub text-ended : (x : List ℕ) → ended (read (fresh 0) x) ≡ pick (hasBad 1000000 x) (stopped (0 + length (goodLines 1000000 x))) (fresh (0 + length (goodLines 1000000 x)))
+pub text-ended : (x : List ℕ) → ended (read (fresh 0) x)
+    ≡ pick (hasBad 1000000 x) (stopped (0 + length (goodLines 1000000 x))) (fresh (0 + length (goodLines 1000000 x)))
 unfolding Right
 text-ended x = right 1000000 0 x refl .1

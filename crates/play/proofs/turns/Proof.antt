@@ -22,19 +22,27 @@ turn-requires c κs = tt
 
 same-length : tie.Need-same-length Inv-loop μ-loop
 same-length c =
-    omega (arith, c .before .before .before .before .before .before .before .before .before .memory .given, c .before .before .before .before .before .before .before .before .before .before .before .before .before .before .before .before .loop .inv .0)
+    let c8 = c .before .before .before .before .before .before .before .before in
+    let c16 = c8 .before .before .before .before .before .before .before .before in
+    omega (arith, c8 .before .memory .given, c16 .loop .inv .0)
 
 same-length-2 : tie.Need-same-length-2 Inv-loop μ-loop
 same-length-2 c =
-    omega (arith, c .before .before .before .before .before .before .before .identification .given, c .before .before .before .before .before .before .before .before .before .before .before .before .before .before .before .before .loop .inv .1)
+    let c8 = c .before .before .before .before .before .before .before .before in
+    let c16 = c8 .before .before .before .before .before .before .before .before in
+    omega (arith, c .before .before .before .before .before .before .before .identification .given, c16 .loop .inv .1)
 
 same-length-3 : tie.Need-same-length-3 Inv-loop μ-loop
 same-length-3 c =
-    omega (arith, c .before .before .before .before .before .text .given, c .before .before .before .before .before .before .before .before .before .before .before .before .before .before .before .before .loop .inv .2)
+    let c8 = c .before .before .before .before .before .before .before .before in
+    let c16 = c8 .before .before .before .before .before .before .before .before in
+    omega (arith, c .before .before .before .before .before .text .given, c16 .loop .inv .2)
 
 same-length-4 : tie.Need-same-length-4 Inv-loop μ-loop
 same-length-4 c =
-    omega (arith, c .before .before .before .out .given, c .before .before .before .before .before .before .before .before .before .before .before .before .before .before .before .before .loop .inv .3)
+    let c8 = c .before .before .before .before .before .before .before .before in
+    let c16 = c8 .before .before .before .before .before .before .before .before in
+    omega (arith, c .before .before .before .out .given, c16 .loop .inv .3)
 
 returns : tie.Need-returns Inv-loop μ-loop
 returns c = tt
@@ -47,10 +55,22 @@ loop-less c = omega arith
 
 loop-again : tie.Need-loop-again Inv-loop μ-loop
 loop-again c =
-    let was = c .before .before .before .before .before .before .before .before .before .before .before .before .before .before .before .before .before .loop .inv in
-    let memory = c .before .before .before .before .before .before .before .before .before .before .memory .given in
-    let identification = c .before .before .before .before .before .before .before .before .identification .given in
-    omega (arith, was .0, was .1, was .2, was .3, memory, identification, c .before .before .before .before .before .before .text .given, c .before .before .before .before .out .given)
+    let c8 = c .before .before .before .before .before .before .before .before in
+    let c16 = c8 .before .before .before .before .before .before .before .before in
+    let was = c16 .before .loop .inv in
+    let memory = c8 .before .before .memory .given in
+    let identification = c8 .identification .given in
+    omega (
+      arith,
+      was .0,
+      was .1,
+      was .2,
+      was .3,
+      memory,
+      identification,
+      c .before .before .before .before .before .before .text .given,
+      c .before .before .before .before .out .given,
+    )
 
 same-length-5 : tie.Need-same-length-5 Inv-loop μ-loop
 same-length-5 c = omega arith

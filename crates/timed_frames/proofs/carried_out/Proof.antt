@@ -52,15 +52,29 @@ mul-times c =
 
 sub-times : tie.Need-sub-times
 sub-times c =
-    let start = c .before .before .before .before .before .before .before .before .before .before .before .before .before .before .before in
+    let c8 = c .before .before .before .before .before .before .before .before in
+    let start = c8 .before .before .before .before .before .before .before in
     let a = start .args in
-    omega (arith, c .before .before .before .before .before .before .to .ensures .0, due-most 1 (a .positions .now), same-lengths (a .bits) (a .positions .now) (a .readings .now) (start .pre .0))
+    omega (
+      arith,
+      c .before .before .before .before .before .before .to .ensures .0,
+      due-most 1 (a .positions .now),
+      same-lengths (a .bits)
+          (a .positions .now) (a .readings .now) (start .pre .0),
+    )
 
 part-times-start : tie.Need-part-times-start
 part-times-start c =
-    let start = c .before .before .before .before .before .before .before .before .before .before .before .before .before .before .before in
+    let c8 = c .before .before .before .before .before .before .before .before in
+    let start = c8 .before .before .before .before .before .before .before in
     let a = start .args in
-    omega (arith, c .before .before .before .before .before .before .to .ensures .0, due-most 1 (a .positions .now), same-lengths (a .bits) (a .positions .now) (a .readings .now) (start .pre .0))
+    omega (
+      arith,
+      c .before .before .before .before .before .before .to .ensures .0,
+      due-most 1 (a .positions .now),
+      same-lengths (a .bits)
+          (a .positions .now) (a .readings .now) (start .pre .0),
+    )
 
 part-times-end : tie.Need-part-times-end
 part-times-end c = search needs
@@ -70,12 +84,14 @@ running-requires c κs = search needs
 
 ran-frame-requires : tie.Need-ran-frame-requires
 ran-frame-requires c κs =
-    let start = c .before .before .before .before .before .before .before .before .before .before .before .before .before .before .before .before .before .before .before .before .before in
+    let c8 = c .before .before .before .before .before .before .before .before in
+    let c16 = c8 .before .before .before .before .before .before .before .before in
+    let start = c16 .before .before .before .before .before in
     let a = start .args in
     let ps = a .positions .now in
     let ts = a .readings .now in
     let m = lent (a .memory .now) (a .identification .now) in
-    let to = c .before .before .before .before .before .before .before .before .before .before .before .before .to in
+    let to = c8 .before .before .before .before .to in
     let y = frameBench (to .result .core) (to .last .1 .1 .1 .1 .0) (to .last .1 .1 .1 .1 .1 .0) in
     let came : to .result .next ≡ due 1 ps = omega (arith, to .ensures .0) in
     let next = next-fits (a .core) m (a .bytes .now) (a .bits) ps ts (to .result .next) y came (to .ensures .1)
@@ -93,12 +109,15 @@ same-length-3 c = search needs
 
 returns : tie.Need-returns
 returns c =
-    let start = c .before .before .before .before .before .before .before .before .before .before .before .before .before .before .before .before .before .before .before .before .before .before .before .before .before .before .before .before in
+    let c8 = c .before .before .before .before .before .before .before .before in
+    let c16 = c8 .before .before .before .before .before .before .before .before in
+    let c24 = c16 .before .before .before .before .before .before .before .before in
+    let start = c24 .before .before .before .before in
     let a = start .args in
     let ps = a .positions .now in
     let ts = a .readings .now in
     let m = lent (a .memory .now) (a .identification .now) in
-    let to = c .before .before .before .before .before .before .before .before .before .before .before .before .before .before .before .before .before .before .before .to in
+    let to = c16 .before .before .before .to in
     let y = frameBench (to .result .core) (to .last .1 .1 .1 .1 .0) (to .last .1 .1 .1 .1 .1 .0) in
     let came : to .result .next ≡ due 1 ps = omega (arith, to .ensures .0) in
     let f = c .before .before .before .before .before .before .ran-frame .ensures in
@@ -107,12 +126,14 @@ returns c =
 
 quiet-frame-requires : tie.Need-quiet-frame-requires
 quiet-frame-requires c κs =
-    let start = c .before .before .before .before .before .before .before .before .before .before .before .before .before .before .before .before .before .before .before .before .before in
+    let c8 = c .before .before .before .before .before .before .before .before in
+    let c16 = c8 .before .before .before .before .before .before .before .before in
+    let start = c16 .before .before .before .before .before in
     let a = start .args in
     let ps = a .positions .now in
     let ts = a .readings .now in
     let m = lent (a .memory .now) (a .identification .now) in
-    let to = c .before .before .before .before .before .before .before .before .before .before .before .before .to in
+    let to = c8 .before .before .before .before .to in
     let y = frameBench (to .result .core) (to .last .1 .1 .1 .1 .0) (to .last .1 .1 .1 .1 .1 .0) in
     let came : to .result .next ≡ due 1 ps = omega (arith, to .ensures .0) in
     let next = next-fits (a .core) m (a .bytes .now) (a .bits) ps ts (to .result .next) y came (to .ensures .1)
@@ -130,12 +151,15 @@ same-length-6 c = search needs
 
 returns-2 : tie.Need-returns-2
 returns-2 c =
-    let start = c .before .before .before .before .before .before .before .before .before .before .before .before .before .before .before .before .before .before .before .before .before .before .before .before .before .before .before .before in
+    let c8 = c .before .before .before .before .before .before .before .before in
+    let c16 = c8 .before .before .before .before .before .before .before .before in
+    let c24 = c16 .before .before .before .before .before .before .before .before in
+    let start = c24 .before .before .before .before in
     let a = start .args in
     let ps = a .positions .now in
     let ts = a .readings .now in
     let m = lent (a .memory .now) (a .identification .now) in
-    let to = c .before .before .before .before .before .before .before .before .before .before .before .before .before .before .before .before .before .before .before .to in
+    let to = c16 .before .before .before .to in
     let y = frameBench (to .result .core) (to .last .1 .1 .1 .1 .0) (to .last .1 .1 .1 .1 .1 .0) in
     let came : to .result .next ≡ due 1 ps = omega (arith, to .ensures .0) in
     let f = c .before .before .before .before .before .before .quiet-frame .ensures in

@@ -55,10 +55,13 @@ same-length-6 c = search needs
 
 returns-2 : tie.Need-returns-2
 returns-2 c =
-    let a = c .before .before .before .before .before .before .before .before .before .before .before .before .before .before .before .args in
+    let c8 = c .before .before .before .before .before .before .before .before in
+    let a = c8 .before .before .before .before .before .before .before .args in
     let P = ownPart (a .core) in
     let m = lent (a .memory .now) (a .identification .now) in
-    let e = sym (c .before .before .before .before .before .before .before .places-fit .ensures) ∙ not-true (c .before .before .before .before .before .before .before .places-fit .result) (c .before .before .before .before .before .before .if2 .taken) in
+    let e = sym (c .before .before .before .before .before .before .before .places-fit .ensures)
+    ∙ not-true (c .before .before .before .before .before .before .before .places-fit .result)
+    (c .before .before .before .before .before .before .if2 .taken) in
     let f = c .before .before .frame2 .ensures in
     turned-away P (a .core) m (a .w) (a .mode) (a .bytes .now) (a .bits) (a .positions .now) (a .readings .now) (a .out .now) 18446744073709551615
     (misplaced P (a .core) m (a .bytes .now) (a .bits) (a .positions .now) (a .readings .now) (length (a .out .now)) e (size-most (a .core .part)))
@@ -96,8 +99,11 @@ returns-3 c =
 carried-out-requires : tie.Need-carried-out-requires
 carried-out-requires c κs =
     let fits = c .before .before .before .before .frame-fits in
-    let places = c .before .before .before .before .before .before .places-fit in
-    (sym (places .ensures) ∙ not-false (places .result) (c .before .before .before .before .before .if2 .left), fits .ensures .0 (not-false (fits .result) (c .before .before .before .if3 .left)))
+    let places = c .before .before .before .before .before .before .places-fit in (
+      sym (places .ensures) ∙ not-false (places .result) (c .before .before .before .before .before .if2 .left),
+      fits .ensures .0
+          (not-false (fits .result) (c .before .before .before .if3 .left)),
+    )
 
 same-length-10 : tie.Need-same-length-10
 same-length-10 c = search needs

@@ -10,7 +10,8 @@ number-requires : tie.Need-number-requires
 number-requires c κs = search needs
 
 returns : tie.Need-returns
-returns c = yes-so _ (c .before .before .before .if1 .taken) (rw (c .number .ensures, c .before .before .power-up .ensures .1, c .before .before .power-up .ensures .0))
+returns c = yes-so _ (c .before .before .before .if1 .taken)
+    (rw (c .number .ensures, c .before .before .power-up .ensures .1, c .before .before .power-up .ensures .0))
 
 bad-flag-requires : tie.Need-bad-flag-requires
 bad-flag-requires c κs = search needs

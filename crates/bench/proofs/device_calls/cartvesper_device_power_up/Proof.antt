@@ -25,7 +25,8 @@ refused-requires : tie.Need-refused-requires
 refused-requires c κs = search needs
 
 returns-2 : tie.Need-returns-2
-returns-2 c = no-so _ (c .before .before .before .before .if1 .left) (rw (c .refused .ensures, c .before .resting .ensures, c .before .before .unpowered .ensures, c .before .before .before .bad-flag .ensures))
+returns-2 c = no-so _ (c .before .before .before .before .if1 .left)
+    (rw (c .refused .ensures, c .before .resting .ensures, c .before .before .unpowered .ensures, c .before .before .before .bad-flag .ensures))
 
 pub cartvesper-device-power-up-spec : {M : Type 1} → statement M
 cartvesper-device-power-up-spec =

@@ -21,10 +21,11 @@ same-length-2 : tie.Need-same-length-2
 same-length-2 c = search needs
 
 returns : tie.Need-returns
-returns c = (
-  rw (c .before .before .number .ensures, c .before .pages .ensures, c .frames .ensures, c .before .before .before .before .before .before .before .before .write .ensures .0),
-  c .before .before .before .before .before .before .before .before .write .ensures .1 .1 .1 .1,
-)
+returns c =
+    let c8 = c .before .before .before .before .before .before .before .before in (
+      rw (c .before .before .number .ensures, c .before .pages .ensures, c .frames .ensures, c8 .write .ensures .0),
+      c8 .write .ensures .1 .1 .1 .1,
+    )
 
 pub cartvesper-write-spec : {M : Type 1} → statement M
 cartvesper-write-spec =

@@ -12,8 +12,14 @@ same-length : tie.Need-same-length
 same-length c = search needs
 
 returns : tie.Need-returns
-returns c =
-    (rw (c .number .ensures, c .before .before .before .before .import .ensures .1 .0, c .before .before .before .before .import .ensures .0), c .before .before .before .before .import .ensures .1 .1)
+returns c = (
+  rw (
+    c .number .ensures,
+    c .before .before .before .before .import .ensures .1 .0,
+    c .before .before .before .before .import .ensures .0,
+  ),
+  c .before .before .before .before .import .ensures .1 .1,
+)
 
 pub cartvesper-hex-import-spec : {M : Type 1} → statement M
 cartvesper-hex-import-spec =

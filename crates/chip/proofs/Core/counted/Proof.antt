@@ -16,7 +16,8 @@ with-blank-requires : tie.Need-with-blank-requires
 with-blank-requires c κs = search needs
 
 returns : tie.Need-returns
-returns c = eq-so _ (c .before .before .if1 .taken ∙ c .before .before .before .size-of .ensures .0) (c .with-blank .ensures ∙ ap (λ (n : ℕ). withBlank n (c .before .before .before .before .before .args .self)) (c .before .blanks .ensures))
+returns c = eq-so _ (c .before .before .if1 .taken ∙ c .before .before .before .size-of .ensures .0)
+    (c .with-blank .ensures ∙ ap (λ (n : ℕ). withBlank n (c .before .before .before .before .before .args .self)) (c .before .blanks .ensures))
 
 returns-2 : tie.Need-returns-2
 returns-2 c = ne-so _ (λ e. c .if1 .left (e ∙ sym (c .before .size-of .ensures .0))) refl

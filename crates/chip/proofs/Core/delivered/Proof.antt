@@ -17,7 +17,8 @@ quiet-requires : tie.Need-quiet-requires
 quiet-requires c κs = search needs
 
 returns : tie.Need-returns
-returns c = call-yes _ (c .before .before .before .is-part .ensures) (c .before .before .if1 .taken) (rw (c .quiet .ensures, c .before .size-of .ensures .0) refl)
+returns c = call-yes _ (c .before .before .before .is-part .ensures) (c .before .before .if1 .taken)
+    (rw (c .quiet .ensures, c .before .size-of .ensures .0) refl)
 
 size-of-requires-2 : tie.Need-size-of-requires-2
 size-of-requires-2 c κs = search needs
@@ -29,7 +30,8 @@ quiet-requires-2 : tie.Need-quiet-requires-2
 quiet-requires-2 c κs = search needs
 
 returns-2 : tie.Need-returns-2
-returns-2 c = call-no _ (c .before .before .before .is-part .ensures) (c .before .before .if1 .left) (rw (c .quiet2 .ensures, c .before .size-of2 .ensures .0) refl)
+returns-2 c = call-no _ (c .before .before .before .is-part .ensures) (c .before .before .if1 .left)
+    (rw (c .quiet2 .ensures, c .before .size-of2 .ensures .0) refl)
 
 pub delivered-spec : {M : Type 1} → statement M
 delivered-spec =

@@ -33,10 +33,12 @@ not-powered-requires c κs = search needs
 
 returns-2 : tie.Need-returns-2
 returns-2 c =
-    let a = c .before .before .before .before .before .before .before .before .args in
+    let c8 = c .before .before .before .before .before .before .before .before in
+    let a = c8 .args in
     powered (a .part) (a .lock) (a .cycle) (a .srwd) (a .bp1) (a .bp0) (a .reading) (a .memory .now)
     (eq-so _ (c .before .before .before .before .before .if1 .taken ∙ c .before .before .before .before .before .before .size-of .ensures .0)
-    (call-yes _ (c .before .before .before .before .is-part .ensures) (c .before .before .before .if2 .taken) (call-no _ (c .before .before .cycle-fits .ensures) (c .before .if3 .left) (c .not-powered .ensures))))
+    (call-yes _ (c .before .before .before .before .is-part .ensures) (c .before .before .before .if2 .taken)
+    (call-no _ (c .before .before .cycle-fits .ensures) (c .before .if3 .left) (c .not-powered .ensures))))
 
 not-powered-requires-2 : tie.Need-not-powered-requires-2
 not-powered-requires-2 c κs = search needs
@@ -45,7 +47,8 @@ returns-3 : tie.Need-returns-3
 returns-3 c =
     let a = c .before .before .before .before .before .before .args in
     powered (a .part) (a .lock) (a .cycle) (a .srwd) (a .bp1) (a .bp0) (a .reading) (a .memory .now)
-    (eq-so _ (c .before .before .before .if1 .taken ∙ c .before .before .before .before .size-of .ensures .0) (call-no _ (c .before .before .is-part .ensures) (c .before .if2 .left) (c .not-powered2 .ensures)))
+    (eq-so _ (c .before .before .before .if1 .taken ∙ c .before .before .before .before .size-of .ensures .0)
+    (call-no _ (c .before .before .is-part .ensures) (c .before .if2 .left) (c .not-powered2 .ensures)))
 
 not-powered-requires-3 : tie.Need-not-powered-requires-3
 not-powered-requires-3 c κs = search needs

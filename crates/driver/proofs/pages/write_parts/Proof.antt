@@ -37,10 +37,16 @@ cartvesper-split-parts-requires c κs = tt
 loop-holds : tie.Need-loop-holds Inv-loop μ-loop
 loop-holds c =
     let start = c .before .before .before .before in
-    let parts = c .cartvesper-split-parts .ensures ∙ parts-asked (ownPart (start .args .core) .size) (ownPart (start .args .core) .page) (start .args .address) (length (start .args .bytes .now)) in
+    let parts = c .cartvesper-split-parts .ensures
+    ∙ parts-asked (ownPart (start .args .core) .size) (ownPart (start .args .core) .page) (start .args .address) (length (start .args .bytes .now)) in
     let ready : Ready (ownPart (start .args .core)) (frameBench (start .args .core) (start .args .memory .now) (start .args .identification .now)) =
-    record { whole = start .pre .0; page = start .pre .1 .0; ranges = start .pre .1 .1 .0 } in
-    (omega arith, (omega (arith, start .pre .1 .1 .1 .1, longest-most (start .args .core .part)), (parts, (refl, (ready, rest-first (ownPart (start .args .core)) _ _ _ _ _ _ _)))))
+    record { whole = start .pre .0; page = start .pre .1 .0; ranges = start .pre .1 .1 .0 } in (
+      omega arith,
+      (
+        omega (arith, start .pre .1 .1 .1 .1, longest-most (start .args .core .part)),
+        (parts, (refl, (ready, rest-first (ownPart (start .args .core)) _ _ _ _ _ _ _))),
+      ),
+    )
 
 write-part-requires : tie.Need-write-part-requires Inv-loop μ-loop
 write-part-requires c κs =
@@ -83,7 +89,8 @@ few-frames w =
     let a = w .before .before .before .before .before .before .before .before .before .args in
     let l = w .before .before .before .before .loop in
     let sends =
-    acts-most (ownPart (a .core)) (a .interval) (a .limit) (splitAddress (ownPart (a .core) .size) (ownPart (a .core) .page) (a .address) (length (a .bytes .now)) (l .k))
+    acts-most (ownPart (a .core)) (a .interval) (a .limit)
+    (splitAddress (ownPart (a .core) .size) (ownPart (a .core) .page) (a .address) (length (a .bytes .now)) (l .k))
     (piece (ownPart (a .core) .size) (ownPart (a .core) .page) (a .address) (a .bytes .now) (l .k)) (frameBench (l .next) (l .memory) (l .identification))
     (w .before .before .before .before .before .before .before .before .before .pre .1 .1 .1 .0 .0) in
     omega (arith, went w .told .1 .1 .0)
@@ -170,12 +177,13 @@ loop-again c =
     let P = ownPart (a .core) in
     let left = went w in
     let most = few-frames w in
-    let below = c .before .before .before .before .before .before .before .before .before .before .before .loop-test .taken in
+    let below = w .before .before .before .loop-test .taken in
     let counts = left .told .1 .1 .0 in
-    let parts = c .before .before .before .before .before .before .before .before .before .before .before .before .before .cartvesper-split-parts .result in
+    let parts = w .before .before .before .before .before .cartvesper-split-parts .result in
     let idle = sym (seen-wip (part .result .status) (part .result .core) (part .ensures .1 .0)) ∙ sym (c .before .wip .ensures) ∙ c .if1 .left in
     let rest =
-    rest-next P (a .interval) (a .limit) (a .address) (a .bytes .now) parts (a .sent) _ (l .k) (l .frames) (part .result .frames) d _ below (left .leaves) counts idle
+    rest-next P (a .interval) (a .limit) (a .address) (a .bytes .now) parts (a .sent) _ (l .k) (l .frames) (part .result .frames) d _ below
+    (left .leaves) counts idle
     (l .inv .1 .1 .1 .1 .1) in
     (omega arith, (omega (arith, l .inv .1 .0, start .pre .1 .1 .1 .0 .1, longest-most (a .core .part)), (l .inv .1 .1 .0, (left .stays, (left .ready, rest)))))
 

@@ -28,7 +28,8 @@ sub-poll-on c = search needs
 
 poll-on-requires : tie.Need-poll-on-requires
 poll-on-requires c κs =
-    let start = c .before .before .before .before .before .before .before .before .before .before .before .before in
+    let c8 = c .before .before .before .before .before .before .before .before in
+    let start = c8 .before .before .before .before in
     let a = start .args in
     let P = ownPart (a .core) in
     let next = c .before .before .before .before .before .before .before .moved in
@@ -38,7 +39,10 @@ poll-on-requires c κs =
     (record { whole = start .pre .0; page = start .pre .1 .0; ranges = start .pre .1 .1 .0 }) in
     let same = own-acted P (moved (a .interval) d ∷ []) d (next .ensures .0) in (
       at-own same (λ (Q : Part). length (next .last .1 .0) ≡ Q .size) (ap length (next .ensures .1 .0) ∙ ready .whole),
-      (at-own same (λ (Q : Part). length (next .last .1 .1 .0) ≡ Q .page) (ap length (next .ensures .1 .1) ∙ ready .page), (own-ranges same (next .ensures .0) (ready .ranges), c .before .before .poll .ensures)),
+      (
+        at-own same (λ (Q : Part). length (next .last .1 .1 .0) ≡ Q .page) (ap length (next .ensures .1 .1) ∙ ready .page),
+        (own-ranges same (next .ensures .0) (ready .ranges), c .before .before .poll .ensures),
+      ),
     )
 
 and-sent-requires : tie.Need-and-sent-requires

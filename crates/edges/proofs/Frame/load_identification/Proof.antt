@@ -38,7 +38,13 @@ with-address-requires c κs = search needs
 returns-2 : tie.Need-returns-2
 unfolding pick
 returns-2 c =
-    rw (c .with-address .ensures, c .before .next-address .ensures, c .before .before .with-out2 .ensures, c .before .before .before .cell .ensures, c .before .before .before .before .cell-of .ensures .0)
+    rw (
+      c .with-address .ensures,
+      c .before .next-address .ensures,
+      c .before .before .with-out2 .ensures,
+      c .before .before .before .cell .ensures,
+      c .before .before .before .before .cell-of .ensures .0,
+    )
     (rw (← c .before .before .before .before .before .before .picks-lock .ensures, c .before .before .before .before .before .if1 .left))
 
 pub load-identification-spec : {M : Type 1} → statement M

@@ -18,7 +18,13 @@ left-over-requires : tie.Need-left-over-requires
 left-over-requires c κs = c .before .place .ensures .1 .0
 
 returns : tie.Need-returns
-returns c = rw (c .left-over .ensures, c .before .before .place .ensures .0, c .before .before .before .less .ensures .0, c .before .before .before .before .head-of .ensures .0, c .before .size-of .ensures .0)
+returns c = rw (
+  c .left-over .ensures,
+  c .before .before .place .ensures .0,
+  c .before .before .before .less .ensures .0,
+  c .before .before .before .before .head-of .ensures .0,
+  c .before .size-of .ensures .0,
+)
 
 pub taken-so-far-spec : {M : Type 1} → statement M
 taken-so-far-spec =

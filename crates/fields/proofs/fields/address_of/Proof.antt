@@ -57,14 +57,16 @@ sub-result c = search needs
 
 returns-2 : tie.Need-returns-2
 returns-2 c =
-    let a = c .before .before .before .before .before .before .before .before .args in
+    let c8 = c .before .before .before .before .before .before .before .before in
+    let a = c8 .args in
     let s = a .bytes .now in
     let P = partOf (a .part) in
     let one : getD s 1 0 < 256 = omega (arith, c .before .before .before .before .before .before .byte-at .ensures) in
     let two : getD s 2 0 < 256 = omega (arith, c .before .before .before .before .before .byte-at2 .ensures) in
     let e : c .before .before .before .before .joined .result ≡ firstTwo (a .part) s one two =
     c .before .before .before .before .joined .ensures
-    ∙ ap₂ (λ (h l : ℕ). h * 256 + l) (c .before .before .before .before .before .before .byte-at .ensures) (c .before .before .before .before .before .byte-at2 .ensures) in
+    ∙ ap₂ (λ (h l : ℕ). h * 256 + l) (c .before .before .before .before .before .before .byte-at .ensures)
+    (c .before .before .before .before .before .byte-at2 .ensures) in
     let more : P .addressBytes ≡ 2 → ⊥ = λ q. c .before .before .if1 .left (c .before .before .before .address-bytes-of .ensures .0 ∙ q) in
     rw (c .size-of .ensures .0, size-mask (sound-of (a .part)) _, e, c .before .byte-at3 .ensures) (
       address-three (a .part) s one two more,

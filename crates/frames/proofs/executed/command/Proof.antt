@@ -47,12 +47,14 @@ enum-told-9 c = search needs
 returns : tie.Need-returns
 returns c =
     let start = c .before .before .before in
-    λ a l. c .with-wel .ensures ∙ sym (ap (λ i. effect (ownPart (start .args .core)) i a (start .args .value) l (start .args .core)) (c .before .enum-told .given .1))
+    λ a l. c .with-wel .ensures ∙ sym (ap (λ i. effect (ownPart (start .args .core)) i a (start .args .value) l (start .args .core))
+    (c .before .enum-told .given .1))
 
 returns-2 : tie.Need-returns-2
 returns-2 c =
     let start = c .before .before .before in
-    λ a l. c .with-wel2 .ensures ∙ sym (ap (λ i. effect (ownPart (start .args .core)) i a (start .args .value) l (start .args .core)) (c .before .enum-told2 .given .1))
+    λ a l. c .with-wel2 .ensures ∙ sym (ap (λ i. effect (ownPart (start .args .core)) i a (start .args .value) l (start .args .core))
+    (c .before .enum-told2 .given .1))
 
 returns-3 : tie.Need-returns-3
 returns-3 c =
@@ -62,7 +64,8 @@ returns-3 c =
 returns-4 : tie.Need-returns-4
 returns-4 c =
     let start = c .before .before .before in
-    λ a l. c .begin-status .ensures ∙ sym (ap (λ i. effect (ownPart (start .args .core)) i a (start .args .value) l (start .args .core)) (c .before .enum-told4 .given .1))
+    λ a l. c .begin-status .ensures ∙ sym
+    (ap (λ i. effect (ownPart (start .args .core)) i a (start .args .value) l (start .args .core)) (c .before .enum-told4 .given .1))
 
 returns-5 : tie.Need-returns-5
 returns-5 c =

@@ -53,14 +53,17 @@ same-length c = search needs
 
 returns : tie.Need-returns
 returns c =
-    let a = c .before .before .before .before .before .before .before .before .before .before .before .before .before .before .before .args in
-    let long : length (a .memory .now) ≡ ownPart (a .core) .size = c .before .before .before .before .before .before .before .before .before .before .before .if1 .taken ∙ c .before .before .before .before .before .before .before .before .before .before .before .before .size-of .ensures .0 in
-    let fits = sym (c .before .before .before .before .before .before .before .before .before .before .in-ranges .ensures) ∙ c .before .before .before .before .before .before .before .before .before .if2 .taken in
-    let image = sym (c .before .before .before .before .before .before .before .before .imaged .ensures) ∙ c .before .before .before .before .before .before .before .if3 .taken in
+    let c8 = c .before .before .before .before .before .before .before .before in
+    let a = c8 .before .before .before .before .before .before .before .args in
+    let long : length (a .memory .now) ≡ ownPart (a .core) .size = c8 .before .before .before .if1 .taken
+    ∙ c8 .before .before .before .before .size-of .ensures .0 in
+    let fits = sym (c8 .before .before .in-ranges .ensures) ∙ c8 .before .if2 .taken in
+    let image = sym (c8 .imaged .ensures) ∙ c .before .before .before .before .before .before .before .if3 .taken in
     let x = c .before .before .before .before .take-text in
     let t = takes m95512 (a .core) (a .text .now) in
     let asked : Bool → Bool = λ r. not r && isGood m95512 (a .text .now) in
-    let test : asked (c .before .before .before .before .before .before .running .result) ≡ t = ap asked (c .before .before .before .before .before .before .running .ensures) ∙ sym (ap (λ i. i && asked (running (a .core))) image) in
+    let test : asked (c .before .before .before .before .before .before .running .result)
+    ≡ t = ap asked (c .before .before .before .before .before .before .running .ensures) ∙ sym (ap (λ i. i && asked (running (a .core))) image) in
     let m = a .memory .now in
     let left = importedCells m95512 m (a .text .now) in
     let cells : x .last .1 .0 ≡ pick t left m = x .ensures .1 ∙ ap (λ (r : Bool). pick r left m) test in
@@ -77,8 +80,10 @@ returns c =
 
 returns-2 : tie.Need-returns-2
 returns-2 c =
-    let a = c .before .before .before .before .before .before .before .before .args in
-    let long : length (a .memory .now) ≡ ownPart (a .core) .size = c .before .before .before .before .if1 .taken ∙ c .before .before .before .before .before .size-of .ensures .0 in
+    let c8 = c .before .before .before .before .before .before .before .before in
+    let a = c8 .args in
+    let long : length (a .memory .now) ≡ ownPart (a .core) .size = c .before .before .before .before .if1 .taken
+    ∙ c .before .before .before .before .before .size-of .ensures .0 in
     let no : takes m95512 (a .core) (a .text .now) ≡ false = and-no-left (imaged m95512 (a .core)) _ (sym (c .before .imaged .ensures) ∙ c .if3 .left) in
     (search arms, (search arms, search arms))
 

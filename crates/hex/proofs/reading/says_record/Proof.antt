@@ -44,7 +44,12 @@ sums-up-requires c κs = search needs
 returns-4 : tie.Need-returns-4
 unfolding saysRecord
 returns-4 c =
-    rw (c .before .before .is-framed .ensures, c .before .is-placed .ensures, c .sums-up .ensures, c .before .before .before .before .before .line-byte .ensures .0) refl
+    rw (
+      c .before .before .is-framed .ensures,
+      c .before .is-placed .ensures,
+      c .sums-up .ensures,
+      c .before .before .before .before .before .line-byte .ensures .0,
+    ) refl
 
 pub says-record-spec : {M : Type 1} → statement M
 says-record-spec =

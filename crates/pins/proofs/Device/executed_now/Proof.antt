@@ -75,7 +75,11 @@ returns-5 c = rw (sym (c .before .before .decode .ensures) ∙ c .enum-told5 .gi
 
 returns-6 : tie.Need-returns-6
 returns-6 c =
-    rw (sym (c .before .before .before .before .before .decode .ensures) ∙ c .before .before .before .enum-told6 .given .1, ← (c .before .page-number .ensures .0))
+    rw (
+      sym (c .before .before .before .before .before .decode .ensures)
+          ∙ c .before .before .before .enum-told6 .given .1,
+      ← (c .before .page-number .ensures .0),
+    )
     (c .begin-page .ensures)
 
 returns-7 : tie.Need-returns-7

@@ -24,7 +24,14 @@ in-ranges-requires c κs = search needs
 returns : tie.Need-returns
 unfolding deviceFits
 returns c =
-    rw (c .before .before .before .before .before .fit .ensures, c .before .before .before .before .held-fits .ensures, c .before .before .before .fits2 .ensures, c .before .before .empty-fits .ensures, c .before .ran-fits .ensures, c .in-ranges .ensures)
+    rw (
+      c .before .before .before .before .before .fit .ensures,
+      c .before .before .before .before .held-fits .ensures,
+      c .before .before .before .fits2 .ensures,
+      c .before .before .empty-fits .ensures,
+      c .before .ran-fits .ensures,
+      c .in-ranges .ensures,
+    )
 
 pub in-ranges-spec : {M : Type 1} → statement M
 in-ranges-spec =

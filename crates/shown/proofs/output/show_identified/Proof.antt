@@ -36,12 +36,14 @@ same-length c = search needs
 
 returns : tie.Need-returns
 returns c =
-    let a = c .before .before .before .before .before .before .before .before .before .before .before .before .args in
+    let c8 = c .before .before .before .before .before .before .before .before in
+    let a = c8 .before .before .before .before .args in
     let shown = c .before .before .before .before .before .before .before .show-head in
-    data-after _ (a .ran) (shown .result) (identificationAt (partOf (a .part)) (a .lock) (a .identification .now) (a .from)) (a .out .now) (shown .last .1 .1 .0)
+    data-after _ (a .ran) (shown .result) (identificationAt (partOf (a .part)) (a .lock) (a .identification .now) (a .from)) (a .out .now)
+    (shown .last .1 .1 .0)
     (shown .ensures .0) (shown .ensures .1) (c .before .before .before .before .if1 .taken) _ (c .before .before .show-identification .ensures)
     ∙ ap (λ (h : ℕ). table (length (a .out .now)) (follows h (a .ran) (identificationAt (partOf (a .part)) (a .lock) (a .identification .now) (a .from))))
-    (c .before .before .before .before .before .before .before .before .before .head-of .ensures .0)
+    (c8 .before .head-of .ensures .0)
 
 same-length-2 : tie.Need-same-length-2
 same-length-2 c = search needs

@@ -15,7 +15,8 @@ use Rattle.frames.specs.Play.{FrameBench, frameBench}
 use Rattle.timed_frames.specs.Schedules.{due, passed, benchAt}
 use Rattle.timed_frames.specs.InTime.{loadedAt}
 use Rattle.timed_frames.specs.Walked.{Walked}
-use Rattle.timed_frames.proofs.Walks.{due-most, due-none, bench-none, none-between, loaded-late, loaded-soon, due-add, walk-on, bench-part, set-shown, all-shown}
+use Rattle.timed_frames.proofs.Walks.{due-most, due-none, bench-none, none-between, loaded-late}
+use Rattle.timed_frames.proofs.Walks.{loaded-soon, due-add, walk-on, bench-part, set-shown, all-shown}
 use borrow.Author.Needs.{needs}
 use Rattle.timed_frames.proofs.polled.show_statuses.Statement.{statement}
 use Rattle.timed_frames.proofs.polled.show_statuses.Tie as tie

@@ -23,11 +23,13 @@ pieces-requires c κs =
 
 put-bad-between-requires : tie.Need-put-bad-between-requires
 put-bad-between-requires c κs =
-    let at = c .before .before .before .before .before .before .before .before .before .before .before .before .before .before .before .before .before .before .before .before .before .before .before in
-    let x = c .before .before .before .before .before .before .before .before .before .pieces in
-    let head = c .before .before .before .before .before .before .before .before .before .before .before .before .before .before .before .put-head in
+    let c8 = c .before .before .before .before .before .before .before .before in
+    let c16 = c8 .before .before .before .before .before .before .before .before in
+    let at = c16 .before .before .before .before .before .before .before in
+    let x = c8 .before .pieces in
+    let head = c8 .before .before .before .before .before .before .before .put-head in
     let same = c .before .before .before .before .out2 .given in
-    let as-given = c .before .before .before .before .before .before .before .before .before .before .before .before .before .before .out .given in
+    let as-given = c8 .before .before .before .before .before .before .out .given in
     (omega (arith, same, as-given, x .ensures .1 .1 .1 .1 .1 .1, head .ensures .1 .1, at .pre .3), x .ensures .0 .1)
 
 answer-of-requires : tie.Need-answer-of-requires
@@ -44,10 +46,13 @@ same-length-3 c = search needs
 
 returns : tie.Need-returns
 returns c =
-    let a = c .before .before .before .before .before .before .before .before .before .before .before .before .before .before .before .before .before .before .before .before .before .before .before .before .before .before .before .args in
-    let pre = c .before .before .before .before .before .before .before .before .before .before .before .before .before .before .before .before .before .before .before .before .before .before .before .before .before .before .before .pre in
-    let head = c .before .before .before .before .before .before .before .before .before .before .before .before .before .before .before .before .before .before .before .put-head in
-    let x = c .before .before .before .before .before .before .before .before .before .before .before .before .before .pieces in
+    let c8 = c .before .before .before .before .before .before .before .before in
+    let c16 = c8 .before .before .before .before .before .before .before .before in
+    let c24 = c16 .before .before .before .before .before .before .before .before in
+    let a = c24 .before .before .before .args in
+    let pre = c24 .before .before .before .pre in
+    let head = c16 .before .before .before .put-head in
+    let x = c8 .before .before .before .before .before .pieces in
     let bad = c .before .before .before .put-bad-between in
     let m = lent (a .memory .now) (a .identification .now) in
     let t = a .text .now in

@@ -47,16 +47,19 @@ same-length-3 c = search needs
 
 returns : tie.Need-returns
 returns c =
-    let a = c .before .before .before .before .before .before .before .before .before .before .before .before .before .before .before .before .before .before .before .before .args in
+    let c8 = c .before .before .before .before .before .before .before .before in
+    let c16 = c8 .before .before .before .before .before .before .before .before in
+    let a = c16 .before .before .before .before .args in
     let p = a .player in
     let m = lent (a .memory .now) (a .identification .now) in
     let n = room (length (a .text .now)) in
     let bytes = length (a .out .now) in
-    let long = sym (c .before .before .before .before .before .before .before .before .before .before .before .before .before .before .before .lent-fits .ensures) ∙ c .before .before .before .before .before .before .before .before .before .before .before .before .before .before .if1 .taken in
-    let fits = sym (c .before .before .before .before .before .before .before .before .before .before .before .before .before .in-ranges .ensures)
-    ∙ c .before .before .before .before .before .before .before .before .before .before .before .before .if2 .taken in
-    let wide = sym (c .before .before .before .before .before .before .before .before .before .before .before .has-room .ensures)
-    ∙ c .before .before .before .before .before .before .before .before .before .before .if3 .taken in
+    let long = sym (c8 .before .before .before .before .before .before .before .lent-fits .ensures)
+    ∙ c8 .before .before .before .before .before .before .if1 .taken in
+    let fits = sym (c8 .before .before .before .before .before .in-ranges .ensures)
+    ∙ c8 .before .before .before .before .if2 .taken in
+    let wide = sym (c8 .before .before .before .has-room .ensures)
+    ∙ c8 .before .before .if3 .taken in
     let x = c .before .before .before .before .before .before .take-chunk in (
       feed-done p m n bytes _ _ _ long fits wide (x .ensures .0),
       (
