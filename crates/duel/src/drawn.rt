@@ -1,5 +1,6 @@
 // A frame drawn as single pin changes: D free between edges, any pin set to the level it has, both modes, pauses that
-// begin and end with C low, C free in a pause and between frames.
+// begin and end with C low, C free in a pause and between frames. Clock readings come at byte boundaries, after the
+// falling edge in mode 0 and before it in mode 3, and never in a pause.
 use crate::cells::Memory;
 use crate::cells::Page;
 use crate::cells::first;
@@ -13,6 +14,9 @@ use crate::run::PAUSES;
 use crate::run::Run;
 use crate::run::count;
 use crate::run::same;
+use crate::schedules::MANY;
+use crate::schedules::Schedule;
+use crate::schedules::is_due;
 use codes::page_of;
 use codes::size_of;
 use pins::Device;
@@ -62,6 +66,27 @@ pub fn set(side: PinSide, pin: u64, high: bool, memory: &Memory, run: &mut Run) 
     let page = side.page;
     same(b"number of a pin change", 0, outcome.number(), run);
     count(CHANGES, run);
+    PinSide {
+        device: device,
+        page: page,
+    }
+}
+
+// A clock reading, with as many cells lent as the part has.
+fn pins_timed(device: Device, reading: u32, memory: &mut [u8], page: &mut [u8]) -> Stepped {
+    let part = device.core.part;
+    let m = first(size_of(part), memory.len());
+    let n = first(page_of(part), page.len());
+    device.read_clock(reading, &mut memory[..m], &mut page[..n])
+}
+
+// A clock reading, which a device inside its ranges does not refuse.
+pub fn read_pins(side: PinSide, reading: u32, memory: &mut Memory, run: &mut Run) -> PinSide {
+    let mut page = side.page;
+    let stepped = pins_timed(side.device, reading, memory, &mut page);
+    let device = stepped.device;
+    let outcome = stepped.outcome;
+    same(b"number of a reading", 0, outcome.number(), run);
     PinSide {
         device: device,
         page: page,
@@ -118,26 +143,51 @@ fn pause(side: PinSide, memory: &Memory, run: &mut Run) -> PinSide {
     side
 }
 
-// C low, with room for a pause, then D at the bit.
-fn ready(side: PinSide, high: bool, memory: &Memory, run: &mut Run) -> PinSide {
-    let low = set(side, C, false, memory, run);
-    let strayed = stray(low, false, memory, run);
-    let rested = pause(strayed, memory, run);
-    set(rested, D, high, memory, run)
+// The readings that come after k bits in a mode.
+fn read_at(
+    side: PinSide,
+    k: usize,
+    mode3: bool,
+    schedule: Schedule,
+    memory: &mut Memory,
+    run: &mut Run,
+) -> PinSide {
+    let readings = schedule.readings;
+    let mut next = side;
+    let mut i: usize = 0;
+    while i < MANY {
+        if is_due(schedule, i, k, mode3) {
+            next = read_pins(next, readings[i], memory, run);
+        }
+        i += 1;
+    }
+    next
 }
 
-// Bit k: Q is compared just before C rises.
+// C low, with room for a pause.
+fn fall(side: PinSide, memory: &Memory, run: &mut Run) -> PinSide {
+    let low = set(side, C, false, memory, run);
+    let strayed = stray(low, false, memory, run);
+    pause(strayed, memory, run)
+}
+
+// Bit k. The falling edge before it stands after the readings of mode 3 and before those of mode 0. Q is compared just
+// before C rises.
 fn draw_bit(
     side: PinSide,
     bytes: &[u8],
     out: &[u8],
     k: usize,
-    memory: &Memory,
+    schedule: Schedule,
+    memory: &mut Memory,
     run: &mut Run,
 ) -> PinSide {
-    let low = ready(side, bit_at(bytes, k) == 1, memory, run);
-    clock(low.device.q().value(), bit_at(out, k), k, run);
-    let risen = set(low, C, true, memory, run);
+    let high = read_at(side, k, true, schedule, memory, run);
+    let fallen = fall(high, memory, run);
+    let low = read_at(fallen, k, false, schedule, memory, run);
+    let ready = set(low, D, bit_at(bytes, k) == 1, memory, run);
+    clock(ready.device.q().value(), bit_at(out, k), k, run);
+    let risen = set(ready, C, true, memory, run);
     stray(risen, false, memory, run)
 }
 
@@ -146,13 +196,14 @@ fn draw_bits(
     bytes: &[u8],
     out: &[u8],
     bits: usize,
-    memory: &Memory,
+    schedule: Schedule,
+    memory: &mut Memory,
     run: &mut Run,
 ) -> PinSide {
     let mut next = side;
     let mut k: usize = 0;
     while k < bits {
-        next = draw_bit(next, bytes, out, k, memory, run);
+        next = draw_bit(next, bytes, out, k, schedule, memory, run);
         k += 1;
     }
     next
@@ -165,12 +216,20 @@ fn select(side: PinSide, mode3: bool, memory: &Memory, run: &mut Run) -> PinSide
     set(resting, S, false, memory, run)
 }
 
-// C at the mode's rest, and S high; in mode 0 there is room for a last pause.
-fn deselect(side: PinSide, mode3: bool, memory: &Memory, run: &mut Run) -> PinSide {
-    if mode3 {
-        return set(side, S, true, memory, run);
+// After the last bit: C at the mode's rest, the readings there, and S high. In mode 0 there is room for a last pause.
+fn deselect(
+    side: PinSide,
+    bits: usize,
+    schedule: Schedule,
+    memory: &mut Memory,
+    run: &mut Run,
+) -> PinSide {
+    if schedule.mode3 {
+        let high = read_at(side, bits, true, schedule, memory, run);
+        return set(high, S, true, memory, run);
     }
-    let low = set(side, C, false, memory, run);
+    let fallen = set(side, C, false, memory, run);
+    let low = read_at(fallen, bits, false, schedule, memory, run);
     let rested = pause(low, memory, run);
     set(rested, S, true, memory, run)
 }
@@ -190,15 +249,14 @@ pub fn draw(
     bytes: &[u8],
     out: &[u8],
     bits: usize,
-    held: bool,
-    mode3: bool,
-    memory: &Memory,
+    schedule: Schedule,
+    memory: &mut Memory,
     run: &mut Run,
 ) -> PinSide {
-    let begun = select(side, mode3, memory, run);
-    let clocked = draw_bits(begun, bytes, out, bits, memory, run);
-    if held {
+    let begun = select(side, schedule.mode3, memory, run);
+    let clocked = draw_bits(begun, bytes, out, bits, schedule, memory, run);
+    if schedule.held {
         return deselect_in_hold(clocked, memory, run);
     }
-    deselect(clocked, mode3, memory, run)
+    deselect(clocked, bits, schedule, memory, run)
 }

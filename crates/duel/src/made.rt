@@ -70,10 +70,14 @@ fn identification_code(wel: bool, run: &mut Run) -> u8 {
     if wel | (r == 2) { WRID } else { WREN }
 }
 
-// The part's code: in a cycle here and there WRDI; of a part with an identification page often one for it.
+// The part's code: in a cycle often WRDI or RDSR; of a part with an identification page often one for it.
 fn code(part: u8, running: bool, wel: bool, run: &mut Run) -> u8 {
-    if running & percent(10, run) {
+    let r = below(100, run);
+    if running & (r < 20) {
         return WRDI;
+    }
+    if running & (r < 50) {
+        return RDSR;
     }
     if identified(part) & percent(50, run) {
         return identification_code(wel, run);

@@ -1,7 +1,7 @@
 // The two proved models against each other, as each part, on random lists of frames, clock readings and levels of
-// Write Protect: the frame model takes whole frames, the pin model the same frames drawn as single pin changes, some of
-// them deselected in Hold. The gate compares the summary with the file stdout; the first difference would stand before
-// it, with its round and act, and end the run.
+// Write Protect: the frame model takes whole frames, some with clock readings inside, the pin model the same frames
+// drawn as single pin changes, some of them deselected in Hold. The gate compares the summary with the file stdout; the
+// first difference would stand before it, with its round and act, and end the run.
 use crate::cells::Memory;
 use crate::cells::blank;
 use crate::cells::changed;
@@ -25,6 +25,7 @@ mod identified;
 mod made;
 mod rounds;
 mod run;
+mod schedules;
 
 // Acts one after another.
 fn acts(start: Pair, frame_side: &mut Memory, pin_side: &mut Memory, run: &mut Run) -> Pair {

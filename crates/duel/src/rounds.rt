@@ -14,6 +14,7 @@ use crate::compared::records;
 use crate::drawn::PinSide;
 use crate::drawn::W;
 use crate::drawn::draw;
+use crate::drawn::read_pins;
 use crate::drawn::set;
 use crate::held::count_held;
 use crate::held::left_by;
@@ -43,6 +44,10 @@ use crate::run::UNDRIVEN;
 use crate::run::UPPER;
 use crate::run::count;
 use crate::run::same;
+use crate::schedules::Schedule;
+use crate::schedules::count_inside;
+use crate::schedules::passing;
+use crate::schedules::scheduled;
 use chip::Core;
 use chip::Timed;
 use codes::M95M01;
@@ -53,9 +58,9 @@ use codes::longest_of;
 use codes::page_of;
 use codes::size_of;
 use frames::Framed;
-use frames::frame;
 use pins::Device;
-use pins::Stepped;
+use timed_frames::Mode;
+use timed_frames::timed_frame;
 
 // The frame model: its record and its identification page.
 pub struct FrameSide {
@@ -167,34 +172,11 @@ pub fn powered(frame_side: &Memory, pin_side: &Memory, run: &mut Run) -> Pair {
 
 // ---- clock readings
 
-// How far the clock goes: a part of a cycle, to the end of the one that runs or half of the way, a whole one, one
-// reading back, or anywhere.
-fn passing(cycle: u32, left: u32, run: &mut Run) -> u32 {
-    let r = below(100, run);
-    let any = word(run);
-    match r {
-        0..=44 => any % (cycle / 2 + 1),
-        45..=74 => left,
-        75..=82 => left / 2,
-        83..=91 => cycle,
-        92..=95 => 4294967295,
-        _ => any,
-    }
-}
-
 // The frame model's reading, with as many cells lent as the part has.
 fn frames_timed(core: Core, reading: u32, memory: &mut [u8], page: &mut [u8]) -> Timed {
     let m = first(size_of(core.part), memory.len());
     let n = first(page_of(core.part), page.len());
     chip::clock_reading(core, reading, &mut memory[..m], &mut page[..n])
-}
-
-// The pin model's.
-fn pins_timed(device: Device, reading: u32, memory: &mut [u8], page: &mut [u8]) -> Stepped {
-    let part = device.core.part;
-    let m = first(size_of(part), memory.len());
-    let n = first(page_of(part), page.len());
-    device.read_clock(reading, &mut memory[..m], &mut page[..n])
 }
 
 // The frame model's reading, which a record inside its ranges does not refuse.
@@ -206,19 +188,6 @@ fn read_frames(side: FrameSide, reading: u32, memory: &mut Memory, run: &mut Run
     same(b"number of a reading", outcome.number(), 0, run);
     FrameSide {
         core: core,
-        page: page,
-    }
-}
-
-// The pin model's reading, which a device inside its ranges does not refuse.
-fn read_pins(side: PinSide, reading: u32, memory: &mut Memory, run: &mut Run) -> PinSide {
-    let mut page = side.page;
-    let stepped = pins_timed(side.device, reading, memory, &mut page);
-    let device = stepped.device;
-    let outcome = stepped.outcome;
-    same(b"number of a reading", 0, outcome.number(), run);
-    PinSide {
-        device: device,
         page: page,
     }
 }
@@ -240,6 +209,11 @@ fn pass(
     }
 }
 
+// A cycle ended: a frame in which one did begins none, since the end clears WEL.
+fn ended(before: u32, after: u32) -> bool {
+    (before > 0) & (after == 0)
+}
+
 // The whole memories and the whole identification pages, and the number of blank cells against a scan of the memory.
 pub fn cells_alike(pair: Pair, frame_side: &mut Memory, pin_side: &mut Memory, run: &mut Run) {
     let core = pair.frames.core;
@@ -251,25 +225,12 @@ pub fn cells_alike(pair: Pair, frame_side: &mut Memory, pin_side: &mut Memory, r
     same(b"blank cells, scanned", core.blank, scanned, run);
 }
 
-// A cycle's end; of the M95M01 WEL may be 0 by then.
-fn count_ended(before: Core, run: &mut Run) {
-    count(ENDED, run);
-    if before.wel == 0 {
-        count(ENDED_NO_WEL, run);
-    }
-}
-
-// A clock reading for both; where it ends a cycle the memories and the identification pages are compared whole.
+// A clock reading for both.
 fn read(pair: Pair, frame_side: &mut Memory, pin_side: &mut Memory, run: &mut Run) -> Pair {
     let core = pair.frames.core;
     let reading = std::num::wrapping_add_u32(core.last, passing(core.cycle, core.left, run));
-    let next = pass(pair, reading, frame_side, pin_side, run);
     count(READINGS, run);
-    if (core.left > 0) & (next.frames.core.left == 0) {
-        count_ended(core, run);
-        cells_alike(next, frame_side, pin_side, run);
-    }
-    next
+    pass(pair, reading, frame_side, pin_side, run)
 }
 
 // ---- levels of W
@@ -310,9 +271,9 @@ fn count_page(part: u8, page: u32, run: &mut Run) {
     }
 }
 
-// In a cycle a frame begins none; WRDI may clear WEL.
+// In a cycle a frame begins none; WRDI may clear WEL while the cycle goes on.
 fn count_in_cycle(before: Core, after: Core, run: &mut Run) {
-    if before.wel != after.wel {
+    if (before.wel != after.wel) & (after.left > 0) {
         count(CLEARED, run);
     }
 }
@@ -348,51 +309,87 @@ fn begin(part: u8, bits: usize, mode3: bool, undriven: usize, run: &mut Run) {
     count_frame(part, bits, mode3, run);
 }
 
-// The frame model's answer to some bytes, with as many cells lent as the part has.
+fn mode(mode3: bool) -> Mode {
+    if mode3 { Mode::Three } else { Mode::Zero }
+}
+
+// The frame model's answer to some bytes, with as many cells lent as the part has. A frame without readings is asked of
+// the same call, as one with empty lists.
 fn ask(
     core: Core,
-    memory: &[u8],
-    page: &[u8],
+    memory: &mut [u8],
+    page: &mut [u8],
     w: bool,
+    mode: Mode,
     bytes: &[u8],
     bits: usize,
+    positions: &[usize],
+    readings: &[u32],
+    number: usize,
     out: &mut [u8],
 ) -> Framed {
     let m = first(size_of(core.part), memory.len());
     let n = first(page_of(core.part), page.len());
-    frame(core, &memory[..m], &page[..n], w, bytes, bits, out)
+    let p = first(number, positions.len());
+    let t = first(number, readings.len());
+    timed_frame(
+        core,
+        &mut memory[..m],
+        &mut page[..n],
+        w,
+        mode,
+        bytes,
+        bits,
+        &positions[..p],
+        &readings[..t],
+        out,
+    )
 }
 
-// The answer to the first n bytes.
+// As many bytes as so many bits take.
+fn bytes_for(bits: usize) -> usize {
+    let whole = bits / 8;
+    if bits % 8 > 0 { whole + 1 } else { whole }
+}
+
+// The answer to so many bits.
 fn ask_first(
+    schedule: Schedule,
     core: Core,
-    memory: &[u8],
-    page: &[u8],
+    memory: &mut [u8],
+    page: &mut [u8],
     w: bool,
     bytes: &[u8],
-    n: usize,
     bits: usize,
     out: &mut [u8],
 ) -> Framed {
+    let n = bytes_for(bits);
     let sent = first(n, bytes.len());
     let shown = first(n, out.len());
+    let positions = schedule.positions;
+    let readings = schedule.readings;
     ask(
         core,
         memory,
         page,
         w,
+        mode(schedule.mode3),
         &bytes[..sent],
         bits,
+        &positions,
+        &readings,
+        schedule.number,
         &mut out[..shown],
     )
 }
 
-// The pin model's frame, deselected in Hold or not, against the frame model's answer and output.
+// The pin model's frame, deselected in Hold or not, against the frame model's answer, page and output.
 fn meet(
     pair: Pair,
     framed: Framed,
-    held: bool,
-    pin_side: &Memory,
+    page: Page,
+    schedule: Schedule,
+    pin_side: &mut Memory,
     bytes: &[u8],
     bits: usize,
     out: &[u8],
@@ -400,13 +397,11 @@ fn meet(
 ) -> Pair {
     let answer = framed.answer;
     let core = framed.core;
-    let mode3 = percent(50, run);
     same(b"number of a frame", answer.number(), 0, run);
-    begin(core.part, bits, mode3, answer.undriven(), run);
+    begin(core.part, bits, schedule.mode3, answer.undriven(), run);
     padding(out, bits, run);
-    let drawn = draw(pair.pins, bytes, out, bits, held, mode3, pin_side, run);
+    let drawn = draw(pair.pins, bytes, out, bits, schedule, pin_side, run);
     records(core, drawn.device, run);
-    let page = pair.frames.page;
     Pair {
         frames: FrameSide {
             core: core,
@@ -417,45 +412,39 @@ fn meet(
     }
 }
 
-// As many bytes as so many bits take.
-fn bytes_for(bits: usize) -> usize {
-    let whole = bits / 8;
-    if bits % 8 > 0 { whole + 1 } else { whole }
-}
-
 // A frame for both, of so many bits of some bytes.
 fn send_bits(
     pair: Pair,
-    held: bool,
-    frame_side: &Memory,
-    pin_side: &Memory,
+    schedule: Schedule,
+    frame_side: &mut Memory,
+    pin_side: &mut Memory,
     bytes: &Bytes,
     bits: usize,
     out: &mut Bytes,
     run: &mut Run,
 ) -> Pair {
-    let frames = pair.frames;
-    let core = frames.core;
-    let page = frames.page;
+    let core = pair.frames.core;
+    let mut page = pair.frames.page;
     let asked = ask_first(
+        schedule,
         core,
         frame_side,
-        &page,
+        &mut page,
         pair.w,
         bytes,
-        bytes_for(bits),
         bits,
         out,
     );
-    let framed = left_by(asked, core, held & (bytes[0] != WRITE));
-    let next = framed.core;
-    let answer = framed.answer;
+    let reply = left_by(asked, core, schedule.held & (bytes[0] != WRITE));
+    let next = reply.core;
+    let answer = reply.answer;
     count_begun(core, next, run);
     count_identified(core, bytes, bits, answer.undriven(), run);
-    if held {
+    count_inside(schedule, ended(core.left, next.left), bytes, bits, out, run);
+    if schedule.held {
         count_held(core, next, bytes, bits, run);
     }
-    meet(pair, framed, held, pin_side, bytes, bits, out, run)
+    meet(pair, reply, page, schedule, pin_side, bytes, bits, out, run)
 }
 
 // A random frame, one in eight deselected in Hold.
@@ -470,9 +459,10 @@ fn send(pair: Pair, frame_side: &mut Memory, pin_side: &mut Memory, run: &mut Ru
     } else {
         made::bits(n, run)
     };
+    let schedule = scheduled(core.last, core.cycle, core.left, bits, held, run);
     send_bits(
         pair,
-        held,
+        schedule,
         frame_side,
         pin_side,
         &bytes,
@@ -482,7 +472,7 @@ fn send(pair: Pair, frame_side: &mut Memory, pin_side: &mut Memory, run: &mut Ru
     )
 }
 
-// What comes next: a clock reading, every second time where a cycle runs; seldom a level of W; else a frame. Nothing
+// What comes next: a clock reading, every third time where a cycle runs; seldom a level of W; else a frame. Nothing
 // after a difference.
 fn kind(running: bool, run: &mut Run) -> u64 {
     if run[DIFFERENCES] > 0 {
@@ -490,20 +480,45 @@ fn kind(running: bool, run: &mut Run) -> u64 {
     }
     count(ACTS, run);
     let r = below(100, run);
-    if r < 10 {
+    if r < 15 {
         return 0;
     }
-    if running & (r < 50) {
+    if running & (r < 36) {
         return 0;
     }
     if r < 95 { 2 } else { 1 }
 }
 
-pub fn act(pair: Pair, frame_side: &mut Memory, pin_side: &mut Memory, run: &mut Run) -> Pair {
+// Where a cycle ended in an act, the memories and the identification pages are compared whole. Of the M95M01 WEL may be
+// 0 by then.
+fn compare_ended(
+    before: Core,
+    pair: Pair,
+    frame_side: &mut Memory,
+    pin_side: &mut Memory,
+    run: &mut Run,
+) {
+    if !ended(before.left, pair.frames.core.left) {
+        return;
+    }
+    count(ENDED, run);
+    if before.wel == 0 {
+        count(ENDED_NO_WEL, run);
+    }
+    cells_alike(pair, frame_side, pin_side, run);
+}
+
+fn acted(pair: Pair, frame_side: &mut Memory, pin_side: &mut Memory, run: &mut Run) -> Pair {
     match kind(pair.frames.core.left > 0, run) {
         0 => read(pair, frame_side, pin_side, run),
         1 => protect(pair, pin_side, run),
         2 => send(pair, frame_side, pin_side, run),
         _ => pair,
     }
+}
+
+pub fn act(pair: Pair, frame_side: &mut Memory, pin_side: &mut Memory, run: &mut Run) -> Pair {
+    let next = acted(pair, frame_side, pin_side, run);
+    compare_ended(pair.frames.core, next, frame_side, pin_side, run);
+    next
 }

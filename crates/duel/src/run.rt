@@ -76,19 +76,38 @@ pub const HELD_PROTECTED: usize = 34;
 
 pub const HELD_BEGUN: usize = 35;
 
-pub const DIFFERENCES: usize = 36;
+// clock readings inside frames: the frames, the readings by their place, the ends of cycles, the polls that saw one
+pub const TIMED: usize = 36;
+
+pub const INSIDE: usize = 37;
+
+pub const AT_START: usize = 38;
+
+pub const AT_END: usize = 39;
+
+pub const AT_SAME: usize = 40;
+
+pub const ROUND: usize = 41;
+
+pub const ENDED_INSIDE: usize = 42;
+
+pub const FALLS: usize = 43;
+
+pub const FALLS_3: usize = 44;
+
+pub const DIFFERENCES: usize = 45;
 
 // the generator's state
-pub const CHANCE: usize = 37;
+pub const CHANCE: usize = 46;
 
 // of the frame in hand: in how many of a hundred places pin changes stray, and how many leading bits the frame model
 // left undriven
-pub const LIVELY: usize = 38;
+pub const LIVELY: usize = 47;
 
-pub const UNDRIVEN: usize = 39;
+pub const UNDRIVEN: usize = 48;
 
 // how many numbers there are
-const NUMBERS: usize = 40;
+const NUMBERS: usize = 49;
 
 pub type Run = [u64; NUMBERS];
 
@@ -163,6 +182,20 @@ fn rows(labels: &[u8], first: usize, run: &Run) {
     }
 }
 
+// The readings inside frames, and the differences.
+fn summary_inside(run: &Run) {
+    rows(
+        b"frames with readingsreadings in frames  at position 0       at the last boundarywhere the last was  ",
+        TIMED,
+        run,
+    );
+    rows(
+        b"round the counter   cycles ended inside RDSR saw WIP fall   of these in mode 3  differences         ",
+        ROUND,
+        run,
+    );
+}
+
 pub fn summary(run: &Run) {
     rows(
         b"rounds              rounds with M95512-Drounds with M95M01  acts                frames              ",
@@ -199,5 +232,6 @@ pub fn summary(run: &Run) {
         HELD_ONE,
         run,
     );
-    rows(b"begun in Hold       differences         ", HELD_BEGUN, run);
+    rows(b"begun in Hold       ", HELD_BEGUN, run);
+    summary_inside(run);
 }

@@ -5,10 +5,10 @@ use Rattle.duel.proofs.drawn.draw_bits.Statement.{statement}
 use Rattle.duel.proofs.drawn.draw_bits.Tie as tie
 
 abbrev Inv-loop : tie.InvT-loop
-Inv-loop bytes out bits memory run₀ next₀ k₀ run next k = k ≤ bits
+Inv-loop bytes out bits schedule memory₀ run₀ next₀ k₀ memory run next k = k ≤ bits
 
 abbrev μ-loop : tie.MeasureT-loop
-μ-loop bytes out bits memory run₀ next₀ k₀ run next k = bits - k
+μ-loop bytes out bits schedule memory₀ run₀ next₀ k₀ memory run next k = bits - k
 
 loop-holds : tie.Need-loop-holds Inv-loop μ-loop
 loop-holds c = search needs

@@ -3,8 +3,8 @@ use mathlib.Core.Path.{sym}
 use native.Mathlib.Omega.{arith}
 use lib.Seq.{length-take-le}
 use borrow.Author.Needs.{needs}
-use Rattle.duel.proofs.rounds.pins_timed.Statement.{statement}
-use Rattle.duel.proofs.rounds.pins_timed.Tie as tie
+use Rattle.duel.proofs.drawn.pins_timed.Statement.{statement}
+use Rattle.duel.proofs.drawn.pins_timed.Tie as tie
 
 size-of-requires : tie.Need-size-of-requires
 size-of-requires c κs = search needs
