@@ -1,9 +1,10 @@
 -- The two models show the same levels: where Q is driven is seen of the ticks byte by byte, as its bits are, and a level is the two together.
-use Prim.Native.Nat.{ℕ, zero, suc, _+_, _*_, _-_, _≤_, _<_, min}
+use Prim.Native.Nat.{ℕ, zero, suc, _+_, _*_, _-_, _%_, _^_, _≤_, _<_, min}
 use mathlib.Core.Bool.{Bool, true, false, not, _&&_, cond, and-true, and-false}
 use mathlib.Core.List.{List, [], _∷_, _++_, map}
 use mathlib.Core.Path.{_≡_, refl, sym, ap, ap₂, _∙_, fun-ext}
 use native.Mathlib.Decide.{decLe}
+use native.Mathlib.Nat.{zero-div}
 use native.Mathlib.Omega.{arith}
 use lib.Dec.{leb}
 use lib.ListN.{take, length, getD}
@@ -54,16 +55,8 @@ eight false = 0
 abbrev over : Bool → Frame → ℕ
 over b f = eight b
 
-no-ones : (k : ℕ) → k ≤ 7 → false ≡ on (bitOf (7 - k) 0)
-no-ones zero h = refl
-no-ones (suc zero) h = refl
-no-ones (suc (suc zero)) h = refl
-no-ones (suc (suc (suc zero))) h = refl
-no-ones (suc (suc (suc (suc zero)))) h = refl
-no-ones (suc (suc (suc (suc (suc zero))))) h = refl
-no-ones (suc (suc (suc (suc (suc (suc zero)))))) h = refl
-no-ones (suc (suc (suc (suc (suc (suc (suc zero))))))) h = refl
-no-ones (suc (suc (suc (suc (suc (suc (suc (suc k)))))))) h = absurd (omega arith)
+no-ones : (k : ℕ) → false ≡ on (bitOf k 0)
+no-ones k = ap (λ x. on (x % 2)) (sym (zero-div (2 ^ k)))
 
 driven-level : (t : Bool) → isDriven (pick t One Zero) ≡ true
 unfolding pick
@@ -73,7 +66,7 @@ driven-level false = refl
 driven-bit : (b : Bool) (k a : ℕ) (f : Frame) → k ≤ 7 → isDriven (shows (midByte b k a f)) ≡ on (bitOf (7 - k) (over b f))
 unfolding shows
 driven-bit true k a f h = ap isDriven (at-yes _ _ (le-leb 1 (suc k) (omega arith))) ∙ driven-level _ ∙ all-ones k h
-driven-bit false k a f h = ap isDriven (at-no _ _ (lt-leb 1 0 (omega arith))) ∙ no-ones k h
+driven-bit false k a f h = ap isDriven (at-no _ _ (lt-leb 1 0 (omega arith))) ∙ no-ones (7 - k)
 
 -- a level is whether it is driven, and its bit
 level-of : (l : Level) (d : Bool) → isDriven l ≡ d → l ≡ pick d (pick (asOne l) One Zero) Z
