@@ -44,16 +44,15 @@ slice-aggregate-show-2 c =
 
 show-requires : tie.Need-show-requires
 show-requires c κs =
-    let c8 = c .before .before .before .before .before .before .before .before in
-    let c16 = c8 .before .before .before .before .before .before .before .before in
-    let a = c16 .args in
-    let pre = c16 .pre in
-    let p = c8 .parse in
+    let a = c .before .before .before .before .before .before .before .before .before .before .before .before .before .before .before .before .args in
+    let pre = c .before .before .before .before .before .before .before .before .before .before .before .before .before .before .before .before .pre in
+    let p = c .before .before .before .before .before .before .before .before .parse in
     let n : length (take (p .result .count) (p .last .1 .1 .0)) ≡ p .result .count = ap length (p .ensures .1 .0) ∙ sym (p .ensures .1 .1 .0) in
     let few : p .result .count ≤ length (a .text .now) = p .ensures .1 .1 .1 in
     let qs : length (take (p .result .count) (a .qs .now)) ≡ p .result .count = length-take-le (p .result .count) (a .qs .now)
     (omega (arith, pre .1 .1, few)) in
-    let small : a .line .value < 2 ^ 32 = let good = c16 .good in omega arith in
+    let small : a .line .value < 2 ^ 32 = let good = c .before .before .before .before .before .before .before .before .before .before .before
+    .before .before .before .before .before .good in omega arith in
     let are : areEvents (take (p .result .count) (p .last .1 .1 .0)) ≡ true = ap areEvents (p .ensures .1 .0) ∙ found-are (a .line) (a .text .now)
     (pre .0 .3) small in
     (pre .0 .0, pre .0 .1, pre .0 .2, are, qs ∙ sym n, omega (arith, n, few, pre .1 .2))
@@ -76,13 +75,13 @@ same-length-5 c = search needs
 returns : tie.Need-returns
 unfolding playedLines shownLines
 returns c =
-    let c8 = c .before .before .before .before .before .before .before .before in
-    let c16 = c8 .before .before .before .before .before .before .before .before in
-    let c24 = c16 .before .before .before .before .before .before .before .before in
-    let a = c24 .before .before .before .args in
-    let pre = c24 .before .before .before .pre in
-    let p = c16 .before .before .before .parse in
-    let x = c8 .before .before .show in
+    let a = c .before .before .before .before .before .before .before .before .before .before .before .before .before .before .before .before
+    .before .before .before .before .before .before .before .before .before .before .before .args in
+    let pre = c .before .before .before .before .before .before .before .before .before .before .before .before .before .before .before
+    .before .before .before .before .before .before .before .before .before .before .before .before .pre in
+    let p = c .before .before .before .before .before .before .before .before .before .before .before .before .before .before .before .before
+    .before .before .before .parse in
+    let x = c .before .before .before .before .before .before .before .before .before .before .show in
     let b : PinBench = pinBench (a .device) (a .memory .now) (a .identification .now) in
     let P = devicePart (a .device) in
     let es = p .ensures .1 .0 in (

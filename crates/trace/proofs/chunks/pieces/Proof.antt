@@ -21,8 +21,8 @@ use Rattle.trace.proofs.chunks.pieces.Tie as tie
 
 abbrev Inv-loop : tie.InvT-loop
 Inv-loop memory₀ identification₀ text out₀ at events₀ qs₀ hand₀ next₀ end₀ i₀ memory identification out events qs hand next end i =
-    (i ≤ length text) × (length memory ≡ devicePart next .size) × (length identification ≡ devicePart next .page) × (length out ≡ length out₀) ×
-    (length events ≡ 1024) × (length qs ≡ 1024)
+    (i ≤ length text) × (length memory ≡ devicePart next .size) × (length identification ≡ devicePart next .page) × (length out ≡ length out₀)
+    × (length events ≡ 1024) × (length qs ≡ 1024)
     × (lineFits hand ≡ true) × (deviceFits (devicePart next) next ≡ true) × (end ≤ at + 10 * i) × (hand ≡ read hand₀ (take i text))
     × (pinBench next memory identification ≡ playedLines hand₀ (pinBench next₀ memory₀ identification₀) (take i text))
     × (out ≡ put out₀ at (shownLines hand₀ (pinBench next₀ memory₀ identification₀) (take i text)))
@@ -97,14 +97,15 @@ loop-less c = omega arith
 
 loop-again : tie.Need-loop-again Inv-loop μ-loop
 loop-again c =
-    let c8 = c .before .before .before .before .before .before .before .before in
-    let c16 = c8 .before .before .before .before .before .before .before .before in
-    let c24 = c16 .before .before .before .before .before .before .before .before in
-    let l = c16 .before .before .before .loop in
-    let a = c24 .before .before .args in
-    let pre = c24 .before .before .pre in
-    let e = c16 .before .piece-end in
-    let x = c8 .before .before .piece in
+    let l = c .before .before .before .before .before .before .before .before .before .before .before .before .before .before .before .before
+    .before .before .before .loop in
+    let a = c .before .before .before .before .before .before .before .before .before .before .before .before .before .before .before .before
+    .before .before .before .before .before .before .before .before .before .before .args in
+    let pre = c .before .before .before .before .before .before .before .before .before .before .before .before .before .before .before
+    .before .before .before .before .before .before .before .before .before .before .before .pre in
+    let e = c .before .before .before .before .before .before .before .before .before .before .before .before .before .before .before .before
+    .before .piece-end in
+    let x = c .before .before .before .before .before .before .before .before .before .before .piece in
     let t = a .text .now in
     let b = pinBench (a .device) (a .memory .now) (a .identification .now) in
     let here = pinBench (l .next) (l .memory) (l .identification) in
