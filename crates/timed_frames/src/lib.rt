@@ -69,6 +69,37 @@ pub fn timed_frame(
     if (positions.len() == 0) & (readings.len() == 0) {
         return frames::frame(core, memory, identification, w, bytes, bits, out);
     }
+    scheduled(
+        core,
+        memory,
+        identification,
+        w,
+        mode,
+        bytes,
+        bits,
+        positions,
+        readings,
+        out,
+    )
+}
+
+// A frame by its lists: refused as they or the frame are, or carried out.
+fn scheduled(
+    core: Core,
+    memory: &mut [u8],
+    identification: &mut [u8],
+    w: bool,
+    mode: Mode,
+    bytes: &[u8],
+    bits: usize,
+    positions: &[usize],
+    readings: &[u32],
+    out: &mut [u8],
+) -> Framed
+    ensures { λ r. ⌜ AnsweredInTime (ownPart core) core (lent (now (memory .entry)) (now (identification .entry))) w mode
+        (now (bytes .entry)) bits (now (positions .entry)) (now (readings .entry)) (now (out .entry))
+        r (now (memory .exit)) (now (identification .exit)) (now (out .exit)) ⌝ }
+{
     if !places_fit(bits, positions, readings) {
         return frames::frame(core, memory, identification, w, bytes, NO_COUNT, out);
     }
