@@ -35,7 +35,10 @@ deliveredIdentification P = P .identity ++ replicate (P .page - length (P .ident
 -- where the cycle length is not 1 to the part's longest; and for none
 abbrev pub powerUpChoice : {A : Type 0} → ℕ → ℕ → List ℕ → A → A → A → A → A
 powerUpChoice part cycle m one two six done =
-    pick (eqb (length m) (partOf part .size)) (pick (isPart part) (pick (cycleFits (partOf part) cycle) done six) two) one
+    pick (eqb (length m) (partOf part .size))
+    (pick (isPart part)
+    (pick (cycleFits (partOf part) cycle) done
+    six) two) one
 
 -- a refusal leaves the M95512 with no cell counted, whatever else was given
 abbrev pub unpowered : Core

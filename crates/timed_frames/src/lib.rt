@@ -10,7 +10,8 @@ ghost use Rattle.codes.specs.Refusals.{isDone};
 ghost use Rattle.codes.specs.declared.Outcome.the-variants.{Done};
 ghost use Rattle.frames.specs.Answers.{frameOutcome, frameReplyNumber};
 ghost use Rattle.timed_frames.specs.Schedules.{placesFit};
-ghost use Rattle.timed_frames.specs.Answers.{AnsweredInTime, inTimeNumber, inTimeLeft, framedInTime, outputInTime};
+ghost use Rattle.timed_frames.specs.Answers.{inTimeNumber, inTimeLeft, framedInTime, outputInTime};
+ghost use Rattle.timed_frames.specs.Answers.{AnsweredInTime};
 use chip::Core;
 use chip::lent_fits;
 use fields::bits_fit;
@@ -96,8 +97,8 @@ fn scheduled(
     readings: &[u32],
     out: &mut [u8],
 ) -> Framed
-    ensures { λ r. ⌜ AnsweredInTime (ownPart core) core (lent (now (memory .entry)) (now (identification .entry))) w mode
-        (now (bytes .entry)) bits (now (positions .entry)) (now (readings .entry)) (now (out .entry))
+    ensures { λ r. ⌜ AnsweredInTime (ownPart core) core (lent (now (memory .entry)) (now (identification .entry)))
+        w mode (now (bytes .entry)) bits (now (positions .entry)) (now (readings .entry)) (now (out .entry))
         r (now (memory .exit)) (now (identification .exit)) (now (out .exit)) ⌝ }
 {
     if !places_fit(bits, positions, readings) {
@@ -143,8 +144,8 @@ fn carried_out(
     requires { ⌜ placesFit bits (now positions) (now readings) ≡ true ⌝ }
     requires { ⌜ frameOutcome (ownPart core) core (length (now memory)) (length (now identification))
         (length (now bytes)) bits (length (now out)) ≡ Done ⌝ }
-    ensures { λ r. ⌜ AnsweredInTime (ownPart core) core (lent (now (memory .entry)) (now (identification .entry))) w mode
-        (now (bytes .entry)) bits (now (positions .entry)) (now (readings .entry)) (now (out .entry))
+    ensures { λ r. ⌜ AnsweredInTime (ownPart core) core (lent (now (memory .entry)) (now (identification .entry)))
+        w mode (now (bytes .entry)) bits (now (positions .entry)) (now (readings .entry)) (now (out .entry))
         r (now (memory .exit)) (now (identification .exit)) (now (out .exit)) ⌝ }
 {
     let start = Walk {
