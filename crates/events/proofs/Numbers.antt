@@ -4,10 +4,12 @@ use mathlib.Core.Path.{_≡_, refl, ap, sym, _∙_}
 use mathlib.Core.Bool.{Bool, true, false, _&&_, _||_, and-true, and-assoc, or-false, true≢false}
 use mathlib.Core.List.{List, [], _∷_, _++_}
 use Prim.Native.Nat.{ℕ, zero, suc, _+_, _*_, _/_, _%_, _^_, _<_, _≤_}
+use native.Mathlib.Nat.{mul-le-mul-right, le-of-lt}
 use native.Mathlib.Omega.{arith}
 use lib.ListN.{length, take, getD}
 use lib.Seq.{take-suc}
 use lib.Dec.{eqb, leb, ltb}
+use lib.Bits.{bitOr, or-zero-l, or-add-and, and-le-r}
 use borrow.Author.Tests.{le-leb, lt-leb, leb-true, lt-ltb, ltb-true, ltb-false, le-ltb, eq-eqb, ne-eqb}
 use Rattle.laws.specs.Pick.{pick, and-both}
 use Rattle.laws.specs.And.{or-left, or-right}
@@ -37,18 +39,39 @@ more-are ns i h =
 
 -- ---- a kind and a value: a pin at 0 or 1, or a reading
 
--- the test of the code: a value is at most what its kind lets it be
-pub within-most : (k v : ℕ) → v < 2 ^ 32 → (leb k 5 && leb v (pick (eqb k 5) 4294967295 1)) ≡ (ltb k 5 && leb v 1 || eqb k 5)
-unfolding pick
-within-most zero v h = sym (or-false (leb v 1))
-within-most (suc zero) v h = sym (or-false (leb v 1))
-within-most (suc (suc zero)) v h = sym (or-false (leb v 1))
-within-most (suc (suc (suc zero))) v h = sym (or-false (leb v 1))
-within-most (suc (suc (suc (suc zero)))) v h = sym (or-false (leb v 1))
-within-most (suc (suc (suc (suc (suc zero))))) v h = le-leb v 4294967295 (omega arith)
-within-most (suc (suc (suc (suc (suc (suc k)))))) v h =
+-- a number that is 0 where a value is a level
+of-level : (w v : ℕ) → (w ≡ 0 → v ≤ 1) → (v ≤ 1 → w ≡ 0) → eqb w 0 ≡ (leb v 1 || false)
+of-level w v to from = by-test (leb v 1) refl
+  where
+    by-test : (t : Bool) → leb v 1 ≡ t → eqb w 0 ≡ (leb v 1 || false)
+    by-test true e = eq-eqb w 0 (from (leb-true v 1 e)) ∙ sym (or-left (leb v 1) false e)
+    by-test false e = ne-eqb w 0 (λ z. true≢false (sym (le-leb v 1 (to z)) ∙ e)) ∙ sym (or-false (leb v 1) ∙ e)
+
+-- the sum of the code is 0 for an event alone
+pub no-fault : (k v : ℕ) → eqb ((k + 2) / 8 + (k + 3) % 8 * (v / 2)) 0 ≡ (ltb k 5 && leb v 1 || eqb k 5)
+no-fault zero v = of-level (0 + 3 * (v / 2)) v (λ e. omega arith) (λ h. omega arith)
+no-fault (suc zero) v = of-level (0 + 4 * (v / 2)) v (λ e. omega arith) (λ h. omega arith)
+no-fault (suc (suc zero)) v = of-level (0 + 5 * (v / 2)) v (λ e. omega arith) (λ h. omega arith)
+no-fault (suc (suc (suc zero))) v = of-level (0 + 6 * (v / 2)) v (λ e. omega arith) (λ h. omega arith)
+no-fault (suc (suc (suc (suc zero)))) v = of-level (0 + 7 * (v / 2)) v (λ e. omega arith) (λ h. omega arith)
+no-fault (suc (suc (suc (suc (suc zero))))) v = eq-eqb (0 + 0 * (v / 2)) 0 (omega arith)
+no-fault (suc (suc (suc (suc (suc (suc k)))))) v =
     let six = suc (suc (suc (suc (suc (suc k))))) in
-    rw (lt-leb six 5 (omega arith), le-ltb six 5 (omega arith), ne-eqb six 5 (λ e. omega arith)) refl
+    rw (le-ltb six 5 (omega arith), ne-eqb six 5 (λ e. omega arith)) (ne-eqb ((six + 2) / 8 + (six + 3) % 8 * (v / 2)) 0 (λ e. omega arith))
+
+-- .. and fits a word
+pub product-below : (x y : ℕ) → x < 8 → y < 2 ^ 32 → x * y < 2 ^ 64
+product-below x y h k = omega (arith, mul-le-mul-right y (le-of-lt h))
+
+pub sum-below : (w x y : ℕ) → w < 2 ^ 32 → x < 8 → y < 2 ^ 32 → w + x * y < 2 ^ 64
+sum-below w x y i h k = omega (arith, mul-le-mul-right y (le-of-lt h))
+
+-- two sums in one word
+pub none-of : (a b : ℕ) → eqb (bitOr a b) 0 ≡ (eqb a 0 && eqb b 0)
+none-of zero b = ap (λ (n : ℕ). eqb n 0) (or-zero-l b)
+none-of (suc a) b =
+    ne-eqb (bitOr (suc a) b) 0 (λ e. omega (arith, e, or-add-and (suc a) b, and-le-r (suc a) b))
+    ∙ sym (ap (λ (t : Bool). t && eqb b 0) (ne-eqb (suc a) 0 (λ e. omega arith)))
 
 kind-of : (k v : ℕ) → v < 2 ^ 32 → (k * 2 ^ 32 + v) / 2 ^ 32 ≡ k
 kind-of k v h = omega arith

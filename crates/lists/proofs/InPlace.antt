@@ -20,7 +20,7 @@ use Rattle.codes.specs.declared.Instruction.the-variants.{Rdsr, Read}
 use Rattle.edges.specs.declared.Frame.{Frame}
 use Rattle.pins.specs.declared.Device.{Device}
 use Rattle.pins.specs.Devices.{withC, withPins, withFrame, withCore, selected, counting, withHeldAt}
-use Rattle.lists.specs.Ways.{withTaken, withoutFrame, isWhole}
+use Rattle.lists.specs.Ways.{withoutFrame}
 use Rattle.edges.specs.Frames.{withBits, withOut, withAddress}
 use Rattle.edges.specs.Rising.{shiftedIn, wholeByte, risen}
 use Rattle.codes.specs.Output.{outputs}
@@ -34,7 +34,7 @@ use Rattle.pins.specs.Events.{judgedNow, decided, renewed, onS, onC}
 
 module _ (P : Part) (run : Bool) (d : ℕ) (f : Frame) where
   -- not the eighth: one more bit
-  pub one-bit : (v : ℕ) → f .bits < 7 → v ≡ shiftedIn (f .partial) d → withTaken (f .taken) (withBits (f .bits + 1) v f) ≡ risen P run d f
+  pub one-bit : (v : ℕ) → f .bits < 7 → v ≡ shiftedIn (f .partial) d → withBits (f .bits + 1) v f ≡ risen P run d f
   unfolding risen
   one-bit v h e = lt-so _ h (ap (λ (k : ℕ). withBits (f .bits + 1) k f) e)
 

@@ -10,17 +10,16 @@ use Rattle.latch.specs.Latches.{latched}
 use Rattle.chip.specs.declared.Waiting.{Waiting}
 use Rattle.chip.specs.declared.Core.{Core}
 use Rattle.chip.specs.Lents.{Lent}
-use Rattle.chip.specs.Records.{running, withTime, withWel}
+use Rattle.chip.specs.Records.{withTime, withWel}
 use Rattle.edges.specs.declared.Frame.{Frame}
-use Rattle.edges.specs.Frames.{noFrame, withBits, withCode, withValue, withOut, withAddress, withLatch}
+use Rattle.edges.specs.Frames.{noFrame, withOut, withAddress, withLatch}
 use Rattle.pins.specs.declared.Device.{Device}
 use Rattle.pins.specs.declared.Event.{Event}
 use Rattle.pins.specs.Devices.{withS, withC, withD, withW, withHold, withHeldAt, withPins, withFrame, withCore}
 use Rattle.pins.specs.Events.{stepped, steppedCells}
 use Rattle.lists.specs.declared.Front.{Front}
 use Rattle.lists.specs.declared.Way.{Way}
-use Rattle.lists.specs.declared.Way.the-variants.{Data, Set, Rise, Code, Byte, Latched}
-use Rattle.lists.specs.declared.Way.the-variants.{Fall, Select, Drop, Pass, Whole}
+use Rattle.lists.specs.declared.Way.the-variants.{Data, Set, Rise, Latched, Fall, Clear, Pass, Whole}
 
 -- ---- the front: all but the bytes it latches and the core
 
@@ -67,18 +66,19 @@ whole f l k =
 
 -- ---- the ways
 
-abbrev pub withTaken : ℕ → Frame → Frame
-withTaken n f =
+-- all but the output and the latch
+abbrev pub withTaken : ℕ → ℕ → ℕ → ℕ → ℕ → ℕ → ℕ → Frame → Frame
+withTaken n b p c r v a f =
     record {
       taken = n;
-      bits = f .bits;
-      partial = f .partial;
-      code = f .code;
-      ran = f .ran;
-      value = f .value;
+      bits = b;
+      partial = p;
+      code = c;
+      ran = r;
+      value = v;
       out = f .out;
       shown = f .shown;
-      address = f .address;
+      address = a;
       latch = f .latch;
     }
 
@@ -88,7 +88,7 @@ risenTo f x = withPins (withC 1 (x .pins)) (withFrame f x)
 
 -- n whole bytes are taken, and no bit of the next
 abbrev pub byteTaken : ℕ → Frame → Frame
-byteTaken n f = withTaken n (withBits 0 0 f)
+byteTaken n f = withTaken n 0 0 (f .code) (f .ran) (f .value) (f .address) f
 
 -- S at a level, held or not, and no frame in hand
 abbrev pub withoutFrame : ℕ → ℕ → Device → Device
@@ -97,13 +97,10 @@ withoutFrame s held x = withPins (withS s (x .pins)) (withHeldAt held (withFrame
 abbrev pub isWhole : Way → Bool
 isWhole (Data d) = false
 isWhole (Set w hold held) = false
-isWhole (Rise n b v) = false
-isWhole (Code n v) = false
-isWhole (Byte n v a) = false
+isWhole (Rise n b p c r v a) = false
 isWhole (Latched n v a) = false
 isWhole (Fall held v n a) = false
-isWhole (Select held) = false
-isWhole (Drop wel) = false
+isWhole (Clear s held wel) = false
 isWhole (Pass t n) = false
 isWhole Whole = true
 
@@ -111,16 +108,13 @@ isWhole Whole = true
 abbrev pub afterWay : Part → Lent → Event → Way → Device → Device
 afterWay P m e (Data d) x = withPins (withD d (x .pins)) x
 afterWay P m e (Set w hold held) x = withPins (withHold hold (withW w (x .pins))) (withHeldAt held x)
-afterWay P m e (Rise n b v) x = risenTo (withTaken n (withBits b v (x .frame))) x
-afterWay P m e (Code n v) x = risenTo (withCode v (running (x .core)) (byteTaken n (x .frame))) x
-afterWay P m e (Byte n v a) x = risenTo (withAddress a (withValue v (byteTaken n (x .frame)))) x
+afterWay P m e (Rise n b p c r v a) x = risenTo (withTaken n b p c r v a (x .frame)) x
 afterWay P m e (Latched n v a) x =
     risenTo (withAddress a
     (withLatch (latched (x .frame .address % P .page) v (x .frame .latch)) (byteTaken n (x .frame)))) x
 afterWay P m e (Fall held v n a) x =
     withHeldAt held (withPins (withC 0 (x .pins)) (withFrame (withAddress a (withOut v n (x .frame))) x))
-afterWay P m e (Select held) x = withoutFrame 0 held x
-afterWay P m e (Drop wel) x = withoutFrame 1 0 (withCore (withWel wel (x .core)) x)
+afterWay P m e (Clear s held wel) x = withoutFrame s held (withCore (withWel wel (x .core)) x)
 afterWay P m e (Pass t n) x = withCore (withTime t n (x .core)) x
 afterWay P m e Whole x = stepped P m e x
 

@@ -3,6 +3,7 @@
 // Public call, for every input: play.
 mod fronts;
 mod listed;
+mod stretches;
 mod ways;
 
 pub use listed::play;
@@ -36,23 +37,17 @@ pub(crate) enum Way {
         hold: u8,
         held: u8,
     },
-    // C rises: a bit of a byte, or a byte that nothing keeps
+    // C rises: a bit of a byte, the code, an address byte, the WRSR's byte or the lock's, or a byte that nothing keeps
     Rise {
         taken: u8,
         bits: u8,
         partial: u8,
-    },
-    // C rises: the code; an address byte, the WRSR's byte or the lock's; a data byte of a WRITE or of an 82h for the
-    // page, with the address of the next
-    Code {
-        taken: u8,
         code: u8,
-    },
-    Byte {
-        taken: u8,
+        ran: u8,
         value: u8,
         address: u32,
     },
+    // C rises: a data byte of a WRITE or of an 82h for the page, with the address of the next
     Latched {
         taken: u8,
         byte: u8,
@@ -65,13 +60,8 @@ pub(crate) enum Way {
         shown: u8,
         address: u32,
     },
-    // S falls; S rises, and at most WEL moves
-    Select {
-        held: u8,
-    },
-    Drop {
-        wel: u8,
-    },
+    // S moves, at most WEL beside it, and no frame is in hand: S, held and WEL
+    Clear(u8, u8, u8),
     // time passes, and no cycle ends
     Pass {
         reading: u32,
@@ -79,4 +69,23 @@ pub(crate) enum Way {
     },
     // an event that moves more than this
     Whole,
+}
+
+// What an event moves within a byte.
+pub(crate) enum Move {
+    // D
+    Data(u8),
+    // C rises: the bits taken
+    Bit { bits: u8, partial: u8 },
+    // C falls: the bits shown
+    Shown(u8),
+    // an event that moves something else
+    Other,
+}
+
+// Where a stretch of such events ended, at event i, and what Q shows there.
+pub(crate) struct Stretch {
+    pub front: Front,
+    pub q: u8,
+    pub i: usize,
 }

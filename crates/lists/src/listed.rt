@@ -9,10 +9,10 @@ ghost use Rattle.lists.specs.Answers.{playAnswer, playNumber, playMemory
 ghost use Rattle.lists.specs.Answers.{playOutput, playedQ};
 use crate::Way;
 use crate::fronts::front_of;
+use crate::stretches::stretch_on;
 use chip::lent_fits;
 use codes::Outcome;
 use codes::Refusal;
-use edges::bit;
 use events::are_events;
 use events::event_of;
 use latch::Latch;
@@ -23,7 +23,7 @@ use pins::Device;
 use pins::Stepped;
 
 // The events one after another, and Q after each. The front is held apart, so that most events move numbers and copy
-// no record.
+// no record. After each event those that stay within a byte are taken in a loop of their own.
 fn play_all(
     device: Device,
     memory: &mut [u8],
@@ -66,30 +66,17 @@ fn play_all(
                 taken,
                 bits,
                 partial,
-            } => {
-                front.c = 1;
-                front.taken = taken;
-                front.bits = bits;
-                front.partial = partial;
-            }
-            Way::Code { taken, code } => {
-                let ran = bit(0 < core.left);
-                front.c = 1;
-                front.taken = taken;
-                front.bits = 0;
-                front.partial = 0;
-                front.code = code;
-                front.ran = ran;
-            }
-            Way::Byte {
-                taken,
+                code,
+                ran,
                 value,
                 address,
             } => {
                 front.c = 1;
                 front.taken = taken;
-                front.bits = 0;
-                front.partial = 0;
+                front.bits = bits;
+                front.partial = partial;
+                front.code = code;
+                front.ran = ran;
                 front.value = value;
                 front.address = address;
             }
@@ -124,14 +111,8 @@ fn play_all(
                 front.address = address;
                 q = front.q();
             }
-            Way::Select { held } => {
-                front = front.without_frame(0, held);
-                bytes = [0; ROOM];
-                marks = [0; WORDS];
-                q = 2;
-            }
-            Way::Drop { wel } => {
-                front = front.without_frame(1, 0);
+            Way::Clear(s, held, wel) => {
+                front = front.without_frame(s, held);
                 bytes = [0; ROOM];
                 marks = [0; WORDS];
                 core.wel = wel;
@@ -160,6 +141,10 @@ fn play_all(
         }
         out[i] = q;
         i += 1;
+        let stretch = stretch_on(front, core.part, q, i, events, out);
+        front = stretch.front;
+        q = stretch.q;
+        i = stretch.i;
     }
     let latch = Latch {
         bytes: bytes,

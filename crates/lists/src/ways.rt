@@ -5,7 +5,7 @@ ghost use mathlib.Core.List.{List};
 ghost use mathlib.Core.Bool.{Bool, true, false};
 ghost use Prim.Native.Nat.{ℕ, _+_, _*_};
 ghost use Rattle.laws.specs.Pick.{pick};
-ghost use Rattle.codes.specs.Part.{partOf};
+ghost use Rattle.codes.specs.Part.{Part, partOf};
 ghost use Rattle.codes.specs.Status.{on};
 ghost use Rattle.codes.specs.Verdicts.{verdict, isExecuted};
 ghost use Rattle.codes.specs.declared.Instruction.the-variants.{Rdsr, Read};
@@ -15,7 +15,7 @@ ghost use Rattle.chip.specs.declared.Core.{Core};
 ghost use Rattle.chip.specs.Lents.{Lent, lent};
 ghost use Rattle.chip.specs.Records.{ownPart, running};
 ghost use Rattle.chip.specs.Time.{timedCells};
-ghost use Rattle.edges.specs.Frames.{withByte, withValue};
+ghost use Rattle.edges.specs.Frames.{withBits, withByte, withValue};
 ghost use Rattle.edges.specs.Rising.{addressByte, identificationData, latchByte, taking, wholeByte};
 ghost use Rattle.pins.specs.declared.Event.the-variants.{S, C, Hold, Time};
 ghost use Rattle.pins.specs.Events.{onS, onC, onHold, onTime, stepped, steppedCells};
@@ -43,6 +43,22 @@ use pins::Event;
 // ---- C rises
 
 impl Front {
+    // C at 1, so many bits taken of a byte, and nothing else.
+    fn with_bits(self, bits: u8, partial: u8) -> Way
+        ensures { λ r. ⌜ ((P : Part) (m : Lent) (l : Latch) (k : Core) → afterWay P m (C true) r (whole self l k)
+            ≡ risenTo (withBits bits partial (whole self l k .frame)) (whole self l k)) ⌝ }
+    {
+        Way::Rise {
+            taken: self.taken,
+            bits: bits,
+            partial: partial,
+            code: self.code,
+            ran: self.ran,
+            value: self.value,
+            address: self.address,
+        }
+    }
+
     // A byte that nothing keeps.
     fn unkept(self, part: u8) -> Way
         ensures { λ r. ⌜ ((m : Lent) (l : Latch) (k : Core) → afterWay (partOf part) m (C true) r (whole self l k)
@@ -53,6 +69,10 @@ impl Front {
             taken: taken,
             bits: 0,
             partial: 0,
+            code: self.code,
+            ran: self.ran,
+            value: self.value,
+            address: self.address,
         }
     }
 
@@ -63,8 +83,12 @@ impl Front {
     {
         let taken = one_more(part, self.taken);
         let address = address_with(part, self.address, self.taken, byte);
-        Way::Byte {
+        Way::Rise {
             taken: taken,
+            bits: 0,
+            partial: 0,
+            code: self.code,
+            ran: self.ran,
             value: self.value,
             address: address,
         }
@@ -89,8 +113,12 @@ impl Front {
             ≡ risenTo (withValue byte (withByte (partOf part) (whole self l k .frame))) (whole self l k)) ⌝ }
     {
         let taken = one_more(part, self.taken);
-        Way::Byte {
+        Way::Rise {
             taken: taken,
+            bits: 0,
+            partial: 0,
+            code: self.code,
+            ran: self.ran,
             value: byte,
             address: self.address,
         }
@@ -157,46 +185,43 @@ impl Front {
     }
 
     // The first whole byte is the code; every later one is the instruction's.
-    fn whole_byte(self, part: u8, byte: u8) -> Way
+    fn whole_byte(self, part: u8, cycle: bool, byte: u8) -> Way
         ensures { λ r. ⌜ ((m : Lent) (l : Latch) (k : Core) → afterWay (partOf part) m (C true) r (whole self l k)
-            ≡ risenTo (wholeByte (partOf part) (running k) byte (whole self l k .frame)) (whole self l k)) ⌝ }
+            ≡ risenTo (wholeByte (partOf part) cycle byte (whole self l k .frame)) (whole self l k)) ⌝ }
     {
         if self.taken == 0 {
             let taken = one_more(part, self.taken);
-            return Way::Code {
+            let ran = bit(cycle);
+            return Way::Rise {
                 taken: taken,
+                bits: 0,
+                partial: 0,
                 code: byte,
+                ran: ran,
+                value: self.value,
+                address: self.address,
             };
         }
         self.taking(part, codes::decode(part, self.code), byte)
     }
 
     // A rising edge: not counted, one more bit, or a whole byte.
-    fn rising(self, part: u8) -> Way
+    fn rising(self, part: u8, cycle: bool) -> Way
         requires { ⌜ (self .c ≡ 1 → ⊥) ⌝ }
-        ensures { λ r. ⌜ ((m : Lent) (l : Latch) (k : Core) → afterWay (partOf part) m (C true) r (whole self l k)
-            ≡ onC (partOf part) true m (whole self l k)) ⌝ }
+        ensures { λ r. ⌜ ((m : Lent) (l : Latch) (k : Core) → running k ≡ cycle
+            → afterWay (partOf part) m (C true) r (whole self l k) ≡ onC (partOf part) true m (whole self l k)) ⌝ }
     {
-        let taken = self.taken;
         let bits = self.bits;
         let partial = self.partial;
         if !(self.s == 1) & !(self.held == 1) {
             let byte = shifted_in(partial, self.d);
             if bits < 7 {
                 let more = bits + 1;
-                return Way::Rise {
-                    taken: taken,
-                    bits: more,
-                    partial: byte,
-                };
+                return self.with_bits(more, byte);
             }
-            return self.whole_byte(part, byte);
+            return self.whole_byte(part, cycle, byte);
         }
-        Way::Rise {
-            taken: taken,
-            bits: bits,
-            partial: partial,
-        }
+        self.with_bits(bits, partial)
     }
 }
 
@@ -281,7 +306,7 @@ impl Front {
             return Way::Whole;
         }
         if level {
-            return self.rising(core.part);
+            return self.rising(core.part, 0 < core.left);
         }
         self.falling(memory, core)
     }
@@ -321,19 +346,19 @@ impl Front {
         match i {
             Instruction::Wren => {
                 let wel = self.wel_after(core.part, i, 1, core.wel);
-                Way::Drop { wel: wel }
+                Way::Clear(1, 0, wel)
             }
             Instruction::Wrdi => {
                 let wel = self.wel_after(core.part, i, 0, core.wel);
-                Way::Drop { wel: wel }
+                Way::Clear(1, 0, wel)
             }
-            Instruction::Rdsr => Way::Drop { wel: core.wel },
+            Instruction::Rdsr => Way::Clear(1, 0, core.wel),
             Instruction::Wrsr => Way::Whole,
-            Instruction::Read => Way::Drop { wel: core.wel },
+            Instruction::Read => Way::Clear(1, 0, core.wel),
             Instruction::Write => Way::Whole,
-            Instruction::Rdid => Way::Drop { wel: core.wel },
+            Instruction::Rdid => Way::Clear(1, 0, core.wel),
             Instruction::Wrid => Way::Whole,
-            Instruction::Silence => Way::Drop { wel: core.wel },
+            Instruction::Silence => Way::Clear(1, 0, core.wel),
         }
     }
 
@@ -348,7 +373,7 @@ impl Front {
             return self.deselecting(core);
         }
         let held = bit(!(self.c == 1) & !(self.hold == 1));
-        Way::Select { held: held }
+        Way::Clear(0, held, core.wel)
     }
 }
 

@@ -1,34 +1,35 @@
--- The invariant: `good` is the test of the numbers before i.
+-- The invariant: `faults` is 0 where the numbers before i are events.
 use Prim.Native.Nat.{_≤_, _-_}
 use mathlib.Core.Path.{_≡_, ap, sym, _∙_}
 use mathlib.Core.List.{List}
 use native.Mathlib.Numerals.{add-one}
 use native.Mathlib.Omega.{arith}
+use lib.Dec.{eqb}
 use lib.ListN.{length, take}
 use lib.Seq.{take-all}
 use Rattle.events.specs.Events.{areEvents}
-use Rattle.events.proofs.Numbers.{none-are, more-are}
+use Rattle.events.proofs.Numbers.{none-are, more-are, none-of}
 use borrow.Author.Needs.{needs}
 use Rattle.events.proofs.are_events.Statement.{statement}
 use Rattle.events.proofs.are_events.Tie as tie
 
 abbrev Inv-loop : tie.InvT-loop
-Inv-loop events good₀ i₀ good i = (i ≤ length events) × (good ≡ areEvents (take i events))
+Inv-loop events faults₀ i₀ faults i = (i ≤ length events) × (eqb faults 0 ≡ areEvents (take i events))
 
 abbrev μ-loop : tie.MeasureT-loop
-μ-loop events good₀ i₀ good i = length events - i
+μ-loop events faults₀ i₀ faults i = length events - i
 
 loop-holds : tie.Need-loop-holds Inv-loop μ-loop
 loop-holds c = (omega arith, none-are)
 
-mul-is-event : tie.Need-mul-is-event Inv-loop μ-loop
-mul-is-event c = search needs
+mul-fault : tie.Need-mul-fault Inv-loop μ-loop
+mul-fault c = search needs
 
-shared-slice-read-is-event : tie.Need-shared-slice-read-is-event Inv-loop μ-loop
-shared-slice-read-is-event c = search needs
+shared-slice-read-fault : tie.Need-shared-slice-read-fault Inv-loop μ-loop
+shared-slice-read-fault c = search needs
 
-is-event-requires : tie.Need-is-event-requires Inv-loop μ-loop
-is-event-requires c κs = search needs
+fault-requires : tie.Need-fault-requires Inv-loop μ-loop
+fault-requires c κs = search needs
 
 add-i : tie.Need-add-i Inv-loop μ-loop
 add-i c =
@@ -43,7 +44,7 @@ loop-again : tie.Need-loop-again Inv-loop μ-loop
 loop-again c =
     let l = c .before .before .before .loop in
     let es = c .before .before .before .before .before .args .events .now in
-    (omega arith, rw (add-one, more-are es (l .i) (omega arith), c .is-event .ensures, l .inv .1))
+    (omega arith, rw (add-one, more-are es (l .i) (omega arith), sym (l .inv .1), sym (c .fault .ensures)) (none-of (l .faults) (c .fault .result)))
 
 returns : tie.Need-returns Inv-loop μ-loop
 returns c =
@@ -59,9 +60,9 @@ are-events-spec =
     Inv-loop
     μ-loop
     loop-holds
-    mul-is-event
-    shared-slice-read-is-event
-    is-event-requires
+    mul-fault
+    shared-slice-read-fault
+    fault-requires
     add-i
     loop-less
     loop-again

@@ -1,4 +1,4 @@
-use mathlib.Core.Path.{ap, sym, _∙_}
+use mathlib.Core.Path.{refl, ap, sym, _∙_}
 use Rattle.codes.specs.Status.{bit}
 use borrow.Author.Needs.{needs}
 use Rattle.lists.proofs.Front.clocked.Statement.{statement}
@@ -11,10 +11,10 @@ returns : tie.Need-returns
 returns c = search needs
 
 rising-requires : tie.Need-rising-requires
-rising-requires c κs = λ e. c .before .if1 .left (e ∙ sym (c .before .before .before .bit .ensures ∙ ap bit (c .if2 .taken)))
+rising-requires c κs = λ e. c .before .before .if1 .left (e ∙ sym (c .before .before .before .before .bit .ensures ∙ ap bit (c .before .if2 .taken)))
 
 returns-2 : tie.Need-returns-2
-returns-2 c = rw (c .before .if2 .taken) (λ i l. c .rising .ensures _ l _)
+returns-2 c = rw (c .before .before .if2 .taken) (λ i l. c .rising .ensures _ l _ refl)
 
 falling-requires : tie.Need-falling-requires
 falling-requires c κs = λ e. c .before .if1 .left (e ∙ sym (c .before .before .before .bit .ensures ∙ ap bit (c .if2 .left)))

@@ -10,11 +10,14 @@ use Rattle.lists.proofs.Front.whole_byte.Tie as tie
 one-more-requires : tie.Need-one-more-requires
 one-more-requires c κs = search needs
 
+bit-requires : tie.Need-bit-requires
+bit-requires c κs = search needs
+
 returns : tie.Need-returns
 unfolding wholeByte
 returns c =
-    λ m l k. ap (λ (f : Frame). risenTo f (whole (c .before .before .before .args .self) l k))
-    (eq-so _ (c .before .if1 .taken) (rw (c .one-more .ensures) refl))
+    λ m l k. ap (λ (f : Frame). risenTo f (whole (c .before .before .before .before .args .self) l k))
+    (eq-so _ (c .before .before .if1 .taken) (rw (c .before .one-more .ensures, c .bit .ensures) refl))
 
 decode-requires : tie.Need-decode-requires
 decode-requires c κs = search needs
@@ -31,4 +34,4 @@ returns-2 c =
 
 pub whole-byte-spec : {M : Type 1} → statement M
 whole-byte-spec =
-    tie.close (tie.spec one-more-requires returns decode-requires taking-requires returns-2)
+    tie.close (tie.spec one-more-requires bit-requires returns decode-requires taking-requires returns-2)

@@ -1,18 +1,20 @@
-use native.Mathlib.Numerals.{add-one}
+-- The invariant: the bench is the one after the first i events, with Q after each in the output. A turn is one event more
+-- (`one-more`), and the stretch behind it.
 use native.Mathlib.Omega.{arith}
-use Prim.Native.Nat.{ℕ, suc, _≤_, _-_}
+use Prim.Native.Nat.{ℕ, _+_, _≤_, _-_}
 use mathlib.Core.Bool.{Bool, false}
 use mathlib.Core.List.{List}
 use mathlib.Core.Logic.{⊎-elim}
-use mathlib.Core.Path.{_≡_, refl, ap, sym, _∙_}
-use lib.ListN.{length, take, getD, length-set}
+use mathlib.Core.Path.{_≡_, refl, ap, sym, subst, _∙_}
+use lib.ListN.{length, take, getD, set, length-set}
 use lib.Seq.{take-all}
 use Rattle.laws.specs.Pick.{yes-so, no-so}
-use Rattle.laws.specs.Filled.{filled, filled-none, filled-more, filled-all}
+use Rattle.laws.specs.Filled.{filled, filled-none, filled-all}
 use Rattle.codes.specs.Part.{Part, partOf}
 use Rattle.latch.specs.Latches.{zeros}
 use Rattle.pins.specs.Answers.{PinBench, lentTo, next, afterEvent, played, pinBench}
 use Rattle.lists.specs.Answers.{playedQ}
+use Rattle.lists.specs.Stretches.{Reached}
 use Rattle.lists.specs.Ways.{whole, withoutFrame, isWhole, afterWay, afterWayCells}
 use Rattle.pins.specs.Devices.{devicePart, q}
 use Rattle.edges.specs.Falling.{levelNumber}
@@ -26,7 +28,8 @@ use Rattle.lists.specs.declared.Front.{Front}
 use Rattle.lists.specs.declared.Way.{Way}
 use Rattle.pins.proofs.Kept.{played-part}
 use Rattle.lists.proofs.InPlace.{none-shown}
-use Rattle.lists.proofs.Playing.{played-none, played-more, q-length, q-at}
+use Rattle.lists.proofs.Moves.{reached-more}
+use Rattle.lists.proofs.Playing.{played-none, q-length}
 use borrow.Author.Needs.{needs}
 use Rattle.lists.proofs.listed.play_all.Statement.{statement}
 use Rattle.lists.proofs.listed.play_all.Tie as tie
@@ -42,8 +45,8 @@ apart f b k c m d = pinBench (joined f b k c) m d
 abbrev Inv-loop : tie.InvT-loop
 Inv-loop memory₀ identification₀ events out₀ front₀ bytes₀ marks₀ core₀ q₀ i₀ memory identification out front bytes marks core v i =
     (i ≤ length events) × (length out ≡ length out₀) × (length memory ≡ length memory₀) × (length identification ≡ length identification₀)
-    × (apart front bytes marks core memory identification ≡ played (ownPart core₀) (take i events) (apart front₀ bytes₀ marks₀ core₀ memory₀ identification₀))
-    × (out ≡ filled out₀ (playedQ (ownPart core₀) events (apart front₀ bytes₀ marks₀ core₀ memory₀ identification₀)) i)
+    × Reached (ownPart core₀) events (apart front₀ bytes₀ marks₀ core₀ memory₀ identification₀) out₀ i
+    (apart front bytes marks core memory identification) out
     × (v ≡ levelNumber (q (joined front bytes marks core)))
 
 abbrev μ-loop : tie.MeasureT-loop
@@ -62,9 +65,11 @@ loop-holds c = (
   omega arith,
   omega arith,
   omega arith,
-  played-none _
-      (c .before .before .before .before .before .before .before .before .before .before .before .args .events .now) _,
-  filled-none _ _ 0,
+  (
+    c .before .before .before .before .before .before .before .before .before .before .before .pre,
+    played-none _ (c .before .before .before .before .before .before .before .before .before .before .before .args .events .now) _,
+    filled-none _ _ 0,
+  ),
   c .q .ensures _ _,
 )
 
@@ -95,9 +100,6 @@ enum-known-way-3 c = search needs
 enum-known-way-4 : tie.Need-enum-known-way-4 Inv-loop μ-loop
 enum-known-way-4 c = search needs
 
-bit-requires : tie.Need-bit-requires Inv-loop μ-loop
-bit-requires c κs = search needs
-
 enum-known-way-5 : tie.Need-enum-known-way-5 Inv-loop μ-loop
 enum-known-way-5 c = search needs
 
@@ -116,20 +118,8 @@ enum-known-way-7 c = search needs
 q-requires-3 : tie.Need-q-requires-3 Inv-loop μ-loop
 q-requires-3 c κs = search needs
 
-enum-known-way-8 : tie.Need-enum-known-way-8 Inv-loop μ-loop
-enum-known-way-8 c = search needs
-
 without-frame-requires : tie.Need-without-frame-requires Inv-loop μ-loop
 without-frame-requires c κs = search needs
-
-enum-known-way-9 : tie.Need-enum-known-way-9 Inv-loop μ-loop
-enum-known-way-9 c = search needs
-
-without-frame-requires-2 : tie.Need-without-frame-requires-2 Inv-loop μ-loop
-without-frame-requires-2 c κs = search needs
-
-enum-known-way-10 : tie.Need-enum-known-way-10 Inv-loop μ-loop
-enum-known-way-10 c = search needs
 
 enum-told : tie.Need-enum-told Inv-loop μ-loop
 enum-told c = search needs
@@ -152,9 +142,21 @@ Head c =
     let l = c .before .before .before .before .before .before .loop in
     apart (l .front) (l .bytes) (l .marks) (l .core) (l .memory) (l .identification)
 
+-- the bench that the loop starts from
+abbrev Begun : tie.At-match-came Inv-loop μ-loop → PinBench
+Begun c =
+    let h = c .before .before .before .before .before .before in
+    let a = h .before .before .before .before .before .before .before .before .before .before .before .before .args in
+    apart (h .before .before .before .before .before .front-of .result) (a .device .frame .latch .bytes) (a .device .frame .latch .marks)
+    (a .device .core) (a .memory .now) (a .identification .now)
+
 -- the device behind the match
 abbrev Moved : tie.At-match-came Inv-loop μ-loop → Device
 Moved c = joined (c .match .front) (c .match .bytes) (c .match .marks) (c .match .core)
+
+-- .. and what is lent
+abbrev Left : tie.At-match-came Inv-loop μ-loop → PinBench
+Left c = pinBench (Moved c) (c .match .memory) (c .match .identification)
 
 -- no bit is shown
 no-q : (P : Part) {x : Device} (y : Device) {s h : ℕ} → x ≡ withoutFrame s h y → 2 ≡ levelNumber (q x)
@@ -192,7 +194,7 @@ gone c =
     -- Data
     (λ w. (
       rw (w .5, w .6, w .7, w .8, w .1 .given .1) refl,
-      rw (w .9, w .5) (l .inv .6),
+      rw (w .9, w .5) (l .inv .5),
       lents-same event way (Head c) (ap isWhole (w .1 .given .1)) (w .3) (w .4),
     ))
     (⊎-elim
@@ -206,28 +208,14 @@ gone c =
     -- Rise
     (λ w. (
       rw (w .5, w .6, w .7, w .8, w .1 .given .1) refl,
-      rw (w .9, w .5) (l .inv .6),
-      lents-same event way (Head c) (ap isWhole (w .1 .given .1)) (w .3) (w .4),
-    ))
-    (⊎-elim
-    -- Code
-    (λ w. (
-      rw (w .7, w .8, w .9, w .10, w .4 .ensures, w .1 .given .1) refl,
-      rw (w .11, w .7) (l .inv .6),
-      lents-same event way (Head c) (ap isWhole (w .1 .given .1)) (w .5) (w .6),
-    ))
-    (⊎-elim
-    -- Byte
-    (λ w. (
-      rw (w .5, w .6, w .7, w .8, w .1 .given .1) refl,
-      rw (w .9, w .5) (l .inv .6),
+      rw (w .9, w .5) (l .inv .5),
       lents-same event way (Head c) (ap isWhole (w .1 .given .1)) (w .3) (w .4),
     ))
     (⊎-elim
     -- Latched
     (λ w. (
       rw (w .9, w .10, w .11, w .12, w .6 .ensures .0, w .6 .ensures .1, w .1 .given .1) refl,
-      rw (w .13, w .9) (l .inv .6),
+      rw (w .13, w .9) (l .inv .5),
       lents-same event way (Head c) (ap isWhole (w .1 .given .1)) (w .7) (w .8),
     ))
     (⊎-elim
@@ -238,14 +226,7 @@ gone c =
       lents-same event way (Head c) (ap isWhole (w .1 .given .1)) (w .4) (w .5),
     ))
     (⊎-elim
-    -- Select
-    (λ w. (
-      rw (w .6, w .7, w .8, w .9, w .1 .given .1) (w .3 .ensures _),
-      rw (w .10, w .6) (no-q (devicePart (Head c .device)) (Head c .device) (w .3 .ensures (l .core))),
-      lents-same event way (Head c) (ap isWhole (w .1 .given .1)) (w .4) (w .5),
-    ))
-    (⊎-elim
-    -- Drop
+    -- Clear
     (λ w. (
       rw (w .6, w .7, w .8, w .9, w .1 .given .1) (w .3 .ensures _),
       rw (w .10, w .6) (no-q (devicePart (Head c .device)) (Head c .device) (w .3 .ensures (l .core))),
@@ -255,7 +236,7 @@ gone c =
     -- Pass
     (λ w. (
       rw (w .5, w .6, w .7, w .8, w .1 .given .1) refl,
-      rw (w .9, w .5) (l .inv .6),
+      rw (w .9, w .5) (l .inv .5),
       lents-same event way (Head c) (ap isWhole (w .1 .given .1)) (w .3) (w .4),
     ))
     -- Whole
@@ -266,7 +247,7 @@ gone c =
         (rw (w .17, w .5 .ensures .1 .0, w .2 .ensures) (yes-so _ (ap isWhole (w .1 .given .1)) refl), rw (w .17) (omega (arith, w .6 .given))),
         (rw (w .18, w .5 .ensures .1 .1, w .2 .ensures) (yes-so _ (ap isWhole (w .1 .given .1)) refl), rw (w .18) (omega (arith, w .8 .given))),
       ),
-    )))))))))))
+    ))))))))
     (c .match .came)
 
 slice-write-out : tie.Need-slice-write-out Inv-loop μ-loop
@@ -274,25 +255,24 @@ slice-write-out c = search needs
 
 add-i : tie.Need-add-i Inv-loop μ-loop
 add-i c =
+    let h = c .before .before .before .before .before .before in
     let below = c .before .before .before .before .before .loop-test .taken in
-    let room = c .before .before .before .before .before .before .before .before .before .before .before .before .before .before .before .before .before .before .good in
+    let room = h .before .before .before .before .before .before .before .before .before .before .before .before .good in
     omega arith
 
 loop-less : tie.Need-loop-less Inv-loop μ-loop
 loop-less c = search needs
 
 -- and that is what the event does
-after-event : (c : tie.At-match-came Inv-loop μ-loop) → let l = c .before .before .before .before .before .before .loop in
-    pinBench (Moved c) (c .match .memory) (c .match .identification) ≡ afterEvent (devicePart (Head c .device))
-    (getD (c .before .before .before .before .before .before .before .before .before .before .before .before .before .before .before .before .before .before .args .events .now) (l .i) 0) (Head c)
+after-event : (c : tie.At-match-came Inv-loop μ-loop) → let h = c .before .before .before .before .before .before in
+    let a = h .before .before .before .before .before .before .before .before .before .before .before .before .args in
+    Left c ≡ afterEvent (devicePart (Head c .device)) (getD (a .events .now) (h .loop .i) 0) (Head c)
 after-event c =
     let l = c .before .before .before .before .before .before .loop in
     let a : Latch = record { bytes = l .bytes; marks = l .marks } in
     let does = c .before .way-for .ensures in
-    let event = c .before .before .before .event-of .result in
-    let after : Event → PinBench =
-    λ e. next (ownPart (l .core)) e (Head c) in
-    let told : pinBench (Moved c) (c .match .memory) (c .match .identification) ≡ after event =
+    let after : Event → PinBench = λ e. next (ownPart (l .core)) e (Head c) in
+    let told : Left c ≡ after (c .before .before .before .event-of .result) =
     rw (
       gone c .0 ∙ does .0 (l .identification) a,
       gone c .2 .0 .0 ∙ does .1 waitsPage a (l .memory),
@@ -300,30 +280,55 @@ after-event c =
     ) refl in
     told ∙ ap after (c .before .before .before .event-of .ensures)
 
-loop-again : tie.Need-loop-again Inv-loop μ-loop
-loop-again c =
-    let l = c .before .before .before .before .before .before .loop in
+-- so that one event more is taken
+one-more : (c : tie.At-match-came Inv-loop μ-loop) → let h = c .before .before .before .before .before .before in
+    let a = h .before .before .before .before .before .before .before .before .before .before .before .before .args in
+    Reached (ownPart (a .device .core)) (a .events .now) (Begun c) (a .out .now) (h .loop .i + 1) (Left c) (set (h .loop .out) (h .loop .i) (c .match .q))
+one-more c =
+    let h = c .before .before .before .before .before .before in
+    let l = h .loop in
     let below = c .before .before .before .before .before .loop-test .taken in
-    let a = c .before .before .before .before .before .before .before .before .before .before .before .before .before .before .before .before .before .before .args in
+    let a = h .before .before .before .before .before .before .before .before .before .before .before .before .args in
     let es = a .events .now in
-    let b : PinBench = apart (c .before .before .before .before .before .before .before .before .before .before .before .front-of .result)
-    (a .device .frame .latch .bytes) (a .device .frame .latch .marks) (a .device .core) (a .memory .now) (a .identification .now) in
     let P = ownPart (a .device .core) in
     let kept : l .core .part ≡ a .device .core .part =
-    ap (λ (x : PinBench). x .device .core .part) (l .inv .4) ∙ played-part P (take (l .i) es) b in
-    let more : pinBench (Moved c) (c .match .memory) (c .match .identification) ≡ played P (take (suc (l .i)) es) b =
-    after-event c ∙ ap (λ (n : ℕ). afterEvent (partOf n) (getD es (l .i) 0) (Head c)) kept
-    ∙ ap (afterEvent P (getD es (l .i) 0)) (l .inv .4) ∙ sym (played-more P es (l .i) b (omega arith)) in
-    let level : c .match .q ≡ getD (playedQ P es b) (l .i) 0 =
-    gone c .1 ∙ ap (λ (x : PinBench). levelNumber (q (x .device))) more ∙ sym (q-at P es (l .i) b (omega arith)) in (
-      omega arith,
-      simp length-set (omega arith),
-      gone c .2 .0 .1 ∙ l .inv .2,
-      gone c .2 .1 .1 ∙ l .inv .3,
-      rw add-one more,
-      rw (l .inv .5) (filled-more (a .out .now) (playedQ P es b) 0 (l .i) (c .match .q)
-          (sym (q-length P es b ∙ sym (c .before .before .before .before .before .before .before .before .before .before .before .before .before .before .before .before .before .before .pre))) (omega arith) level),
-      gone c .1,
+    ap (λ (x : PinBench). x .device .core .part) (l .inv .4 .1) ∙ played-part P (take (l .i) es) (Begun c) in
+    reached-more P es (Begun c) (a .out .now) (l .i) (Head c) (Left c) (l .out) (c .match .q) (omega arith) (l .inv .4)
+    (after-event c ∙ ap (λ (n : ℕ). afterEvent (partOf n) (getD es (l .i) 0) (Head c)) kept) (gone c .1)
+
+stretch-on-requires : tie.Need-stretch-on-requires Inv-loop μ-loop
+unfolding q
+stretch-on-requires c κs =
+    let at = c .before in
+    let h = at .before .before .before .before .before .before in
+    let below = at .before .before .before .before .before .loop-test .taken in
+    let same = h .before .before .before .before .before .before .before .before .before .before .before .before .pre in
+    ((omega arith, length-set (h .loop .out) (h .loop .i) (at .match .q) ∙ h .loop .inv .1 ∙ same), λ a k. gone at .1)
+
+-- the stretch behind it leads on, at the part that no event changes
+loop-again : tie.Need-loop-again Inv-loop μ-loop
+loop-again c =
+    let at = c .before .before .before .before .before in
+    let h = at .before .before .before .before .before .before in
+    let l = h .loop in
+    let a = h .before .before .before .before .before .before .before .before .before .before .before .before .args in
+    let es = a .events .now in
+    let P = ownPart (a .device .core) in
+    let r = c .before .before .before .stretch-on in
+    let kept : at .match .core .part ≡ a .device .core .part =
+    ap (λ (x : PinBench). x .device .core .part) (one-more at .1) ∙ played-part P (take (l .i + 1) es) (Begun at) in
+    let on : PinBench = apart (r .result .front) (at .match .bytes) (at .match .marks) (at .match .core) (at .match .memory) (at .match .identification) in (
+      r .ensures .0 .1,
+      c .before .before .out .given ∙ length-set (l .out) (l .i) (at .match .q) ∙ l .inv .1,
+      gone at .2 .0 .1 ∙ l .inv .2,
+      gone at .2 .1 .1 ∙ l .inv .3,
+      subst
+          (λ (Q : Part). Reached Q es (Begun at) (a .out .now) (l .i + 1) (Left at) (set (l .out) (l .i) (at .match .q))
+          → Reached Q es (Begun at) (a .out .now) (r .result .i) on (r .last .1 .1 .1 .1 .1 .0))
+          (ap partOf kept)
+          (r .ensures .1 .1 _ _ _ _ _ (Begun at))
+          (one-more at),
+      r .ensures .1 .0 _ _,
     )
 
 whole-requires-2 : tie.Need-whole-requires-2 Inv-loop μ-loop
@@ -352,14 +357,14 @@ returns c =
     let all : take (l .i) es ≡ es = take-all (l .i) es (omega arith) in
     let P = ownPart (a .device .core) in
     let end : apart (l .front) (l .bytes) (l .marks) (l .core) (l .memory) (l .identification) ≡ played P es b =
-    l .inv .4
-    ∙ ap (λ (k : List ℕ). played P k (from (c .before .before .before .before .before .before .before .front-of .result))) all ∙ ap (played P es) start in (
+    l .inv .4 .1 ∙ ap (λ (k : List ℕ). played P k (from (c .before .before .before .before .before .before .before .front-of .result))) all
+    ∙ ap (played P es) start in (
       c .whole2 .ensures ∙ ap (λ (x : PinBench). x .device) end,
       (
         ap (λ (x : PinBench). x .memory) end,
         (
           ap (λ (x : PinBench). x .identification) end,
-          l .inv .5 ∙ ap (λ (x : PinBench). filled (a .out .now) (playedQ P es x) (l .i)) start
+          l .inv .4 .2 ∙ ap (λ (x : PinBench). filled (a .out .now) (playedQ P es x) (l .i)) start
               ∙ filled-all (a .out .now) (playedQ P es b) 0 (l .i) (sym (q-length P es b ∙ sym same)) (omega arith),
         ),
       ),
@@ -383,18 +388,13 @@ play-all-spec =
     q-requires-2
     enum-known-way-3
     enum-known-way-4
-    bit-requires
-    enum-known-way-5
-    enum-known-way-6
     cast-latch-byte
     latch-byte-requires
-    enum-known-way-7
+    enum-known-way-5
     q-requires-3
-    enum-known-way-8
+    enum-known-way-6
     without-frame-requires
-    enum-known-way-9
-    without-frame-requires-2
-    enum-known-way-10
+    enum-known-way-7
     enum-told
     whole-requires
     stepped-requires
@@ -402,6 +402,7 @@ play-all-spec =
     q-requires-4
     slice-write-out
     add-i
+    stretch-on-requires
     loop-less
     loop-again
     whole-requires-2
