@@ -37,7 +37,7 @@ const NO_COUNT: usize = 0xffff_ffff_ffff_ffff;
 
 // A frame with clock readings inside it, for every input. The lists say at which byte position each reading comes.
 // Refusals 1, 2, 3, 4 and 5 in that order leave everything as it was; 4 is also for lists of unequal lengths and for
-// positions that fall or pass the frame's whole bytes. With empty lists it is the plain call, at its rate.
+// positions that fall or pass the frame's whole bytes. With empty lists it is the plain call.
 pub fn timed_frame(
     core: Core,
     memory: &mut [u8],
