@@ -20,6 +20,7 @@ use Rattle.chip.specs.declared.Core.{Core}
 use Rattle.bench.specs.declared.CoreAnswer.{CoreAnswer}
 use Rattle.bench.specs.declared.LatchAnswer.{LatchAnswer}
 use Rattle.frames.specs.Answers.{framed, framedOutput, frameReplyNumber, frameReplyUndriven}
+use Rattle.frames.specs.declared.Framed.{Framed}
 use Rattle.timed_frames.specs.Answers.{framedInTime, inTimeLeft, outputInTime}
 use Rattle.timed_frames.specs.declared.Mode.{Mode}
 use Rattle.timed_frames.specs.declared.Mode.the-variants.{Zero, Three}
@@ -84,11 +85,13 @@ badLevel P size cells = pick (lentFits P size cells) 2 1
 abbrev pub frameAnswer : ℕ → ℕ → Core → FrameAnswer
 frameAnswer n u c = record { number = n; undriven = u; core = c }
 
+-- what the frame model hands back, as C has it
+abbrev pub framedAnswer : Framed → FrameAnswer
+framedAnswer r = frameAnswer (frameReplyNumber (r .answer)) (frameReplyUndriven (r .answer)) (r .core)
+
 abbrev pub frameCall : Part → Core → List ℕ → List ℕ → ℕ → List ℕ → ℕ → ℕ → FrameAnswer
 frameCall P c m d w s n room =
-    let r = framed P c m d (on w) s n room in
-    pick (leb w 1)
-    (frameAnswer (frameReplyNumber (r .answer)) (frameReplyUndriven (r .answer)) (r .core))
+    pick (leb w 1) (framedAnswer (framed P c m d (on w) s n room))
     (frameAnswer (badLevel P (length m) (length d)) 0 c)
 
 abbrev pub frameCallOutput : Part → Core → List ℕ → List ℕ → ℕ → List ℕ → ℕ → List ℕ → List ℕ
@@ -104,9 +107,7 @@ modeOf o = pick (eqb o 3) Three Zero
 
 abbrev pub timedCall : Part → Core → Lent → ℕ → ℕ → List ℕ → ℕ → List ℕ → List ℕ → ℕ → FrameAnswer
 timedCall P c m w o s n ps ts room =
-    let r = framedInTime P c m (on w) s n ps ts room in
-    pick (timedTaken w o)
-    (frameAnswer (frameReplyNumber (r .answer)) (frameReplyUndriven (r .answer)) (r .core))
+    pick (timedTaken w o) (framedAnswer (framedInTime P c m (on w) s n ps ts room))
     (frameAnswer (badLevel P (length (m .memory)) (length (m .identification))) 0 c)
 
 abbrev pub timedCallMemory : Part → Core → Lent → ℕ → ℕ → List ℕ → ℕ → List ℕ → List ℕ → ℕ → List ℕ

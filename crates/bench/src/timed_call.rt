@@ -21,7 +21,7 @@ fn mode_of(mode: u8) -> Mode
 }
 
 // A whole frame with clock readings inside it, each at its byte position. Refusals 1, 2, 3, 4, 5; a level that is not 0
-// or 1 and a mode that is not 0 or 3 get 2 too.
+// or 1 and a mode that is not 0 or 3 get 2 too. With empty lists it is the plain frame.
 #[no_mangle]
 pub extern "C" fn cartvesper_timed_frame(
     core: Core,
@@ -50,6 +50,16 @@ pub extern "C" fn cartvesper_timed_frame(
         (now (bytes .entry)) bits (now (positions .entry)) (now (readings .entry)) (now (out .entry)) ⌝ }
 {
     if (w <= 1) & ((mode == 0) | (mode == 3)) {
+        if (positions.len() == 0) & (readings.len() == 0) {
+            let framed = frames::frame(core, memory, identification, w == 1, bytes, bits, out);
+            let answer = framed.answer;
+            let next = framed.core;
+            return FrameAnswer {
+                number: answer.number(),
+                undriven: answer.undriven() as u64,
+                core: next,
+            };
+        }
         let framed = timed_frames::timed_frame(
             core,
             memory,
