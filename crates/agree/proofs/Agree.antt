@@ -27,12 +27,12 @@ use Rattle.frames.specs.Answers.{frameReply, frameReplyUndriven, framedOutput}
 use Rattle.frames.specs.Play.{frame, FrameBench, frameBench, acted}
 use Rattle.timed_frames.specs.Schedules.{rising, due, passed, benchAt}
 use Rattle.timed_frames.specs.InTime.{loadedAt, ranIn, sightsIn, lastOf}
-use Rattle.timed_frames.specs.Acts.{send, actedInTime}
+use Rattle.timed_theorems.specs.Acts.{send, actedInTime}
 use Rattle.timed_frames.specs.Answers.{inTimeOutcome, inTimeLeft, framedInTime, outputInTime}
 use Rattle.timed_frames.specs.declared.Mode.{Mode}
 use Rattle.timed_frames.proofs.Walks.{walk-on, bench-none, loaded-late}
 use Rattle.timed_frames.proofs.Calm.{Calm, passed-calm}
-use Rattle.timed_frames.proofs.Kept.{left-by-within, left-by-length}
+use Rattle.timed_theorems.proofs.Kept.{left-by-within, left-by-length}
 use Rattle.timed_frames.proofs.Untimed.{untimed-output}
 use Rattle.pins.specs.declared.Pins.{Pins}
 use Rattle.pins.specs.declared.Device.{Device}

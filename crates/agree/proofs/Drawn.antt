@@ -12,7 +12,7 @@ use Rattle.laws.specs.Pick.{pick, and-left, and-right}
 use Rattle.codes.specs.Part.{Part, m95512}
 use Rattle.fields.specs.Counts.{bitsFit, longestFrame}
 use Rattle.timed_frames.specs.Schedules.{rising, placesFit}
-use Rattle.timed_frames.specs.Acts.{TimedAct, send, reading}
+use Rattle.timed_theorems.specs.Acts.{TimedAct, send, reading}
 use Rattle.timed_frames.specs.declared.Mode.{Mode}
 use Rattle.timed_frames.specs.declared.Mode.the-variants as mode
 use Rattle.pins.specs.declared.Event.{Event}

@@ -13,7 +13,7 @@ use Rattle.chip.proofs.Within.{Within}
 use Rattle.chip.proofs.Passing.{timed-length}
 use Rattle.chip.proofs.Recounts.{timed-in-within}
 use Rattle.frames.specs.Play.{FrameBench}
-use Rattle.timed_frames.specs.Acts.{TimedAct, send, reading, actedInTime}
+use Rattle.timed_theorems.specs.Acts.{TimedAct, send, reading, actedInTime}
 use Rattle.timed_frames.specs.declared.Mode.{Mode}
 use Rattle.timed_frames.specs.declared.Mode.the-variants as mode
 use Rattle.edges.specs.declared.Frame.{Frame}

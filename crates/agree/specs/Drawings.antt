@@ -13,7 +13,7 @@ use Rattle.fields.specs.Counts.{bitsFit, longestFrame}
 use Rattle.pins.specs.declared.Event.{Event}
 use Rattle.pins.specs.declared.Event.the-variants.{S, C, D, W, Hold, Time}
 use Rattle.timed_frames.specs.Schedules.{placesFit}
-use Rattle.timed_frames.specs.Acts.{TimedAct, send, reading}
+use Rattle.timed_theorems.specs.Acts.{TimedAct, send, reading}
 use Rattle.timed_frames.specs.declared.Mode.{Mode}
 use Rattle.timed_frames.specs.declared.Mode.the-variants as mode
 

@@ -10,7 +10,7 @@ use Rattle.codes.specs.Status.{on}
 use Rattle.chip.specs.Lents.{Lent, lent}
 use Rattle.frames.specs.Answers.{frameReplyUndriven}
 use Rattle.frames.specs.Play.{FrameBench, frameBench}
-use Rattle.timed_frames.specs.Acts.{TimedAct, send, reading, actedInTime}
+use Rattle.timed_theorems.specs.Acts.{TimedAct, send, reading, actedInTime}
 use Rattle.timed_frames.specs.Answers.{framedInTime, outputInTime}
 use Rattle.timed_frames.specs.declared.Mode.{Mode}
 use Rattle.pins.specs.declared.Device.{Device}

@@ -24,7 +24,7 @@ use Rattle.fields.specs.Bytes.{latchedFrom}
 use Rattle.shown.specs.Shown.{output}
 use Rattle.frames.specs.Play.{FrameBench, frameBench}
 use Rattle.timed_frames.specs.Schedules.{rising, due, passed}
-use Rattle.timed_frames.specs.Acts.{TimedAct, send, reading, actedInTime, actedAllInTime}
+use Rattle.timed_theorems.specs.Acts.{TimedAct, send, reading, actedInTime, actedAllInTime}
 use Rattle.timed_frames.specs.Answers.{outputInTime}
 use Rattle.timed_frames.specs.declared.Mode.{Mode}
 use Rattle.timed_frames.specs.declared.Mode.the-variants as mode

@@ -26,7 +26,7 @@ use Rattle.frames.specs.Play as plain
 use Rattle.timed_frames.specs.declared.Mode.{Mode}
 use Rattle.timed_frames.specs.Schedules.{due, placesFit, passed, benchAt}
 use Rattle.timed_frames.specs.InTime.{loadedAt, ranIn, sightsIn, lastOf, leftBy}
-use Rattle.timed_frames.specs.Acts.{TimedAct, send, reading, actedAllInTime}
+use Rattle.timed_theorems.specs.Acts.{TimedAct, send, reading, actedAllInTime}
 use Rattle.timed_frames.specs.Answers.{inTimeOutcome, inTimeLeft, given, framedInTime, outputInTime}
 use Rattle.stores.specs.Blind.{Alike, FrameBenchEqualBut}
 use Rattle.stores.proofs.BlindFrames.{ranges-blind, after-blind, acted-blind}

@@ -31,9 +31,9 @@ use Rattle.fields.specs.Bytes.{instruction, address, written}
 use Rattle.frames.specs.After.{judged, after}
 use Rattle.frames.specs.Answers.{frameOutcome, framed}
 use Rattle.frames.specs.Play.{Act, frame, reading, FrameBench, frameBench, acted, actedAll}
-use Rattle.timed_frames.specs.Acts.{TimedAct, actedAllInTime}
+use Rattle.timed_theorems.specs.Acts.{TimedAct, actedAllInTime}
 use Rattle.timed_frames.specs.Answers.{inTimeOutcome, inTimeLeft, framedInTime}
-use Rattle.timed_frames.proofs.Keeping.{Keeps, left-by-keeps, acted-all-in-time-keeps}
+use Rattle.timed_theorems.proofs.Keeping.{Keeps, left-by-keeps, acted-all-in-time-keeps}
 use Rattle.driver.specs.Answers.{driveOutcome, driven, drivenMemory}
 use Rattle.driver.specs.Sequence.{run}
 use Rattle.pins.specs.declared.Device.{Device}

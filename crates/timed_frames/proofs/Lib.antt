@@ -1,12 +1,8 @@
--- Theorems on frames with readings inside, and the facts that the functions' proofs share.
+-- What the proofs of the functions share on frames with readings inside; with empty lists the call is the plain one; one result.
 pub mod Walks
 pub mod Ran
 pub mod Calm
 pub mod Passed
-pub mod Keeping
-pub mod Kept
-pub mod CellRule
-pub mod Locks
 pub mod Opened
 pub mod Whole
 pub mod Untimed

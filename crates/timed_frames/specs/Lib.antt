@@ -2,5 +2,4 @@
 pub mod Schedules
 pub mod InTime
 pub mod Walked
-pub mod Acts
 pub mod Answers

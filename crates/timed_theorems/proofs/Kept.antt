@@ -15,11 +15,11 @@ use Rattle.chip.proofs.Recounts.{timed-in-within}
 use Rattle.frames.specs.Play.{reading, FrameBench, lentCells}
 use Rattle.frames.proofs.Kept.{after-within}
 use Rattle.frames.proofs.PartKept.{after-part, acted-part}
 use Rattle.timed_frames.specs.InTime.{leftBy}
-use Rattle.timed_frames.specs.Acts.{TimedAct, actedAllInTime}
 use Rattle.timed_frames.specs.Answers.{inTimeLeft, framedInTime, given}
 use Rattle.timed_frames.proofs.Passed.{read-length}
-use Rattle.timed_frames.proofs.Keeping.{deselected, Keeps, left-by-keeps, acted-all-in-time-keeps, in-time-left-keeps}
+use Rattle.timed_theorems.specs.Acts.{TimedAct, actedAllInTime}
+use Rattle.timed_theorems.proofs.Keeping.{deselected, Keeps, left-by-keeps, acted-all-in-time-keeps, in-time-left-keeps}
 
 -- ---- the ranges
 

@@ -14,11 +14,12 @@ use Rattle.chip.specs.declared.Core.{Core}
 use Rattle.frames.specs.After.{after}
 use Rattle.frames.specs.Play.{FrameBench, frameBench, acted}
 use Rattle.frames.specs.Play as plain
 use Rattle.timed_frames.specs.Schedules.{due}
 use Rattle.timed_frames.specs.InTime.{ranIn, lastOf, leftBy}
-use Rattle.timed_frames.specs.Acts.{TimedAct, send, reading, actedAllInTime}
 use Rattle.timed_frames.specs.Answers.{inTimeOutcome, inTimeLeft, given}
-use Rattle.timed_frames.proofs.Passed.{passed-keeps, last-ran}
+use Rattle.timed_frames.proofs.Passed.{passed-keeps}
+use Rattle.timed_theorems.specs.Acts.{TimedAct, send, reading, actedAllInTime}
+use Rattle.timed_theorems.proofs.Ended.{last-ran}
 
 -- what deselect leaves of a bench
 abbrev pub deselected : Part → Bool → Bool → List ℕ → ℕ → FrameBench → FrameBench

@@ -17,13 +17,13 @@ use Rattle.chip.proofs.Within.{within}
 use Rattle.frames.specs.Play.{FrameBench, acted}
 use Rattle.frames.specs.Play as plain
 use Rattle.frames.proofs.Locks as frames
 use Rattle.timed_frames.specs.Schedules.{due}
 use Rattle.timed_frames.specs.InTime.{ranIn, lastOf, leftBy}
-use Rattle.timed_frames.specs.Acts.{TimedAct, send, reading, actedAllInTime, locksInTime, locksAnyInTime}
 use Rattle.timed_frames.specs.Answers.{inTimeLeft}
 use Rattle.timed_frames.specs.declared.Mode.{Mode}
 use Rattle.timed_frames.proofs.Passed.{passed-keeps}
-use Rattle.timed_frames.proofs.Keeping.{Keeps, acted-all-in-time-keeps, in-time-left-keeps}
+use Rattle.timed_theorems.specs.Acts.{TimedAct, send, reading, actedAllInTime, locksInTime, locksAnyInTime}
+use Rattle.timed_theorems.proofs.Keeping.{Keeps, acted-all-in-time-keeps, in-time-left-keeps}
 
 -- ---- it never opens
 

@@ -27,12 +27,13 @@ use Rattle.frames.specs.Play.{FrameBench, acted, lentCells}
 use Rattle.frames.specs.Play as plain
 use Rattle.frames.proofs.CellRule.{after-awaits}
 use Rattle.frames.proofs.Outcomes.{not-refused}
 use Rattle.timed_frames.specs.Schedules.{due, passed}
 use Rattle.timed_frames.specs.InTime.{ranIn, lastOf, leftBy}
-use Rattle.timed_frames.specs.Acts.{TimedAct, send, reading, actedAllInTime, endsAny, endsInside, addressesInTime, addressedInTime}
 use Rattle.timed_frames.specs.Answers.{inTimeOutcome, inTimeLeft, given}
-use Rattle.timed_frames.proofs.Passed.{read-length, passed-awaits, coming, passed-cell}
-use Rattle.timed_frames.proofs.Kept.{deselected-cells, left-by-length, left-by-within}
+use Rattle.timed_frames.proofs.Passed.{read-length}
+use Rattle.timed_theorems.specs.Acts.{TimedAct, send, reading, actedAllInTime, endsAny, endsInside, addressesInTime, addressedInTime}
+use Rattle.timed_theorems.proofs.Ended.{passed-awaits, coming, passed-cell}
+use Rattle.timed_theorems.proofs.Kept.{deselected-cells, left-by-length, left-by-within}
 
 -- ---- one frame
 
