@@ -1,5 +1,5 @@
-// Frames sent through the frame model's public calls: whole bytes, W high. A frame of these lengths, from a record
-// inside its ranges, is not refused.
+// What the driver sends. WREN and WRITE go through the frame model's frame: whole bytes, W high; a frame of these
+// lengths, from a record inside its ranges, is not refused. A poll reads the status byte that RDSR shows.
 ghost use mathlib.Core.Path.{_≡_};
 ghost use mathlib.Core.Bool.{true};
 ghost use Prim.Native.Nat.{_+_, _*_, _≤_, _<_};
@@ -42,8 +42,8 @@ pub(crate) fn send(core: Core, memory: &[u8], identification: &[u8], bytes: &[u8
     framed.core
 }
 
-// RDSR, and the status byte that it shows; the record that follows is the one given. frames::poll answers so for a
-// record inside its ranges, which need no test again.
+// RDSR with one status byte, and that byte. From a record inside its ranges such a frame shows it and leaves the record
+// as it was (polled-status and poll-leaves of frames), so the ranges are not tested again.
 pub(crate) fn poll(core: Core) -> u8
     ensures { λ r. ⌜ r ≡ status core ⌝ }
 {

@@ -1,10 +1,8 @@
--- A frame allows one result and one output, a poll one result.
+-- A frame allows one result and one output.
 use denote.Ref.{now}
 use Rattle.laws.specs.One.{OneResult, OneExit, same}
 use Rattle.frames.proofs.frame.Kinds as frame
 use Rattle.frames.proofs.frame.Reads as frame-reads
-use Rattle.frames.proofs.polling.poll.Kinds as poll
-use Rattle.frames.proofs.polling.poll.Reads as poll-reads
 use Rattle.frames.proofs.FrameReply.number.Kinds as framereply-number
 use Rattle.frames.proofs.FrameReply.number.Reads as framereply-number-reads
 use Rattle.frames.proofs.FrameReply.undriven.Kinds as framereply-undriven
@@ -15,9 +13,6 @@ frame-one κs a z z′ e e′ p q = same (p .0) (q .0)
 
 pub frame-output : OneExit frame.ps frame.r frame-reads.Post (λ κs e. now (e .1 .1 .1 .1 .1 .1 .0))
 frame-output κs a z z′ e e′ p q = same (p .1 .1 .1) (q .1 .1 .1)
-
-pub poll-one : OneResult poll.ps poll.r poll-reads.Post
-poll-one κs a z z′ e e′ p q = same p q
 
 -- ---- inner calls
 

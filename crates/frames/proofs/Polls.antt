@@ -1,5 +1,5 @@
--- A poll is the frame call's RDSR: it shows the status byte and leaves the record as it was.
-use mathlib.Core.Path.{_≡_, refl, ap, sym, _∙_}
+-- A poll is RDSR with one status byte: its frame leaves the record as it was, and shows the status byte.
+use mathlib.Core.Path.{_≡_, refl, ap}
 use mathlib.Core.Bool.{true}
 use mathlib.Core.List.{List, [], _∷_}
 use Prim.Native.Nat.{ℕ, _≤_}
@@ -8,11 +8,9 @@ use lib.ListN.{length, getD}
 use Rattle.laws.specs.Pick.{pick, pick-same}
 use Rattle.laws.specs.Table.{from, table}
 use Rattle.codes.specs.Part.{Part}
-use Rattle.codes.specs.Instructions.{decode}
+use Rattle.codes.specs.Instructions.{decode, rdsrCode}
 use Rattle.codes.specs.Verdicts.{isExecuted}
-use Rattle.codes.specs.declared.Refusal.{Refusal}
-use Rattle.codes.specs.declared.Outcome.{Outcome}
-use Rattle.codes.specs.declared.Outcome.the-variants.{Done, Refused}
+use Rattle.codes.specs.declared.Outcome.the-variants.{Done}
 use Rattle.chip.specs.Records.{running, status, lockByte}
 use Rattle.chip.specs.Ranges.{inRanges}
 use Rattle.chip.specs.Time.{lentFits}
@@ -21,12 +19,14 @@ use Rattle.fields.specs.Counts.{bitsFit, longestFrame}
 use Rattle.shown.specs.Shown.{sights, padded, output}
 use Rattle.frames.specs.After.{judged, after}
 use Rattle.frames.specs.Answers.{frameOutcome, framed, framedOutput}
-use Rattle.frames.specs.Polls.{pollBytes, polled}
-use Rattle.frames.specs.declared.Seen.{Seen}
-use Rattle.frames.proofs.Outcomes.{accepted}
 use Rattle.frames.specs.declared.FrameReply.the-variants as reply
+use Rattle.frames.proofs.Outcomes.{accepted}
 
--- its frame leaves the record as it was, whatever the answer
+-- the code, and a byte in which the status shows
+abbrev pub pollBytes : List ℕ
+pollBytes = rdsrCode ∷ 0x00 ∷ []
+
+-- the record is left as it was, whatever the answer
 pub poll-leaves : (P : Part) (c : Core) → after P (running c) true c pollBytes 16 ≡ c
 unfolding decode pick
 poll-leaves P c = pick-same (isExecuted (judged P (running c) true c pollBytes 16)) c
@@ -42,21 +42,19 @@ two-bytes : bitsFit 2 16 ≡ true
 unfolding pick
 two-bytes = refl
 
-module _ (P : Part) (c : Core) (m i : List ℕ) where
-  pub shown-poll : {o : Outcome} → o ≡ frameOutcome P c (length m) (length i) 2 16 2 → o ≡ Done
-      → polled P c m i ≡ record { answer = reply.Shown 8; status = status c }
-  unfolding polled framed framedOutput decode pick
-  shown-poll found done =
-      let e = sym found ∙ done in
-      rw e (ap (λ (v : ℕ). record { answer = reply.Shown 8; status = v }) (poll-shows P c m i))
-
-  pub refused-poll : (r : Refusal) {o : Outcome} → o ≡ frameOutcome P c (length m) (length i) 2 16 2 → o ≡ Refused r
-      → polled P c m i ≡ record { answer = reply.Refused r; status = 0 }
-  unfolding polled framed framedOutput pick
-  refused-poll r found refused = let e = sym found ∙ refused in rw e
-
-  -- slices of the part's lengths and a record inside the ranges: the status byte
-  pub polled-status : lentFits P (length m) (length i) ≡ true → inRanges P c ≡ true → polled P c m i .status ≡ status c
-  polled-status size ranges =
+-- slices of the part's lengths, a record inside the ranges and room for two bytes
+module _ (P : Part) (c : Core) (m i : List ℕ) (size : lentFits P (length m) (length i) ≡ true) (ranges : inRanges P c ≡ true) where
+  poll-accepted : (room : ℕ) → room ≡ 2 → frameOutcome P c (length m) (length i) 2 16 room ≡ Done
+  poll-accepted room two =
       let short : 2 ≤ longestFrame P = omega arith in
-      ap (λ (x : Seen). x .status) (shown-poll (sym (accepted P c (length m) (length i) 2 16 2 size ranges short two-bytes refl)) refl)
+      accepted P c (length m) (length i) 2 16 room size ranges short two-bytes two
+
+  -- the call answers 8 undriven bits, and hands the record back as it was
+  pub poll-framed : framed P c m i true pollBytes 16 2 ≡ record { answer = reply.Shown 8; core = c }
+  unfolding framed decode pick
+  poll-framed = rw (poll-accepted 2 refl) (ap (λ (x : Core). record { answer = reply.Shown 8; core = x }) (poll-leaves P c))
+
+  -- the second byte of its output is the status byte
+  pub polled-status : (out : List ℕ) → length out ≡ 2 → getD (framedOutput P c m i pollBytes 16 out) 1 0 ≡ status c
+  unfolding framedOutput pick
+  polled-status out two = rw (poll-accepted (length out) two) (poll-shows P c m i)

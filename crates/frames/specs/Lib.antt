@@ -2,5 +2,4 @@
 -- frames and readings does. Nothing here follows pins.
 pub mod After
 pub mod Answers
-pub mod Polls
 pub mod Play

@@ -1,7 +1,6 @@
 // The frame model of the three parts: it takes whole frames.
 //
-// Public calls, each for every input: frame and poll, and chip's power_up and clock_reading, whose record this model
-// holds.
+// Public calls, each for every input: frame, and chip's power_up and clock_reading, whose record this model holds.
 ghost use mathlib.Core.Path.{_≡_};
 ghost use lib.ListN.{length};
 ghost use Rattle.chip.specs.Records.{ownPart};
@@ -13,10 +12,7 @@ use codes::Refusal;
 
 mod answers;
 mod executed;
-mod polling;
 mod refused;
-
-pub use polling::poll;
 
 // How many leading bits of the count were undriven, or the refusal.
 pub enum FrameReply {
@@ -28,12 +24,6 @@ pub enum FrameReply {
 pub struct Framed {
     pub answer: FrameReply,
     pub core: Core,
-}
-
-// What a poll hands back: its answer, and the status byte that it shows, 0 in a refusal.
-pub struct Seen {
-    pub answer: FrameReply,
-    pub status: u8,
 }
 
 // A frame for every record, memory, identification page, level of W, slice, bit count and output. Refusals 1, 2, 3, 4

@@ -1,5 +1,5 @@
 -- Of records that are equal but for the number of blank cells every rule of the record and of the frame model gives what is equal but for it: the ranges
--- (with both numbers inside theirs), the questions, a reading, a frame with its output, a poll, and any list of frames and readings.
+-- (with both numbers inside theirs), the questions, a reading, a frame with its output, and any list of frames and readings.
 use mathlib.Core.Path.{_≡_, ap, ap₂, sym, _∙_}
 use mathlib.Core.Bool.{Bool, true, false}
 use mathlib.Core.List.{List, [], _∷_}
@@ -29,7 +29,6 @@ use Rattle.fields.specs.Counts.{bitsFit, longestFrame}
 use Rattle.shown.specs.Shown.{sights, output, undriven}
 use Rattle.frames.specs.After.{judged, executed, after}
 use Rattle.frames.specs.Answers.{frameOutcome, frameReply, framed, framedOutput}
-use Rattle.frames.specs.Polls.{pollBytes, polled}
 use Rattle.frames.specs.Play.{Act, frame, reading, FrameBench, acted, actedAll}
 use Rattle.stores.specs.Blind.{Alike, FrameBenchEqualBut}
 
@@ -130,11 +129,6 @@ module _ (P : Part) (c d : Core) (a : Alike P c d) (m i : List ℕ) where
     output-blind out =
         ap₂ (λ (o : Outcome) (x : Core). pick (isDone o) (output P (running x) (sights (status x) (lockByte x) m i) s n) out)
         (frame-outcome-blind (length s) n (length out)) (a .same)
-
-  pub poll-blind : polled P c m i ≡ polled P d m i
-  unfolding polled
-  poll-blind =
-      ap₂ (λ f o. record { answer = f; status = getD o 1 0 }) (frame-blind true pollBytes 16 2) (output-blind true pollBytes 16 (0 ∷ 0 ∷ []))
 
 -- ---- any list of frames and readings
 
