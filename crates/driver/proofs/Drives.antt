@@ -1,53 +1,31 @@
--- The whole run: nothing for no data, a first wait that used its limit, data that touches the protected block, or the page parts.
+-- What a whole run hands back, and leaves in the memory and in the identification page, by each of its four ways.
 use mathlib.Core.Path.{_≡_, refl, ap, sym, _∙_}
 use mathlib.Core.Bool.{Bool, true, false}
 use mathlib.Core.List.{List, []}
 use Prim.Native.Nat.{ℕ}
 use lib.ListN.{length}
-use borrow.Author.Tests.{eq-eqb, ne-eqb}
-use Rattle.laws.specs.Pick.{at-yes, at-no}
 use Rattle.codes.specs.Part.{Part}
 use Rattle.chip.specs.Records.{running}
 use Rattle.frames.specs.Play.{Act, FrameBench, actedAll}
+use Rattle.sequence.specs.Sequence.{sent, firstWait, Ending, allDone, timedOut, protected, Run, stopped, begun, allParts, touches, run}
+use Rattle.sequence.proofs.Playing.{acted-all-append, sent-append}
+use Rattle.sequence.proofs.Ways.{run-none, run-late, run-touches, run-parts}
 use Rattle.driver.specs.declared.Driven.{Driven}
 use Rattle.driver.specs.declared.RunReply.{RunReply}
-use Rattle.driver.specs.Sequence.{sent, firstWait, Ending, allDone, timedOut, protected, Run, stopped, begun, allParts, touches, run}
 use Rattle.driver.specs.Answers.{endingAnswer, countedAnswer, partsAnswer, runAnswer}
-use Rattle.driver.proofs.Playing.{acted-all-append, sent-append}
 
 module _ (P : Part) (i limit a : ℕ) (bytes : List ℕ) (d : FrameBench) where
-  abbrev pub first : List Act
+  abbrev first : List Act
   first = firstWait P i limit d
 
-  abbrev pub rested : FrameBench
+  abbrev rested : FrameBench
   rested = actedAll P first d
 
   abbrev whole : Run
   whole = run P i limit a bytes d
 
-  -- ---- its four ways
-
-  pub run-none : length bytes ≡ 0 → whole ≡ stopped [] allDone
-  unfolding run
-  run-none e = at-yes _ _ (eq-eqb _ _ e)
-
-  pub run-late : (length bytes ≡ 0 → ⊥) → running (rested .core) ≡ true → whole ≡ stopped first timedOut
-  unfolding run
-  run-late n r = at-no _ _ (ne-eqb _ _ n) ∙ at-yes _ _ r
-
   abbrev touched : FrameBench → Bool
   touched x = touches P (x .core) a (length bytes)
-
-  pub run-touches : (length bytes ≡ 0 → ⊥) → running (rested .core) ≡ false → touched rested ≡ true → whole ≡ stopped first protected
-  unfolding run
-  run-touches n r t = at-no _ _ (ne-eqb _ _ n) ∙ at-no _ _ r ∙ at-yes _ _ t
-
-  pub run-parts : (length bytes ≡ 0 → ⊥) → running (rested .core) ≡ false → touched rested ≡ false
-      → whole ≡ begun first (allParts P i limit a bytes rested)
-  unfolding run
-  run-parts n r t = at-no _ _ (ne-eqb _ _ n) ∙ at-no _ _ r ∙ at-no _ _ t
-
-  -- ---- what is handed back of each, and what is left in the memory and in the identification page
 
   abbrev pub Drove : Driven → List ℕ → List ℕ → Type 0
   Drove r m p =
@@ -60,16 +38,18 @@ module _ (P : Part) (i limit a : ℕ) (bytes : List ℕ) (d : FrameBench) where
 
   pub drove-none : length bytes ≡ 0
       → Drove (record { answer = endingAnswer allDone (record { pages = 0; frames = 0 }); core = d .core }) (d .memory) (d .identification)
-  drove-none e = stops [] allDone 0 d (run-none e) refl refl
+  drove-none e = stops [] allDone 0 d (run-none P i limit a bytes d e) refl refl
 
   pub drove-late : (n : ℕ) (y : FrameBench) → (length bytes ≡ 0 → ⊥) → y ≡ rested → n ≡ sent first → running (y .core) ≡ true
       → Drove (record { answer = endingAnswer timedOut (record { pages = 0; frames = n }); core = y .core }) (y .memory) (y .identification)
-  drove-late n y some e counted r = stops first timedOut n y (run-late some (sym (ap (λ (x : FrameBench). running (x .core)) e) ∙ r)) e counted
+  drove-late n y some e counted r =
+      stops first timedOut n y (run-late P i limit a bytes d some (sym (ap (λ (x : FrameBench). running (x .core)) e) ∙ r)) e counted
 
   pub drove-touches : (n : ℕ) (y : FrameBench) → (length bytes ≡ 0 → ⊥) → y ≡ rested → n ≡ sent first → running (y .core) ≡ false → touched y ≡ true
       → Drove (record { answer = endingAnswer protected (record { pages = 0; frames = n }); core = y .core }) (y .memory) (y .identification)
   drove-touches n y some e counted idle t =
-      stops first protected n y (run-touches some (sym (ap (λ (x : FrameBench). running (x .core)) e) ∙ idle) (sym (ap touched e) ∙ t)) e counted
+      stops first protected n y
+      (run-touches P i limit a bytes d some (sym (ap (λ (x : FrameBench). running (x .core)) e) ∙ idle) (sym (ap touched e) ∙ t)) e counted
 
   pub drove-parts : (r : Driven) (m page : List ℕ) (n : ℕ) (y : FrameBench) → (length bytes ≡ 0 → ⊥) → y ≡ rested → n ≡ sent first → running (y .core) ≡ false
       → touched y ≡ false
@@ -79,7 +59,8 @@ module _ (P : Part) (i limit a : ℕ) (bytes : List ℕ) (d : FrameBench) where
       → Drove r m page
   drove-parts r m page n y some e counted idle t p q u =
       let parts = allParts P i limit a bytes rested in
-      let there : whole ≡ begun first parts = run-parts some (sym (ap (λ (x : FrameBench). running (x .core)) e) ∙ idle) (sym (ap touched e) ∙ t) in
+      let there : whole ≡ begun first parts =
+      run-parts P i limit a bytes d some (sym (ap (λ (x : FrameBench). running (x .core)) e) ∙ idle) (sym (ap touched e) ∙ t) in
       let after : actedAll P (parts .acts) rested ≡ actedAll P (whole .acts) d =
       sym (ap (λ (x : Run). actedAll P (x .acts) d) there ∙ acted-all-append P first (parts .acts) d) in
       let answer : partsAnswer (sent first) parts ≡ runAnswer whole =

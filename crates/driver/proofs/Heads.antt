@@ -7,7 +7,7 @@ use lib.ListN.{length, set, take, drop, length-append, length-drop}
 use lib.Seq.{take-at}
 use Rattle.codes.specs.Part.{Part, partOf, roomCells, roomHead}
 use Rattle.codes.proofs.Parts.{of-each}
-use Rattle.driver.specs.Sequence.{addressBytes, writeBytes}
+use Rattle.sequence.specs.Sequence.{addressBytes, writeBytes}
 
 -- room with the code and the address at its head
 abbrev pub headedTwo : List ℕ → ℕ → List ℕ

@@ -10,7 +10,7 @@ use Rattle.chip.specs.Records.{ownPart}
 use Rattle.frames.specs.Play.{Act, FrameBench, actedAll, frameBench}
 use Rattle.driver.specs.Told.{Told}
 use Rattle.driver.specs.declared.waiting.Waited.{Waited}
-use Rattle.driver.proofs.Ready.{Ready, bench-of, ready-acted-all, own-acted, own-ranges}
+use Rattle.sequence.proofs.Ready.{Ready, bench-of, ready-acted-all, own-acted, own-ranges}
 
 pub record Left (P : Part) (acts : List Act) (d : FrameBench) (r : Waited) (m p : List ℕ) : Type 0 where
   pub told : Told P acts d r m p

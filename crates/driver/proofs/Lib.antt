@@ -1,15 +1,10 @@
--- The facts that the functions' proofs share, and that two results are equal. The theorems on runs are in
--- `driver_theorems`.
-pub mod Playing
+-- The facts that the functions' proofs share, and that two results are equal. What is known of the frames that are sent
+-- is in `sequence`, the theorems on the answers of runs in `driver_theorems`.
 pub mod Heads
 pub mod Frames
-pub mod Ready
 pub mod Left
-pub mod Waits
-pub mod Joined
-pub mod Parts
-pub mod Seen
-pub mod Runs
+pub mod Told
+pub mod Ended
 pub mod Drives
 pub mod Outcomes
 pub mod Ones

@@ -25,8 +25,8 @@ use Rattle.driver.specs.declared.Sent.{Sent}
 use Rattle.driver.specs.declared.RunReply.{RunReply}
 use Rattle.driver.specs.declared.RunReply.the-variants.{Refused}
 use Rattle.driver.specs.declared.Driven.{Driven}
-use Rattle.driver.specs.Sequence.{Ending, allDone, timedOut, protected, Run, run}
-use Rattle.driver.specs.Answers.{runReplyNumber, runReplyPages, runReplyFrames, endingAnswer, runAnswer, pollsFit, endingNumber}
+use Rattle.sequence.specs.Sequence.{Ending, allDone, timedOut, protected, endingNumber, Run, run}
+use Rattle.driver.specs.Answers.{runReplyNumber, runReplyPages, runReplyFrames, endingAnswer, runAnswer, pollsFit}
 use Rattle.driver.specs.Answers.{driveChoice, driveOutcome, driveNumber, drivePages, driveFrames, runReply}
 use Rattle.driver.specs.Answers.{driven, drivenMemory, drivenIdentification}
 

@@ -19,7 +19,7 @@ use Rattle.driver.specs.declared.Sent.{Sent}
 use Rattle.driver.specs.declared.RunReply.{RunReply}
 use Rattle.driver.specs.declared.RunReply.the-variants.{Done, TimedOut, Protected, Refused}
 use Rattle.driver.specs.declared.Driven.{Driven}
-use Rattle.driver.specs.Sequence.{sent, Ending, allDone, timedOut, protected, Run, run}
+use Rattle.sequence.specs.Sequence.{sent, Ending, allDone, timedOut, protected, endingNumber, Run, run}
 
 -- ---- the answer
 
@@ -82,11 +82,6 @@ driveOutcome P c size cells a len interval limit =
     (outcome.Refused PollRange) outcome.Done
 
 -- the number of the answer
-abbrev pub endingNumber : Ending → ℕ
-endingNumber allDone = 0
-endingNumber timedOut = 9
-endingNumber protected = 13
-
 abbrev pub driveNumber : Part → Core → ℕ → ℕ → ℕ → ℕ → ℕ → ℕ → Ending → ℕ
 driveNumber P c size cells a len interval limit e =
     driveChoice P c size cells a len interval limit 1 2 7 8 (endingNumber e)

@@ -1,4 +1,3 @@
--- The driver of document 01: the sequence of frames and readings that it sends, and what it answers.
-pub mod Sequence
+-- The driver of document 01: what a wait hands back, and what it answers. What it sends is defined in `sequence`.
 pub mod Told
 pub mod Answers

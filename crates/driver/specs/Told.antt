@@ -5,7 +5,7 @@ use Prim.Native.Nat.{ℕ}
 use Rattle.codes.specs.Part.{Part}
 use Rattle.chip.specs.Records.{status}
 use Rattle.frames.specs.Play.{Act, FrameBench, actedAll}
-use Rattle.driver.specs.Sequence.{sent}
+use Rattle.sequence.specs.Sequence.{sent}
 use Rattle.driver.specs.declared.waiting.Waited.{Waited}
 
 -- of a list of acts: the record that it leaves, the status byte seen last, the frames sent, memory and identification

@@ -11,7 +11,7 @@ ghost use lib.ListN.{length};
 ghost use Rattle.chip.specs.Ranges.{inRanges};
 ghost use Rattle.chip.specs.Records.{ownPart};
 ghost use Rattle.frames.specs.Play.{frameBench};
-ghost use Rattle.driver.specs.Sequence.{run};
+ghost use Rattle.sequence.specs.Sequence.{run};
 ghost use Rattle.driver.specs.Answers.{runReplyNumber, runReplyPages, runReplyFrames, leaves, runDriven};
 ghost use Rattle.driver.specs.Answers.{driveNumber, drivePages, driveFrames};
 ghost use Rattle.driver.specs.Answers.{driven, drivenMemory, drivenIdentification};

@@ -7,7 +7,7 @@ ghost use Rattle.chip.specs.Ranges.{inRanges};
 ghost use Rattle.chip.specs.Records.{ownPart};
 ghost use Rattle.split.specs.Split.{count};
 ghost use Rattle.frames.specs.Play.{frameBench};
-ghost use Rattle.driver.specs.Sequence.{pageActs, partActs, allParts};
+ghost use Rattle.sequence.specs.Sequence.{pageActs, partActs, allParts};
 ghost use Rattle.driver.specs.Told.{ToldFrom};
 ghost use Rattle.driver.specs.Answers.{leaves, partsDriven};
 use crate::Driven;

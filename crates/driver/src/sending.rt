@@ -8,7 +8,7 @@ ghost use Rattle.codes.specs.Part.{partOf, room, roomHead};
 ghost use Rattle.chip.specs.Ranges.{inRanges};
 ghost use Rattle.chip.specs.Records.{ownPart, running, status};
 ghost use Rattle.frames.specs.After.{after};
-ghost use Rattle.driver.specs.Sequence.{writeBytes};
+ghost use Rattle.sequence.specs.Sequence.{writeBytes};
 use chip::Core;
 use codes::ADDRESS_BYTES;
 use codes::LARGE_HEAD;

@@ -4,7 +4,7 @@ ghost use Prim.Native.Nat.{_+_, _≤_};
 ghost use lib.Dec.{ltb};
 ghost use Rattle.codes.specs.Part.{partOf};
 ghost use Rattle.codes.specs.Status.{on, bitOf};
-ghost use Rattle.driver.specs.Sequence.{lowestShown};
+ghost use Rattle.sequence.specs.Sequence.{lowestShown};
 use codes::bp0_of;
 use codes::bp1_of;
 use codes::lowest_protected;

@@ -6,7 +6,7 @@ ghost use lib.ListN.{length};
 ghost use Rattle.chip.specs.Ranges.{inRanges};
 ghost use Rattle.chip.specs.Records.{ownPart, status};
 ghost use Rattle.frames.specs.Play.{acted, frameBench};
-ghost use Rattle.driver.specs.Sequence.{moved, pollsOn, firstWait, pageWait};
+ghost use Rattle.sequence.specs.Sequence.{moved, pollsOn, firstWait, pageWait};
 ghost use Rattle.driver.specs.Told.{ToldFrom};
 use crate::sending::poll;
 use chip::Core;

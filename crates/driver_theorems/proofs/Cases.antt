@@ -26,8 +26,8 @@ use Rattle.split.specs.Pieces.{piece}
 use Rattle.driver.specs.declared.RunReply.{RunReply}
 use Rattle.driver.specs.declared.RunReply.the-variants.{Done}
 use Rattle.driver.specs.Answers.{runAnswer, runReply, pollsFit, driveOutcome, driven}
-use Rattle.driver.specs.Sequence.{pollsOn, firstWait, pageWait, pageActs, pagesFrom, Run, run}
-use Rattle.driver_theorems.specs.Counts.{pagePolls}
+use Rattle.sequence.specs.Sequence.{pollsOn, firstWait, pageWait, pageActs, pagesFrom, Run, run}
+use Rattle.sequence.specs.Counts.{pagePolls}
 
 -- the run, polled at an interval
 abbrev runH : List ℕ → List ℕ → List ℕ → ℕ → Run

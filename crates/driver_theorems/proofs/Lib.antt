@@ -1,10 +1,3 @@
--- Theorems on the driver's runs: how many polls a wait makes, that every frame is executed, what a page and a run leave, what each ending means; case h.
-pub mod Addresses
-pub mod Executed
-pub mod Writing
-pub mod Polls
-pub mod Stored
-pub mod Leaves
-pub mod Results
+-- Theorems on the public call of the driver: case h, and the same write sent twice.
 pub mod Cases
 pub mod Twice

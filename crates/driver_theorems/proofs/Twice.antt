@@ -18,16 +18,16 @@ use Rattle.codes.proofs.Sound.{Sound}
 use Rattle.chip.specs.Records.{running}
 use Rattle.chip.specs.declared.Core.{Core}
 use Rattle.frames.specs.Play.{FrameBench, frameBench, actedAll}
-use Rattle.driver.specs.Sequence.{Ending, allDone, timedOut, protected, Run, run}
+use Rattle.sequence.specs.Sequence.{Ending, allDone, timedOut, protected, Run, run}
 use Rattle.driver.specs.Answers.{endingAnswer, runReply, driveOutcome, driven, drivenMemory, drivenIdentification}
 use Rattle.driver.specs.declared.Sent.{Sent}
 use Rattle.driver.specs.declared.RunReply.{RunReply}
 use Rattle.driver.specs.declared.RunReply.the-variants.{Done, TimedOut, Protected, Refused}
 use Rattle.driver.proofs.Outcomes.{Taken, taken}
-use Rattle.driver.proofs.Drives.{run-none}
-use Rattle.driver_theorems.specs.Counts.{overwritten, onceEnded, onceEndedIdentification}
-use Rattle.driver_theorems.proofs.Results.{Given, run-done}
-use Rattle.driver_theorems.proofs.Stored.{overwritten-length, overwritten-in, overwritten-below, overwritten-past}
+use Rattle.sequence.proofs.Ways.{run-none}
+use Rattle.sequence.specs.Counts.{overwritten, onceEnded, onceEndedIdentification}
+use Rattle.sequence.proofs.Results.{Given, run-done}
+use Rattle.sequence.proofs.Stored.{overwritten-length, overwritten-in, overwritten-below, overwritten-past}
 
 -- ---- bytes written over themselves
 

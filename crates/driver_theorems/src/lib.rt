@@ -1,2 +1,1 @@
-// Theorems on the driver's runs: the polls of each wait, that every frame is executed, the cells that a run leaves,
-// what 9 and 13 leave and where 13 comes. There is no code here.
+// Theorems on the public call of the driver: case h, and the same write sent twice. There is no code here.

@@ -22,8 +22,8 @@ use Rattle.frames.specs.Play.{Act, frame, reading, frameBench}
 use Rattle.split.specs.Split.{splitParts, splitAddress, splitLength}
 use Rattle.driver.specs.declared.RunReply.the-variants.{Done}
 use Rattle.driver.specs.Answers.{driven}
-use Rattle.driver.specs.Sequence.{run}
-use Rattle.driver_theorems.specs.Counts.{pagePolls}
+use Rattle.sequence.specs.Sequence.{run}
+use Rattle.sequence.specs.Counts.{pagePolls}
 
 -- ---- calls of the frame model, one after the other
 

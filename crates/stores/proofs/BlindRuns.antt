@@ -19,8 +19,8 @@ use Rattle.chip.specs.Time.{lentFits}
 use Rattle.split.specs.Split.{count, splitAddress}
 use Rattle.split.specs.Pieces.{piece}
 use Rattle.frames.specs.Play.{Act, FrameBench, frameBench, acted, actedAll}
-use Rattle.driver.specs.Sequence.{rdsr, latePoll, pollsOn, firstWait, pageWait, wrenAndWrite, pageActs, partActs, Run, stopped, begun, pageDone, pagesFrom}
-use Rattle.driver.specs.Sequence.{allDone, timedOut, protected, touches, run}
+use Rattle.sequence.specs.Sequence.{rdsr, latePoll, pollsOn, firstWait, pageWait, wrenAndWrite, pageActs, partActs, Run, stopped, begun, pageDone, pagesFrom}
+use Rattle.sequence.specs.Sequence.{allDone, timedOut, protected, touches, run}
 use Rattle.driver.specs.Answers.{pollsFit, driveOutcome, runReply, driven, drivenMemory, drivenIdentification}
 use Rattle.stores.specs.Blind.{Alike, FrameBenchEqualBut}
 use Rattle.stores.proofs.BlindFrames.{pick-equal-but, ranges-blind, acts-blind}

@@ -35,7 +35,7 @@ use Rattle.timed_theorems.specs.Acts.{TimedAct, actedAllInTime}
 use Rattle.timed_frames.specs.Answers.{inTimeOutcome, inTimeLeft, framedInTime}
 use Rattle.timed_theorems.proofs.Keeping.{Keeps, left-by-keeps, acted-all-in-time-keeps}
 use Rattle.driver.specs.Answers.{driveOutcome, driven, drivenMemory}
-use Rattle.driver.specs.Sequence.{run}
+use Rattle.sequence.specs.Sequence.{run}
 use Rattle.pins.specs.declared.Device.{Device}
 use Rattle.pins.specs.declared.Event.{Event}
 use Rattle.pins.specs.declared.Event.the-variants.{S, C, D, W, Hold, Time}

@@ -6,12 +6,12 @@ use Rattle.codes.specs.Part.{Part}
 use Rattle.chip.specs.Records.{ownPart}
 use Rattle.codes.proofs.Sound.{sound-of}
 use Rattle.frames.specs.Play.{FrameBench, frameBench}
-use Rattle.driver.specs.Sequence.{firstWait, Run, allParts}
+use Rattle.sequence.specs.Sequence.{firstWait, Run, allParts}
 use Rattle.driver.specs.Answers.{leaves, partsDriven}
-use Rattle.driver.proofs.Ready.{at-own}
+use Rattle.sequence.proofs.Ready.{at-own}
 use Rattle.driver.proofs.Left.{Left, left}
-use Rattle.driver.proofs.Joined.{first-most}
-use Rattle.driver.proofs.Seen.{seen-wip, seen-touches}
+use Rattle.sequence.proofs.Joined.{first-most}
+use Rattle.sequence.proofs.Seen.{seen-wip, seen-touches}
 use Rattle.driver.proofs.Drives.{drove-none, drove-late, drove-touches, drove-parts}
 use borrow.Author.Needs.{needs}
 use Rattle.driver.proofs.drive.Statement.{statement}

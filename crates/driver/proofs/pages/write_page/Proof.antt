@@ -11,10 +11,11 @@ use Rattle.codes.proofs.Parts.{longest-most}
 use Rattle.codes.proofs.Sound.{sound-of}
 use Rattle.frames.specs.After.{after}
 use Rattle.frames.specs.Play.{FrameBench, actedAll, frameBench}
-use Rattle.driver.specs.Sequence.{wren, writeBytes, wrenAndWrite, pageWait}
-use Rattle.driver.proofs.Ready.{bench-of, ready-acted-all, own-acted, own-ranges, at-own}
+use Rattle.sequence.specs.Sequence.{wren, writeBytes, wrenAndWrite, pageWait}
+use Rattle.sequence.proofs.Ready.{bench-of, ready-acted-all, own-acted, own-ranges, at-own}
 use Rattle.driver.specs.Told.{Told}
-use Rattle.driver.proofs.Joined.{told, page-acts, page-most}
+use Rattle.sequence.proofs.Joined.{page-acts, page-most}
+use Rattle.driver.proofs.Told.{told}
 use borrow.Author.Needs.{needs}
 use Rattle.driver.proofs.pages.write_page.Statement.{statement}
 use Rattle.driver.proofs.pages.write_page.Tie as tie

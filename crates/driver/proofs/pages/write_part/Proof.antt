@@ -7,9 +7,9 @@ use Rattle.chip.specs.Records.{ownPart}
 use Rattle.codes.proofs.Sound.{sound-of}
 use Rattle.split.specs.Pieces.{piece}
 use Rattle.frames.specs.Play.{FrameBench, frameBench}
-use Rattle.driver.specs.Sequence.{pageActs}
+use Rattle.sequence.specs.Sequence.{pageActs}
 use Rattle.driver.specs.Told.{Told}
-use Rattle.driver.proofs.Parts.{lies, part-bytes}
+use Rattle.sequence.proofs.Parts.{lies, part-bytes}
 use borrow.Author.Needs.{needs}
 use Rattle.driver.proofs.pages.write_part.Statement.{statement}
 use Rattle.driver.proofs.pages.write_part.Tie as tie

@@ -10,11 +10,12 @@ use Rattle.split.specs.Split.{count, splitAddress}
 use Rattle.split.specs.Pieces.{piece}
 use Rattle.split.proofs.Numbers.{parts-asked}
 use Rattle.frames.specs.Play.{FrameBench, frameBench}
-use Rattle.driver.proofs.Ready.{Ready, own-ranges, at-own}
+use Rattle.sequence.proofs.Ready.{Ready, own-ranges, at-own}
 use Rattle.driver.proofs.Left.{Left}
-use Rattle.driver.proofs.Joined.{acts-most}
-use Rattle.driver.proofs.Seen.{seen-wip}
-use Rattle.driver.proofs.Runs.{partActs, part-left, Rest, ended-of, rest-first, rest-next, rest-late, rest-done, pages-few, parts-few}
+use Rattle.sequence.proofs.Joined.{acts-most}
+use Rattle.sequence.proofs.Seen.{seen-wip}
+use Rattle.sequence.proofs.Runs.{partActs, Rest, rest-first, rest-next, pages-few, parts-few}
+use Rattle.driver.proofs.Ended.{part-left, ended-of, rest-late, rest-done}
 use Rattle.driver.proofs.pages.write_parts.Statement.{statement}
 use Rattle.driver.proofs.pages.write_parts.Tie as tie
 

@@ -1,6 +1,6 @@
 use mathlib.Core.Path.{ap}
 use Rattle.codes.specs.Status.{on}
-use Rattle.driver.proofs.Seen.{low-bit}
+use Rattle.sequence.proofs.Seen.{low-bit}
 use Rattle.driver.proofs.status.wip.Statement.{statement}
 use Rattle.driver.proofs.status.wip.Tie as tie
 

@@ -4,8 +4,9 @@ use native.Mathlib.Omega.{arith}
 use Rattle.codes.proofs.Parts.{longest-most}
 use Rattle.chip.specs.Records.{ownPart}
 use Rattle.frames.specs.Play.{FrameBench, frameBench}
-use Rattle.driver.proofs.Waits.{sent-most}
-use Rattle.driver.proofs.Joined.{told, first-wait}
+use Rattle.sequence.proofs.Waits.{sent-most}
+use Rattle.sequence.proofs.Joined.{first-wait}
+use Rattle.driver.proofs.Told.{told}
 use borrow.Author.Needs.{needs}
 use Rattle.driver.proofs.waiting.first_wait.Statement.{statement}
 use Rattle.driver.proofs.waiting.first_wait.Tie as tie

@@ -8,11 +8,12 @@ use Rattle.chip.specs.Records.{ownPart}
 use Rattle.codes.proofs.Parts.{longest-most}
 use Rattle.codes.proofs.Sound.{sound-of}
 use Rattle.frames.specs.Play.{FrameBench, acted, frameBench}
-use Rattle.driver.specs.Sequence.{moved, pollsOn}
-use Rattle.driver.proofs.Ready.{bench-of, ready-acted-all, own-acted, own-ranges, at-own}
-use Rattle.driver.proofs.Waits.{sent-most}
+use Rattle.sequence.specs.Sequence.{moved, pollsOn}
+use Rattle.sequence.proofs.Ready.{bench-of, ready-acted-all, own-acted, own-ranges, at-own}
+use Rattle.sequence.proofs.Waits.{sent-most}
 use Rattle.driver.specs.Told.{Told}
-use Rattle.driver.proofs.Joined.{told, late-poll-leaves, page-wait}
+use Rattle.sequence.proofs.Joined.{late-poll-leaves, page-wait}
+use Rattle.driver.proofs.Told.{told}
 use borrow.Author.Needs.{needs}
 use Rattle.driver.proofs.waiting.page_wait.Statement.{statement}
 use Rattle.driver.proofs.waiting.page_wait.Tie as tie

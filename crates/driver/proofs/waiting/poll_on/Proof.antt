@@ -14,10 +14,10 @@ use Rattle.chip.proofs.Recounts.{timed-on}
 use Rattle.chip.specs.Ranges.{inRanges}
 use Rattle.codes.proofs.Sound.{sound-of}
 use Rattle.frames.specs.Play.{FrameBench, acted, frameBench}
-use Rattle.driver.specs.Sequence.{moved}
-use Rattle.driver.proofs.Ready.{Ready, bench-of, ready-acted-all, own-acted}
-use Rattle.driver.proofs.Joined.{late-poll-leaves}
-use Rattle.driver.proofs.Waits.{goes-on, is-over, Onward, onward-first, onward-next, onward-last}
+use Rattle.sequence.specs.Sequence.{moved}
+use Rattle.sequence.proofs.Ready.{Ready, bench-of, ready-acted-all, own-acted}
+use Rattle.sequence.proofs.Joined.{late-poll-leaves}
+use Rattle.sequence.proofs.Waits.{goes-on, is-over, Onward, onward-first, onward-next, onward-last}
 use borrow.Author.Needs.{needs}
 use Rattle.driver.proofs.waiting.poll_on.Statement.{statement}
 use Rattle.driver.proofs.waiting.poll_on.Tie as tie

@@ -95,6 +95,12 @@ pub data Ending : Type 0 where
   timedOut : Ending
   protected : Ending
 
+-- its number in document 01
+abbrev pub endingNumber : Ending → ℕ
+endingNumber allDone = 0
+endingNumber timedOut = 9
+endingNumber protected = 13
+
 pub record Run : Type 0 where
   pub acts : List Act
   -- pages done

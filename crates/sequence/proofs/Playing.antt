@@ -5,7 +5,7 @@ use Prim.Native.Nat.{_+_}
 use native.Mathlib.Omega.{arith}
 use Rattle.codes.specs.Part.{Part}
 use Rattle.frames.specs.Play.{Act, frame, reading, FrameBench, acted, actedAll}
-use Rattle.driver.specs.Sequence.{sent}
+use Rattle.sequence.specs.Sequence.{sent}
 
 pub acted-all-append : (P : Part) (xs ys : List Act) (d : FrameBench) → actedAll P (xs ++ ys) d ≡ actedAll P ys (actedAll P xs d)
 acted-all-append P [] ys d = refl

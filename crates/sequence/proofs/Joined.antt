@@ -7,12 +7,10 @@ use native.Mathlib.Omega.{arith}
 use Rattle.codes.specs.Part.{Part}
 use Rattle.chip.specs.declared.Core.{Core}
 use Rattle.frames.specs.Play.{Act, FrameBench, acted, actedAll, frameBench}
-use Rattle.driver.specs.Sequence.{sent, rdsr, moved, latePoll, pollsOn, firstWait, pageWait, wrenAndWrite, pageActs}
-use Rattle.driver.specs.Told.{Told}
-use Rattle.driver.specs.declared.waiting.Waited.{Waited}
-use Rattle.driver.proofs.Playing.{acted-all-append, sent-append}
+use Rattle.sequence.specs.Sequence.{sent, rdsr, moved, latePoll, pollsOn, firstWait, pageWait, wrenAndWrite, pageActs}
+use Rattle.sequence.proofs.Playing.{acted-all-append, sent-append}
 use Rattle.frames.proofs.Polls.{poll-leaves}
-use Rattle.driver.proofs.Waits.{sent-most}
+use Rattle.sequence.proofs.Waits.{sent-most}
 
 pub record Follows (P : Part) (all : List Act) (d : FrameBench) (rest : List Act) (x : FrameBench) (n : ℕ) : Type 0 where
   pub leaves : actedAll P rest x ≡ actedAll P all d
@@ -26,17 +24,6 @@ follows P first rest d x e =
       leaves = rw e (sym (acted-all-append P first (rest (actedAll P first d)) d));
       counts = rw e (omega (arith, sent-append first (rest (actedAll P first d))));
     }
-
--- what a wait hands back, beside the n frames before it
-pub told : (P : Part) (all : List Act) (d : FrameBench) (rest : List Act) (x : FrameBench) (n : ℕ) → Follows P all d rest x n
-    → (w r : Waited) (m i : List ℕ) → Told P rest x w m i → r ≡ record { status = w .status; core = w .core; frames = w .frames + n }
-    → Told P all d r m i
-told P all d rest x n f w r m i t e =
-    let core = t .0 ∙ ap (λ (y : FrameBench). y .core) (f .leaves) in
-    let frames = ap (λ (k : ℕ). k + n) (t .1 .1 .0) ∙ f .counts in
-    let memory = t .1 .1 .1 .0 ∙ ap (λ (y : FrameBench). y .memory) (f .leaves) in
-    let page = t .1 .1 .1 .1 ∙ ap (λ (y : FrameBench). y .identification) (f .leaves) in
-    rw e (core, (t .1 .0, (frames, (memory, page))))
 
 -- a poll leaves the device as it was
 pub rdsr-leaves : (P : Part) (d : FrameBench) → acted P rdsr d ≡ d

@@ -4,8 +4,8 @@
 use Prim.Native.Nat.{ℕ, _+_, _-_, _*_, _<_}
 use mathlib.Core.Path.{_≡_}
 use Rattle.chip.specs.declared.Core.{Core}
-use Rattle.driver.specs.Sequence.{Ending, allDone, timedOut, protected}
-use Rattle.driver_theorems.specs.Counts.{roundedUp}
+use Rattle.sequence.specs.Sequence.{Ending, allDone, timedOut, protected}
+use Rattle.sequence.specs.Counts.{roundedUp}
 
 -- the frames of a page done: WREN, WRITE, and the cycle length over the interval, rounded up, polls
 abbrev pub pageFrames : ℕ → Core → ℕ

@@ -2,7 +2,7 @@
 -- identification page as it was, and what each ending says. Every frame of them is executed.
 use mathlib.Core.Path.{_≡_, refl, ap, sym, subst, _∙_}
 use mathlib.Core.Bool.{true, false}
-use mathlib.Core.List.{List, [], _∷_, _++_}
+use mathlib.Core.List.{List, _++_}
 use Prim.Native.Nat.{ℕ, zero, suc, _+_, _-_, _*_, _/_, _%_, _^_, _<_, _≤_}
 use native.Mathlib.Nat.{suc-mul, zero-mul}
 use native.Mathlib.Decide.{decLe}
@@ -21,15 +21,15 @@ use Rattle.split.specs.Pieces.{piece, pieces}
 use Rattle.split.proofs.Numbers.{length-some, one-page}
 use Rattle.split.proofs.Whole.{pieces-more, before-part}
 use Rattle.frames.specs.Play.{FrameBench, actedAll}
-use Rattle.driver.specs.Sequence.{sent, Ending, allDone, timedOut, protected, Run, pagesFrom}
-use Rattle.driver_theorems.specs.Counts.{roundedUp, allExecuted, overwritten}
-use Rattle.driver_theorems.specs.Endings.{pageFrames, Meaning}
-use Rattle.driver.proofs.Playing.{acted-all-append, sent-append}
-use Rattle.driver.proofs.Parts.{Lies, lies}
-use Rattle.driver.proofs.Runs.{partActs, afterPart, pages-late, pages-next, pages-none}
-use Rattle.driver_theorems.proofs.Executed.{executed-append}
-use Rattle.driver_theorems.proofs.Writing.{page-executed, page-done, page-late}
-use Rattle.driver_theorems.proofs.Stored.{stored-run, overwritten-length, overwritten-append}
+use Rattle.sequence.specs.Sequence.{sent, Ending, allDone, timedOut, protected, Run, pagesFrom}
+use Rattle.sequence.specs.Counts.{roundedUp, allExecuted, overwritten}
+use Rattle.sequence.specs.Endings.{pageFrames, Meaning}
+use Rattle.sequence.proofs.Playing.{acted-all-append, sent-append}
+use Rattle.sequence.proofs.Parts.{Lies, lies}
+use Rattle.sequence.proofs.Runs.{partActs, afterPart, pages-late, pages-next, pages-none}
+use Rattle.sequence.proofs.Executed.{executed-append}
+use Rattle.sequence.proofs.Writing.{page-executed, page-done, page-late}
+use Rattle.sequence.proofs.Stored.{stored-run, overwritten-length, overwritten-append}
 
 -- ---- a part and the memory
 

@@ -25,12 +25,12 @@ use Rattle.codes.proofs.Sound.{Sound}
 use Rattle.fields.specs.Bytes.{written}
 use Rattle.frames.specs.After.{judged, after}
 use Rattle.frames.specs.Play.{Act, FrameBench, actedAll}
-use Rattle.driver.specs.Sequence.{sent, writeBytes, pollsOn, pageWait, wrenAndWrite, pageActs}
-use Rattle.driver_theorems.specs.Counts.{roundedUp, allExecuted}
-use Rattle.driver.proofs.Playing.{acted-all-append, sent-append}
-use Rattle.driver_theorems.proofs.Polls.{waited, late}
-use Rattle.driver_theorems.proofs.Executed.{executed-append, wait-executed}
-use Rattle.driver_theorems.proofs.Addresses.{write-length, write-address}
+use Rattle.sequence.specs.Sequence.{sent, writeBytes, pollsOn, pageWait, wrenAndWrite, pageActs}
+use Rattle.sequence.specs.Counts.{roundedUp, allExecuted}
+use Rattle.sequence.proofs.Playing.{acted-all-append, sent-append}
+use Rattle.sequence.proofs.Polls.{waited, late}
+use Rattle.sequence.proofs.Executed.{executed-append, wait-executed}
+use Rattle.sequence.proofs.Addresses.{write-length, write-address}
 
 abbrev wrenBytes : List ℕ
 wrenBytes = 0x06 ∷ []

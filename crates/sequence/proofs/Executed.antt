@@ -11,8 +11,8 @@ use Rattle.chip.specs.Records.{running}
 use Rattle.chip.specs.declared.Core.{Core}
 use Rattle.frames.specs.After.{judged}
 use Rattle.frames.specs.Play.{Act, frame, reading, FrameBench, acted, actedAll}
-use Rattle.driver.specs.Sequence.{rdsr, moved, latePoll, pollsOn, firstWait, pageWait}
-use Rattle.driver_theorems.specs.Counts.{allExecuted}
+use Rattle.sequence.specs.Sequence.{rdsr, moved, latePoll, pollsOn, firstWait, pageWait}
+use Rattle.sequence.specs.Counts.{allExecuted}
 
 pub executed-append : (P : Part) (xs ys : List Act) (d : FrameBench) → allExecuted P xs d ≡ true → allExecuted P ys (actedAll P xs d) ≡ true
     → allExecuted P (xs ++ ys) d ≡ true
@@ -41,11 +41,14 @@ module _ (P : Part) (i : ℕ) where
       (λ r. executed-append P (latePoll i d) (pollsOn P i k (actedAll P (latePoll i d) d)) d (late d) (polls k (actedAll P (latePoll i d) d)))
       (λ r. refl)
 
+  late-and-polls : (k : ℕ) (d : FrameBench) → allExecuted P (latePoll i d ++ pollsOn P i k (actedAll P (latePoll i d) d)) d ≡ true
+  late-and-polls k d =
+      executed-append P (latePoll i d) (pollsOn P i k (actedAll P (latePoll i d) d)) d (late d) (polls k (actedAll P (latePoll i d) d))
+
   pub first-executed : (limit : ℕ) (d : FrameBench) → allExecuted P (firstWait P i limit d) d ≡ true
   unfolding firstWait
   first-executed limit d = and-both _ _ (polled P (d .core)) (polls (limit - 1) (acted P rdsr d))
 
   pub wait-executed : (limit : ℕ) (d : FrameBench) → allExecuted P (pageWait P i limit d) d ≡ true
   unfolding pageWait
-  wait-executed limit d =
-      executed-append P (latePoll i d) (pollsOn P i (limit - 1) (actedAll P (latePoll i d) d)) d (late d) (polls (limit - 1) (actedAll P (latePoll i d) d))
+  wait-executed limit d = late-and-polls _ d

@@ -22,20 +22,20 @@ use Rattle.split.specs.Split.{count}
 use Rattle.split.specs.Pieces.{pieces}
 use Rattle.split.proofs.Whole.{pieces-none, whole}
 use Rattle.frames.specs.Play.{Act, FrameBench, actedAll}
-use Rattle.driver.specs.Sequence.{sent, pollsOn, firstWait, Ending, allDone, timedOut, protected, Run, stopped, begun, allParts, lowestShown, touches, run}
-use Rattle.driver.specs.Answers.{endingNumber}
-use Rattle.driver_theorems.specs.Counts.{roundedUp, allExecuted, overwritten, onceEnded, onceEndedIdentification}
-use Rattle.driver.proofs.Playing.{acted-all-append, sent-append}
-use Rattle.driver.proofs.Ready.{Ready, ready-acted-all}
-use Rattle.driver.proofs.Waits.{polls-on-free}
-use Rattle.driver.proofs.Joined.{first-wait}
-use Rattle.driver_theorems.proofs.Polls.{waited, late}
-use Rattle.driver.proofs.Drives.{run-late, run-touches, run-parts}
-use Rattle.driver.proofs.Seen.{seen-lowest}
-use Rattle.driver_theorems.specs.Endings.{pageFrames, Meaning}
-use Rattle.driver_theorems.proofs.Executed.{executed-append, first-executed}
-use Rattle.driver_theorems.proofs.Leaves.{Idle, parts-leave}
-use Rattle.driver_theorems.proofs.Stored.{overwritten-none}
+use Rattle.sequence.specs.Sequence.{sent, pollsOn, firstWait, Ending, allDone, timedOut, protected, endingNumber, Run, stopped, begun, allParts}
+use Rattle.sequence.specs.Sequence.{lowestShown, touches, run}
+use Rattle.sequence.specs.Counts.{roundedUp, allExecuted, overwritten, onceEnded, onceEndedIdentification}
+use Rattle.sequence.proofs.Playing.{acted-all-append, sent-append}
+use Rattle.sequence.proofs.Ready.{Ready, ready-acted-all}
+use Rattle.sequence.proofs.Waits.{polls-on-free}
+use Rattle.sequence.proofs.Joined.{first-wait}
+use Rattle.sequence.proofs.Polls.{waited, late}
+use Rattle.sequence.proofs.Ways.{run-late, run-touches, run-parts}
+use Rattle.sequence.proofs.Seen.{seen-lowest}
+use Rattle.sequence.specs.Endings.{pageFrames, Meaning}
+use Rattle.sequence.proofs.Executed.{executed-append, first-executed}
+use Rattle.sequence.proofs.Leaves.{Idle, parts-leave}
+use Rattle.sequence.proofs.Stored.{overwritten-none}
 
 -- no two endings are one: they have different numbers
 done-late : _≡_ {A = Ending} allDone timedOut → ⊥

@@ -16,8 +16,8 @@ use Rattle.chip.specs.Records.{running, status}
 use Rattle.chip.specs.declared.Core.{Core}
 use Rattle.chip.proofs.Cases.{wip}
 use Rattle.frames.specs.Play.{Act, FrameBench, actedAll}
-use Rattle.driver.specs.Sequence.{sent, latePoll, pollsOn}
-use Rattle.driver.proofs.Playing.{acted-all-append, sent-append}
+use Rattle.sequence.specs.Sequence.{sent, latePoll, pollsOn}
+use Rattle.sequence.proofs.Playing.{acted-all-append, sent-append}
 
 module _ (P : Part) (i : ℕ) (d : FrameBench) where
   -- the device after a poll

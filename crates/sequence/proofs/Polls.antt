@@ -18,10 +18,10 @@ use Rattle.codes.proofs.Sound.{Sound}
 use Rattle.chip.proofs.Passing.{no-end}
 use Rattle.chip.proofs.Recounts.{timed-on}
 use Rattle.frames.specs.Play.{FrameBench, actedAll}
-use Rattle.driver.specs.Sequence.{sent, latePoll, pollsOn}
-use Rattle.driver_theorems.specs.Counts.{roundedUp}
+use Rattle.sequence.specs.Sequence.{sent, latePoll, pollsOn}
+use Rattle.sequence.specs.Counts.{roundedUp}
 use Rattle.frames.proofs.Polls.{poll-leaves}
-use Rattle.driver.proofs.Waits.{polls-on-free, polls-on-none, acted-all-busy, sent-busy}
+use Rattle.sequence.proofs.Waits.{polls-on-free, polls-on-none, acted-all-busy, sent-busy}
 
 -- ---- a quotient, rounded up
 

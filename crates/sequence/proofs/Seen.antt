@@ -1,5 +1,5 @@
 -- What the status byte that a poll sees says of the device: WIP is its lowest bit, BP1 and BP0 are bits 3 and 2.
-use mathlib.Core.Path.{_≡_, refl, ap, _∙_}
+use mathlib.Core.Path.{_≡_, ap, _∙_}
 use mathlib.Core.Bool.{Bool, true, false}
 use Prim.Native.Nat.{ℕ, _+_, _%_, _≤_}
 use native.Mathlib.Omega.{arith}
@@ -12,7 +12,7 @@ use Rattle.codes.specs.Status.{bit, on, bitOf}
 use Rattle.chip.specs.Records.{running, status}
 use Rattle.chip.specs.Questions.{lowest}
 use Rattle.chip.specs.declared.Core.{Core}
-use Rattle.driver.specs.Sequence.{lowestShown, touches}
+use Rattle.sequence.specs.Sequence.{lowestShown, touches}
 
 pub low-bit : (v : ℕ) → bitAnd v 1 ≡ bitOf 0 v
 low-bit v =
