@@ -8,6 +8,7 @@ ghost use Rattle.bench.specs.Calls.{powerUpCall, readingCall, inRangesCa
 ghost use Rattle.bench.specs.Calls.{badFlag, protectedCall, touchedCall};
 use crate::CoreAnswer;
 use crate::Value;
+use crate::values::valued;
 use chip::Core;
 use codes::size_of;
 use codes::wide;
@@ -93,15 +94,9 @@ pub extern "C" fn cartvesper_core_in_ranges(core: Core) -> Value
     ensures { λ r. ⌜ r ≡ inRangesCall (ownPart core) core ⌝ }
 {
     if core.in_ranges() {
-        return Value {
-            number: 0,
-            value: 1,
-        };
+        return valued(0, 1);
     }
-    Value {
-        number: 2,
-        value: 0,
-    }
+    valued(2, 0)
 }
 
 // The status byte. Refusal 2.
@@ -110,15 +105,9 @@ pub extern "C" fn cartvesper_core_status(core: Core) -> Value
     ensures { λ r. ⌜ r ≡ statusCall (ownPart core) core ⌝ }
 {
     if core.in_ranges() {
-        return Value {
-            number: 0,
-            value: wide(core.status()),
-        };
+        return valued(0, wide(core.status()));
     }
-    Value {
-        number: 2,
-        value: 0,
-    }
+    valued(2, 0)
 }
 
 // The lowest protected address, the memory's size for none. Refusal 2.
@@ -127,10 +116,7 @@ pub extern "C" fn cartvesper_core_lowest_protected(core: Core) -> Value
     ensures { λ r. ⌜ r ≡ lowestProtectedCall (ownPart core) core ⌝ }
 {
     let answer = core.protected_from();
-    Value {
-        number: answer.number(),
-        value: answer.value(),
-    }
+    valued(answer.number(), answer.value())
 }
 
 // How many cells the running cycle will touch, 0 where no latched bytes wait. Refusal 2.
@@ -139,10 +125,7 @@ pub extern "C" fn cartvesper_core_touched(core: Core) -> Value
     ensures { λ r. ⌜ r ≡ touchedCall (ownPart core) (inRanges (ownPart core) core) core ⌝ }
 {
     let answer = core.cells_touched();
-    Value {
-        number: answer.number(),
-        value: answer.value(),
-    }
+    valued(answer.number(), answer.value())
 }
 
 // Value 1 where the address is protected. Refusals 2, then 7.
@@ -151,8 +134,5 @@ pub extern "C" fn cartvesper_core_protected(core: Core, address: u32) -> Value
     ensures { λ r. ⌜ r ≡ protectedCall (ownPart core) core address ⌝ }
 {
     let answer = core.protection(address);
-    Value {
-        number: answer.number(),
-        value: answer.value(),
-    }
+    valued(answer.number(), answer.value())
 }

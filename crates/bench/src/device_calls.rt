@@ -18,6 +18,7 @@ ghost use Rattle.bench.specs.Calls.{qCall, deviceStatusCall, deviceInRan
 use crate::DeviceAnswer;
 use crate::Value;
 use crate::core_calls::bad_flag;
+use crate::values::valued;
 use chip::Core;
 use chip::lent_fits;
 use pins::Device;
@@ -183,15 +184,9 @@ pub extern "C" fn cartvesper_device_in_ranges(device: Device) -> Value
     ensures { λ r. ⌜ r ≡ deviceInRangesCall (devicePart device) device ⌝ }
 {
     if device.in_ranges() {
-        return Value {
-            number: 0,
-            value: 1,
-        };
+        return valued(0, 1);
     }
-    Value {
-        number: 2,
-        value: 0,
-    }
+    valued(2, 0)
 }
 
 // What Q shows: value 0, 1, or 2 for Z. Refusal 2.
@@ -200,10 +195,7 @@ pub extern "C" fn cartvesper_device_q(device: Device) -> Value
     ensures { λ r. ⌜ r ≡ qCall (devicePart device) device ⌝ }
 {
     let answer = device.q();
-    Value {
-        number: answer.number(),
-        value: answer.value(),
-    }
+    valued(answer.number(), answer.value())
 }
 
 // The status byte. Refusal 2.
@@ -212,10 +204,7 @@ pub extern "C" fn cartvesper_device_status(device: Device) -> Value
     ensures { λ r. ⌜ r ≡ deviceStatusCall (devicePart device) device ⌝ }
 {
     let answer = device.status();
-    Value {
-        number: answer.number(),
-        value: answer.value(),
-    }
+    valued(answer.number(), answer.value())
 }
 
 // How many cells the running cycle will touch, 0 where no latched bytes wait. Refusal 2.
@@ -224,10 +213,7 @@ pub extern "C" fn cartvesper_device_touched(device: Device) -> Value
     ensures { λ r. ⌜ r ≡ touchedCall (devicePart device) (deviceFits (devicePart device) device) (device .core) ⌝ }
 {
     let answer = device.cells_touched();
-    Value {
-        number: answer.number(),
-        value: answer.value(),
-    }
+    valued(answer.number(), answer.value())
 }
 
 // A list of events, each a number, and Q after each in the output. Refusals 1, 2, 5.

@@ -11,6 +11,7 @@ mod hex_calls;
 mod lay_call;
 mod part_calls;
 mod timed_call;
+mod values;
 
 use chip::Core;
 use latch::Latch;

@@ -11,10 +11,13 @@ number-requires c κs = search needs
 value-requires : tie.Need-value-requires
 value-requires c κs = search needs
 
+valued-requires : tie.Need-valued-requires
+valued-requires c κs = search needs
+
 returns : tie.Need-returns
 returns c =
-    rw (c .before .number .ensures, c .value .ensures, c .before .before .protected-from .ensures .1 .0, c .before .before .protected-from .ensures .1 .1)
+    let asked = c .before .before .before .protected-from .ensures in
+    rw (c .valued .ensures, c .before .before .number .ensures, c .before .value .ensures, asked .1 .0, asked .1 .1)
 
 pub cartvesper-core-lowest-protected-spec : {M : Type 1} → statement M
-cartvesper-core-lowest-protected-spec =
-    tie.close (tie.spec protected-from-requires number-requires value-requires returns)
+cartvesper-core-lowest-protected-spec = tie.close (tie.spec protected-from-requires number-requires value-requires valued-requires returns)

@@ -1,4 +1,4 @@
-use Rattle.laws.specs.Pick.{call-yes, arms}
+use Rattle.laws.specs.Pick.{call-yes, call-no}
 use borrow.Author.Needs.{needs}
 use Rattle.bench.proofs.core_calls.cartvesper_core_status.Statement.{statement}
 use Rattle.bench.proofs.core_calls.cartvesper_core_status.Tie as tie
@@ -12,12 +12,19 @@ status-requires c κs = search needs
 wide-requires : tie.Need-wide-requires
 wide-requires c κs = search needs
 
+valued-requires : tie.Need-valued-requires
+valued-requires c κs = search needs
+
 returns : tie.Need-returns
-returns c = call-yes _ (c .before .before .before .in-ranges .ensures) (c .before .before .if1 .taken) (rw (c .wide .ensures, c .before .status .ensures))
+returns c =
+    call-yes _ (c .before .before .before .before .in-ranges .ensures) (c .before .before .before .if1 .taken)
+    (rw (c .valued .ensures, c .before .wide .ensures, c .before .before .status .ensures))
+
+valued-requires-2 : tie.Need-valued-requires-2
+valued-requires-2 c κs = search needs
 
 returns-2 : tie.Need-returns-2
-returns-2 c = search arms
+returns-2 c = call-no _ (c .before .before .in-ranges .ensures) (c .before .if1 .left) (c .valued2 .ensures)
 
 pub cartvesper-core-status-spec : {M : Type 1} → statement M
-cartvesper-core-status-spec =
-    tie.close (tie.spec in-ranges-requires status-requires wide-requires returns returns-2)
+cartvesper-core-status-spec = tie.close (tie.spec in-ranges-requires status-requires wide-requires valued-requires returns valued-requires-2 returns-2)
