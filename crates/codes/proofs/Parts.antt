@@ -1,6 +1,6 @@
 -- What holds of every row of the table of parts holds of the row that a part's number reads.
 use Prim.Native.Nat.{ℕ, _≤_}
-use mathlib.Core.Bool.{false}
+use mathlib.Core.Bool.{Bool, true, false}
 use mathlib.Core.Path.{_≡_, refl, _∙_}
 use native.Mathlib.Omega.{arith}
 use lib.Dec.{eqb, lit≤}
@@ -21,6 +21,20 @@ module _ (F : Part → Type 0) where
   unfolding partOf
   of-others {n} h d p =
       pick-case F (eqb n 2) (λ e. absurd (h (eqb-true n 2 e))) (λ e. pick-case F (eqb n 1) (λ f. d) (λ f. p))
+
+-- a flag of the row, as the code asks for it: by the tests of the two numbers that are not 0
+module _ (F : Part → Bool) (G : Bool → Bool → Bool) (both : G true true ≡ F m95m01) (megabit : G false true ≡ F m95m01)
+    (identified : G true false ≡ F m95512d) (plain : G false false ≡ F m95512) where
+  by-tests : (a b : Bool) → G a b ≡ F (pick b m95m01 (pick a m95512d m95512))
+  unfolding pick
+  by-tests true true = both
+  by-tests false true = megabit
+  by-tests true false = identified
+  by-tests false false = plain
+
+  pub flag-of-row : (n : ℕ) → G (eqb n 1) (eqb n 2) ≡ F (partOf n)
+  unfolding partOf
+  flag-of-row n = by-tests (eqb n 1) (eqb n 2)
 
 -- the rows by their numbers
 pub row-plain : partOf 0 ≡ m95512
