@@ -29,7 +29,8 @@ returns-2 : tie.Need-returns-2
 returns-2 c =
     let b = c .before .before .before .before in
     λ m l k. c .unkept .ensures m l k ∙ ap (λ (f : Frame). risenTo f (whole (b .before .before .args .self) l k))
-    (call-yes _ (b .before .picks-lock .ensures) (b .if1 .taken) (ne-so _ (λ e. c .before .if2 .left (e ∙ sym (c .before .before .before .head-of .ensures .0))) refl))
+    (call-yes _ (b .before .picks-lock .ensures) (b .if1 .taken)
+    (ne-so _ (λ e. c .before .if2 .left (e ∙ sym (c .before .before .before .head-of .ensures .0))) refl))
 
 latch-byte-requires : tie.Need-latch-byte-requires
 latch-byte-requires c κs = search needs

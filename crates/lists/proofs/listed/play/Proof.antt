@@ -30,14 +30,14 @@ same-length-3 c = search needs
 
 returns : tie.Need-returns
 returns c =
-    let a = c .before .before .before .before .before .before .before .before .before .before .before .before .before .before .before .before .before .before .before .before .before .args in
-    let es = a .events .now in
-    let x = a .device in
-    let m = lent (a .memory .now) (a .identification .now) in
     let room = c .before .before .before .before .before .before .before .before .before .before in
     let events = room .before in
     let ranges = events .before .before in
     let fits = ranges .before .before in
+    let a = fits .before .before .before .before .before .before .args in
+    let es = a .events .now in
+    let x = a .device in
+    let m = lent (a .memory .now) (a .identification .now) in
     let o = play-done (devicePart x) x m es (length (a .out .now)) (sym (fits .before .lent-fits .ensures) ∙ fits .if1 .taken)
     (sym (ranges .before .in-ranges .ensures) ∙ ranges .if2 .taken) (sym (events .before .are-events .ensures) ∙ events .if3 .taken)
     (room .if4 .taken) in
