@@ -9,9 +9,6 @@ use Rattle.cases.proofs.powered.Tie as tie
 size-of-requires : tie.Need-size-of-requires
 size-of-requires c κs = search needs
 
-cells-requires : tie.Need-cells-requires
-cells-requires c κs = search needs
-
 array-share-prefix-memory : tie.Need-array-share-prefix-memory
 array-share-prefix-memory c = search needs
 
@@ -29,7 +26,6 @@ powered-spec =
     tie.close
     (tie.spec
     size-of-requires
-    cells-requires
     array-share-prefix-memory
     slice-aggregate-power-up
     power-up-requires
