@@ -171,13 +171,13 @@ fn fall(side: PinSide, memory: &Memory, run: &mut Run) -> PinSide {
     pause(strayed, memory, run)
 }
 
-// Bit k. The falling edge before it stands after the readings of mode 3 and before those of mode 0. Q is compared just
-// before C rises.
+// Bit k, with the bit that the frame model has there. The falling edge before it stands after the readings of mode 3
+// and before those of mode 0. Q is compared just before C rises.
 fn draw_bit(
     side: PinSide,
-    bytes: &[u8],
-    out: &[u8],
     k: usize,
+    sent: u8,
+    shown: u8,
     schedule: Schedule,
     memory: &mut Memory,
     run: &mut Run,
@@ -185,25 +185,26 @@ fn draw_bit(
     let high = read_at(side, k, true, schedule, memory, run);
     let fallen = fall(high, memory, run);
     let low = read_at(fallen, k, false, schedule, memory, run);
-    let ready = set(low, D, bit_at(bytes, k) == 1, memory, run);
-    clock(ready.device.q().value(), bit_at(out, k), k, run);
+    let ready = set(low, D, sent == 1, memory, run);
+    clock(ready.device.q().value(), shown, k, run);
     let risen = set(ready, C, true, memory, run);
     stray(risen, false, memory, run)
 }
 
 fn draw_bits(
     side: PinSide,
+    schedule: Schedule,
+    bits: usize,
     bytes: &[u8],
     out: &[u8],
-    bits: usize,
-    schedule: Schedule,
     memory: &mut Memory,
     run: &mut Run,
 ) -> PinSide {
     let mut next = side;
     let mut k: usize = 0;
     while k < bits {
-        next = draw_bit(next, bytes, out, k, schedule, memory, run);
+        let sent = bit_at(bytes, k);
+        next = draw_bit(next, k, sent, bit_at(out, k), schedule, memory, run);
         k += 1;
     }
     next
@@ -254,7 +255,7 @@ pub fn draw(
     run: &mut Run,
 ) -> PinSide {
     let begun = select(side, schedule.mode3, memory, run);
-    let clocked = draw_bits(begun, bytes, out, bits, schedule, memory, run);
+    let clocked = draw_bits(begun, schedule, bits, bytes, out, memory, run);
     if schedule.held {
         return deselect_in_hold(clocked, memory, run);
     }

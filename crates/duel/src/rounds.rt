@@ -58,7 +58,6 @@ use codes::longest_of;
 use codes::page_of;
 use codes::size_of;
 use frames::Framed;
-use pins::Device;
 use timed_frames::Mode;
 use timed_frames::timed_frame;
 
@@ -103,42 +102,13 @@ fn part(run: &mut Run) -> u8 {
     M95M01
 }
 
-// The frame model powered up, with as many cells lent as the part has.
-fn frames_powered(
-    part: u8,
-    lock: bool,
-    cycle: u32,
-    srwd: bool,
-    bp1: bool,
-    bp0: bool,
-    reading: u32,
-    memory: &[u8],
-) -> Core {
-    let m = first(size_of(part), memory.len());
-    chip::power_up(part, lock, cycle, srwd, bp1, bp0, reading, &memory[..m]).core
-}
-
-// The pin model powered up.
-fn pins_powered(
-    part: u8,
-    lock: bool,
-    cycle: u32,
-    srwd: bool,
-    bp1: bool,
-    bp0: bool,
-    reading: u32,
-    memory: &[u8],
-) -> Device {
-    let m = first(size_of(part), memory.len());
-    pins::power_up(part, lock, cycle, srwd, bp1, bp0, reading, &memory[..m]).device
-}
-
+// Both models powered up, with as many cells lent as the part has.
 fn powered_as(
     part: u8,
     lock: bool,
     page: Page,
-    frame_side: &Memory,
-    pin_side: &Memory,
+    frame_side: &[u8],
+    pin_side: &[u8],
     run: &mut Run,
 ) -> Pair {
     let cycle = cycle(part, run);
@@ -146,8 +116,10 @@ fn powered_as(
     let bp1 = percent(20, run);
     let bp0 = percent(30, run);
     let reading = word(run);
-    let core = frames_powered(part, lock, cycle, srwd, bp1, bp0, reading, frame_side);
-    let device = pins_powered(part, lock, cycle, srwd, bp1, bp0, reading, pin_side);
+    let m = first(size_of(part), frame_side.len());
+    let n = first(size_of(part), pin_side.len());
+    let core = chip::power_up(part, lock, cycle, srwd, bp1, bp0, reading, &frame_side[..m]).core;
+    let device = pins::power_up(part, lock, cycle, srwd, bp1, bp0, reading, &pin_side[..n]).device;
     records(core, device, run);
     Pair {
         frames: FrameSide {
@@ -317,15 +289,15 @@ fn mode(mode3: bool) -> Mode {
 // the same call, as one with empty lists.
 fn ask(
     core: Core,
+    w: bool,
+    mode3: bool,
+    bits: usize,
+    number: usize,
     memory: &mut [u8],
     page: &mut [u8],
-    w: bool,
-    mode: Mode,
     bytes: &[u8],
-    bits: usize,
     positions: &[usize],
     readings: &[u32],
-    number: usize,
     out: &mut [u8],
 ) -> Framed {
     let m = first(size_of(core.part), memory.len());
@@ -337,7 +309,7 @@ fn ask(
         &mut memory[..m],
         &mut page[..n],
         w,
-        mode,
+        mode(mode3),
         bytes,
         bits,
         &positions[..p],
@@ -370,15 +342,15 @@ fn ask_first(
     let readings = schedule.readings;
     ask(
         core,
+        w,
+        schedule.mode3,
+        bits,
+        schedule.number,
         memory,
         page,
-        w,
-        mode(schedule.mode3),
         &bytes[..sent],
-        bits,
         &positions,
         &readings,
-        schedule.number,
         &mut out[..shown],
     )
 }

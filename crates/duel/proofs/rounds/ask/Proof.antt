@@ -36,6 +36,9 @@ slice-relend-prefix-timed-frame-2 c = search needs
 slice-aggregate-timed-frame-2 : tie.Need-slice-aggregate-timed-frame-2
 slice-aggregate-timed-frame-2 c = sym (length-take-le _ _ (omega arith))
 
+mode-requires : tie.Need-mode-requires
+mode-requires c κs = search needs
+
 slice-aggregate-timed-frame-3 : tie.Need-slice-aggregate-timed-frame-3
 slice-aggregate-timed-frame-3 c = sym (length-take-le _ _ (omega arith))
 
@@ -71,6 +74,7 @@ ask-spec =
     slice-aggregate-timed-frame
     slice-relend-prefix-timed-frame-2
     slice-aggregate-timed-frame-2
+    mode-requires
     slice-aggregate-timed-frame-3
     slice-aggregate-timed-frame-4
     timed-frame-requires

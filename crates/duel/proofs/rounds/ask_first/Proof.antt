@@ -15,9 +15,6 @@ first-requires c κs = search needs
 first-requires-2 : tie.Need-first-requires-2
 first-requires-2 c κs = search needs
 
-mode-requires : tie.Need-mode-requires
-mode-requires c κs = search needs
-
 slice-aggregate-ask : tie.Need-slice-aggregate-ask
 slice-aggregate-ask c = sym (length-take-le _ _ (omega arith))
 
@@ -55,7 +52,6 @@ ask-first-spec =
     bytes-for-requires
     first-requires
     first-requires-2
-    mode-requires
     slice-aggregate-ask
     slice-aggregate-ask-2
     slice-aggregate-ask-3
