@@ -6,10 +6,10 @@ use Rattle.holds.proofs.begun.Statement.{statement}
 use Rattle.holds.proofs.begun.Tie as tie
 
 abbrev Inv-loop : tie.InvT-loop
-Inv-loop bytes bits memory identification next₀ k₀ next k = Unit {0}
+Inv-loop frame bits memory identification next₀ k₀ next k = Unit {0}
 
 abbrev μ-loop : tie.MeasureT-loop
-μ-loop bytes bits memory identification next₀ k₀ next k = bits - k
+μ-loop frame bits memory identification next₀ k₀ next k = bits - k
 
 set-s-requires : tie.Need-set-s-requires Inv-loop μ-loop
 set-s-requires c κs = search needs
