@@ -15,10 +15,10 @@ fn write(bytes: &[u8]) {
     io::write_all(STDOUT_FILENO, bytes);
 }
 
+// A title has its LF.
 fn title(what: &[u8]) {
     write(b"-- ");
     write(what);
-    write(b"\n");
 }
 
 fn say(what: &[u8], number: u64) {
@@ -65,125 +65,114 @@ fn chunk_end(i: usize, end: usize, size: usize) -> usize
     i + size
 }
 
-fn in_chunks(
-    part: u8,
-    text: &[u8],
-    size: usize,
-    memory: &mut [u8],
-    identification: &mut [u8],
-    out: &mut [u8],
-) -> Player {
+// A text in chunks of so many bytes, and its end.
+fn play(part: u8, text: &[u8], size: usize, memory: &mut [u8], page: &mut [u8], out: &mut [u8]) {
     let mut player = player::start(part);
     let mut i: usize = 0;
     while i < text.len() {
         let e = chunk_end(i, text.len(), size);
-        player = fed(player, memory, identification, &text[i..e], out);
+        player = fed(player, memory, page, &text[i..e], out);
         i = e;
     }
-    player
-}
-
-// A text in chunks of so many bytes, and its end.
-fn play(
-    part: u8,
-    text: &[u8],
-    size: usize,
-    memory: &mut [u8],
-    identification: &mut [u8],
-    out: &mut [u8],
-) {
-    let player = in_chunks(part, text, size, memory, identification, out);
     ended(player, out);
 }
 
 // The same, from a part as delivered.
-fn tell_on(part: u8, what: &[u8], text: &[u8], size: usize) {
-    title(what);
-    let cells = size_of(part);
-    let page = page_of(part);
+fn play_on(part: u8, text: &[u8], size: usize) {
+    let m = size_of(part);
+    let n = page_of(part);
     let mut memory = player::memory();
-    let mut identification = player::identification(part);
+    let mut page = player::identification(part);
     let mut out = io::large_buffer();
-    play(
-        part,
-        text,
-        size,
-        &mut memory[..cells],
-        &mut identification[..page],
-        &mut out,
-    );
+    play(part, text, size, &mut memory[..m], &mut page[..n], &mut out);
 }
 
-fn tell(what: &[u8], text: &[u8], size: usize) {
-    tell_on(M95512, what, text, size);
+// The length of the first line, with its LF where it has one.
+fn first_line(bytes: &[u8]) -> usize
+    ensures { λ r. ⌜ r ≤ length (now (bytes .entry)) ⌝ }
+{
+    let mut i: usize = 0;
+    while i < bytes.len() {
+        let byte = bytes[i];
+        i += 1;
+        if byte == 10 {
+            return i;
+        }
+    }
+    i
+}
+
+// A line that is the title, and the text.
+fn tell_on(part: u8, titled: &[u8], size: usize) {
+    let n = first_line(titled);
+    title(&titled[..n]);
+    play_on(part, &titled[n..], size);
+}
+
+fn tell(titled: &[u8]) {
+    tell_on(M95512, titled, 64);
 }
 
 fn good() {
-    tell(b"an empty text", b"", 64);
-    tell(b"the example of the rules", b"S\t0\nC\t1\nX\t1\n", 64);
+    tell(b"an empty text\n");
+    tell(b"the example of the rules\nS\t0\nC\t1\nX\t1\n");
     tell(
-        b"every name, the first and the last reading",
-        b"S\t0\nC\t1\nD\t1\nW\t0\nH\t0\nT\t0\nT\t9\nT\t10\nT\t4294967295\n",
-        64,
+        b"every name, the first and the last reading\nS\t0\nC\t1\nD\t1\nW\t0\nH\t0\nT\t0\nT\t9\nT\t10\nT\t4294967295\n",
     );
 }
 
 // Bad ends of a line, after a good one where it is not the first.
 fn bad_ends() {
-    tell(b"CR LF", b"S\t0\r\n", 64);
-    tell(b"no LF at the end", b"S\t0\nC\t1", 64);
-    tell(b"no LF after a reading", b"S\t0\nT\t12", 64);
-    tell(b"a name alone at the end", b"S\t0\nC", 64);
-    tell(b"an empty line", b"S\t0\n\nC\t1\n", 64);
-    tell(b"an empty first line", b"\n", 64);
+    tell(b"CR LF\nS\t0\r\n");
+    tell(b"no LF at the end\nS\t0\nC\t1");
+    tell(b"no LF after a reading\nS\t0\nT\t12");
+    tell(b"a name alone at the end\nS\t0\nC");
+    tell(b"an empty line\nS\t0\n\nC\t1\n");
+    tell(b"an empty first line\n\n");
 }
 
 // Bad fields: what stands between the name and the value.
 fn bad_fields() {
-    tell(b"a space for the tab", b"S\t0\nC 1\n", 64);
-    tell(b"two tabs", b"S\t0\nC\t\t1\n", 64);
-    tell(b"no tab", b"S\t0\nC1\n", 64);
-    tell(b"a tab after the level", b"S\t0\nC\t1\t\n", 64);
-    tell(b"S with 2", b"S\t2\n", 64);
-    tell(b"S with 00", b"S\t00\n", 64);
-    tell(b"S with nothing", b"S\t\n", 64);
+    tell(b"a space for the tab\nS\t0\nC 1\n");
+    tell(b"two tabs\nS\t0\nC\t\t1\n");
+    tell(b"no tab\nS\t0\nC1\n");
+    tell(b"a tab after the level\nS\t0\nC\t1\t\n");
+    tell(b"S with 2\nS\t2\n");
+    tell(b"S with 00\nS\t00\n");
+    tell(b"S with nothing\nS\t\n");
 }
 
 // Bad readings.
 fn bad_readings() {
-    tell(b"T with nothing", b"T\t\n", 64);
-    tell(b"T with a minus", b"S\t0\nT\t-1\n", 64);
-    tell(b"T with a plus", b"S\t0\nT\t+1\n", 64);
-    tell(b"a leading zero", b"S\t0\nT\t01\n", 64);
-    tell(b"two zeros", b"S\t0\nT\t00\n", 64);
-    tell(b"4294967296", b"S\t0\nT\t4294967296\n", 64);
-    tell(b"eleven digits", b"S\t0\nT\t10000000000\n", 64);
-    tell(b"twenty digits", b"S\t0\nT\t18446744073709551617\n", 64);
-    tell(b"a letter in a reading", b"S\t0\nT\t1a\n", 64);
+    tell(b"T with nothing\nT\t\n");
+    tell(b"T with a minus\nS\t0\nT\t-1\n");
+    tell(b"T with a plus\nS\t0\nT\t+1\n");
+    tell(b"a leading zero\nS\t0\nT\t01\n");
+    tell(b"two zeros\nS\t0\nT\t00\n");
+    tell(b"4294967296\nS\t0\nT\t4294967296\n");
+    tell(b"eleven digits\nS\t0\nT\t10000000000\n");
+    tell(b"twenty digits\nS\t0\nT\t18446744073709551617\n");
+    tell(b"a letter in a reading\nS\t0\nT\t1a\n");
 }
 
 // Bytes that no line has, and bad names.
 fn bad_bytes() {
-    tell(b"a NUL byte", b"S\t0\n\x00\n", 64);
-    tell(b"a NUL after the level", b"S\t0\nC\t1\x00\n", 64);
-    tell(b"bytes above 127", b"S\t0\n\xc3\xa9\t1\n", 64);
-    tell(b"a level above 127", b"S\t0\nC\t\xb1\n", 64);
-    tell(b"a small letter", b"s\t0\n", 64);
-    tell(b"a longer name", b"HOLD\t0\n", 64);
-    tell(b"a bad first line", b"no\n", 64);
-    tell(
-        b"a bad line after half a frame",
-        b"S\t0\nD\t0\nC\t1\nC\t0\nC\t1\nC\t0\nQ\t1\nC\t1\n",
-        64,
-    );
+    tell(b"a NUL byte\nS\t0\n\x00\n");
+    tell(b"a NUL after the level\nS\t0\nC\t1\x00\n");
+    tell(b"bytes above 127\nS\t0\n\xc3\xa9\t1\n");
+    tell(b"a level above 127\nS\t0\nC\t\xb1\n");
+    tell(b"a small letter\ns\t0\n");
+    tell(b"a longer name\nHOLD\t0\n");
+    tell(b"a bad first line\nno\n");
+    tell(b"a bad line after half a frame\nS\t0\nD\t0\nC\t1\nC\t0\nC\t1\nC\t0\nQ\t1\nC\t1\n");
 }
 
 // An RDSR frame with a pause in its data byte, then readings, then a bad line with more after it.
 fn cut(size: usize) {
     say(b"cut after so many bytes", size as u64);
-    tell(
-        b"a frame",
-        b"S\t0\nD\t0\nC\t1\nC\t0\nD\t0\nC\t1\nC\t0\nD\t0\nC\t1\nC\t0\nD\t0\nC\t1\nC\t0\nD\t0\nC\t1\nC\t0\nD\t1\nC\t1\nC\t0\nD\t0\nC\t1\nC\t0\nD\t1\nC\t1\nC\t0\nC\t1\nC\t0\nC\t1\nC\t0\nC\t1\nC\t0\nH\t0\nC\t1\nC\t0\nT\t4294967290\nH\t1\nC\t1\nC\t0\nC\t1\nC\t0\nC\t1\nC\t0\nC\t1\nC\t0\nC\t1\nC\t0\nS\t1\nT\t10\nW\t0\nT\t01\nS\t0\n",
+    tell_on(
+        M95512,
+        b"a frame\nS\t0\nD\t0\nC\t1\nC\t0\nD\t0\nC\t1\nC\t0\nD\t0\nC\t1\nC\t0\nD\t0\nC\t1\nC\t0\nD\t0\nC\t1\nC\t0\nD\t1\nC\t1\nC\t0\nD\t0\nC\t1\nC\t0\nD\t1\nC\t1\nC\t0\nC\t1\nC\t0\nC\t1\nC\t0\nC\t1\nC\t0\nH\t0\nC\t1\nC\t0\nT\t4294967290\nH\t1\nC\t1\nC\t0\nC\t1\nC\t0\nC\t1\nC\t0\nC\t1\nC\t0\nC\t1\nC\t0\nS\t1\nT\t10\nW\t0\nT\t01\nS\t0\n",
         size,
     );
 }
@@ -193,8 +182,7 @@ fn cut(size: usize) {
 fn large() {
     tell_on(
         M95M01,
-        b"the M95M01",
-        b"S\t0\nC\t1\nC\t0\nC\t1\nC\t0\nC\t1\nC\t0\nC\t1\nC\t0\nC\t1\nC\t0\nD\t1\nC\t1\nC\t0\nC\t1\nC\t0\nD\t0\nC\t1\n\
+        b"the M95M01\nS\t0\nC\t1\nC\t0\nC\t1\nC\t0\nC\t1\nC\t0\nC\t1\nC\t0\nC\t1\nC\t0\nD\t1\nC\t1\nC\t0\nC\t1\nC\t0\nD\t0\nC\t1\n\
         C\t0\nS\t1\n\
         S\t0\nC\t1\nC\t0\nC\t1\nC\t0\nC\t1\nC\t0\nC\t1\nC\t0\nC\t1\nC\t0\nC\t1\nC\t0\nD\t1\nC\t1\nC\t0\nD\t0\nC\t1\n\
         C\t0\nD\t1\nC\t1\nC\t0\nC\t1\nC\t0\nC\t1\nC\t0\nC\t1\nC\t0\nC\t1\nC\t0\nC\t1\nC\t0\nC\t1\nC\t0\nC\t1\nC\t0\n\
@@ -214,23 +202,31 @@ fn large() {
     );
 }
 
-fn long_line(memory: &mut [u8], identification: &mut [u8], out: &mut [u8]) {
-    title(b"a line of a megabyte");
+// ---- long texts and refusals. None of them shows or changes a cell: any bytes serve, as many as the M95512 has
+
+// More text for a player.
+fn taken(player: Player, text: &[u8]) -> Player {
+    let mut memory = io::large_buffer();
+    let mut page = [0u8; 128];
+    let mut out = io::large_buffer();
+    fed(player, &mut memory, &mut page, text, &mut out)
+}
+
+fn finished(player: Player) {
+    let mut out = io::large_buffer();
+    ended(player, &mut out);
+}
+
+fn long_line() {
+    title(b"a line of a megabyte\n");
     let digits = [49u8; 4096];
-    let mut player = fed(
-        player::start(M95512),
-        memory,
-        identification,
-        b"S\t0\nT\t",
-        out,
-    );
+    let mut player = taken(player::start(M95512), b"S\t0\nT\t");
     let mut i: u32 = 0;
     while i < 256 {
-        player = fed(player, memory, identification, &digits, out);
+        player = taken(player, &digits);
         i += 1;
     }
-    player = fed(player, memory, identification, b"\n", out);
-    ended(player, out);
+    finished(taken(player, b"\n"));
 }
 
 // ---- a million lines, made here: RDSR frames of 42 lines. Their output is counted and summed.
@@ -287,19 +283,22 @@ fn frames(text: &[u8], memory: &mut [u8], identification: &mut [u8], out: &mut [
     so_far
 }
 
-fn all_lines(memory: &mut [u8], identification: &mut [u8], out: &mut [u8]) -> Player {
+fn all_lines() -> Player {
+    let mut memory = io::large_buffer();
+    let mut page = [0u8; 128];
+    let mut out = io::large_buffer();
     let most = frames(
         b"S\t0\nD\t0\nC\t1\nC\t0\nD\t0\nC\t1\nC\t0\nD\t0\nC\t1\nC\t0\nD\t0\nC\t1\nC\t0\nD\t0\nC\t1\nC\t0\nD\t1\nC\t1\nC\t0\nD\t0\nC\t1\nC\t0\nD\t1\nC\t1\nC\t0\nC\t1\nC\t0\nC\t1\nC\t0\nC\t1\nC\t0\nC\t1\nC\t0\nC\t1\nC\t0\nC\t1\nC\t0\nC\t1\nC\t0\nC\t1\nC\t0\nS\t1\n",
-        memory,
-        identification,
-        out,
+        &mut memory,
+        &mut page,
+        &mut out,
     );
     let all = sum_chunk(
         most,
-        memory,
-        identification,
+        &mut memory,
+        &mut page,
         b"S\t0\nD\t0\nC\t1\nC\t0\nD\t0\nC\t1\nC\t0\nD\t0\nC\t1\nC\t0\nD\t0\nC\t1\nC\t0\nD\t0\nC\t1\nC\t0\nD\t1\nC\t1\nC\t0\nD\t0\nC\t1\nC\t0\n",
-        out,
+        &mut out,
     );
     say(b"bytes", all.bytes);
     say(b"sum", all.sum);
@@ -307,140 +306,71 @@ fn all_lines(memory: &mut [u8], identification: &mut [u8], out: &mut [u8]) -> Pl
 }
 
 // More text after the million lines.
-fn more(
-    what: &[u8],
-    player: Player,
-    memory: &mut [u8],
-    identification: &mut [u8],
-    text: &[u8],
-    out: &mut [u8],
-) {
+fn more(what: &[u8], player: Player, text: &[u8]) {
     title(what);
-    let next = fed(player, memory, identification, text, out);
-    ended(next, out);
+    finished(taken(player, text));
 }
 
-fn million(memory: &mut [u8], identification: &mut [u8], out: &mut [u8]) {
-    title(b"a million lines");
-    let player = all_lines(memory, identification, out);
-    ended(player, out);
-    more(
-        b"and one more",
-        player,
-        memory,
-        identification,
-        b"C\t1\n",
-        out,
-    );
-    more(
-        b"and one byte more",
-        player,
-        memory,
-        identification,
-        b"S",
-        out,
-    );
+fn million() {
+    title(b"a million lines\n");
+    let player = all_lines();
+    finished(player);
+    more(b"and one more\n", player, b"C\t1\n");
+    more(b"and one byte more\n", player, b"S");
 }
 
 // ---- what is refused, by its number, and that the first in the order decides: a chunk of four bytes, which asks for
 // 59
 
-fn refused(
-    what: &[u8],
-    player: Player,
-    memory: &mut [u8],
-    identification: &mut [u8],
-    out: &mut [u8],
-) {
-    let f = trace::feed(player, memory, identification, b"S\t0\n", out);
-    let answer = f.answer;
-    say(what, answer.number() as u64);
+// How many of some bytes are lent: n, or all where there are fewer.
+fn first(n: usize, all: usize) -> usize
+    ensures { λ r. ⌜ r ≤ all ⌝ }
+{
+    if n < all { n } else { all }
 }
 
-fn with_flag_2() -> Player {
-    let mut player = player::start(M95512);
-    player.headed = 2;
-    player
-}
-
-fn refused_memory(identification: &mut [u8], out: &mut [u8]) {
-    let mut memory = [0u8; 64];
-    refused(
-        b"a memory of 64 bytes",
-        player::start(M95512),
-        &mut memory,
-        identification,
-        out,
-    );
-    refused(
-        b"and a flag of 2",
-        with_flag_2(),
-        &mut memory,
-        identification,
-        out,
-    );
-}
-
-// The M95512's memory and page, lent to an M95M01.
-fn refused_part(memory: &mut [u8], identification: &mut [u8], out: &mut [u8]) {
-    refused(
-        b"the M95M01, a memory of 65536 bytes",
-        player::start(M95M01),
-        memory,
-        identification,
-        out,
-    );
-}
-
-fn refused_player(memory: &mut [u8], identification: &mut [u8], out: &mut [u8]) {
-    let mut short = [0u8; 58];
-    refused(b"a flag of 2", with_flag_2(), memory, identification, out);
-    refused(
-        b"and an output of 58 bytes",
-        with_flag_2(),
-        memory,
-        identification,
-        &mut short,
-    );
-}
-
-fn refused_output(what: &[u8], memory: &mut [u8], identification: &mut [u8], out: &mut [u8]) {
-    refused(what, player::start(M95512), memory, identification, out);
-}
-
-fn refused_outputs(memory: &mut [u8], identification: &mut [u8]) {
-    let mut short = [0u8; 58];
-    refused_output(b"an output of 58 bytes", memory, identification, &mut short);
-    let mut room = [0u8; 59];
-    refused_output(b"an output of 59 bytes", memory, identification, &mut room);
-}
-
-fn refused_end(what: &[u8], out: &mut [u8]) {
-    let f = trace::finish(player::start(M95512), out);
-    let answer = f.answer;
-    say(what, answer.number() as u64);
-}
-
-fn refusals(memory: &mut [u8], identification: &mut [u8], out: &mut [u8]) {
-    title(b"refusals");
-    refused_memory(identification, out);
-    refused_part(memory, identification, out);
-    refused_player(memory, identification, out);
-    refused_outputs(memory, identification);
-    let mut short = [0u8; 18];
-    refused_end(b"the end, an output of 18 bytes", &mut short);
-    let mut room = [0u8; 19];
-    refused_end(b"the end, an output of 19 bytes", &mut room);
-}
-
-// None of these texts shows or changes a cell: any bytes serve, as many as the M95512 has.
-fn long_texts() {
+// With a memory of so many bytes, and room for so many.
+fn refused(what: &[u8], player: Player, size: usize, room: usize) {
     let mut memory = io::large_buffer();
-    let mut identification = [0u8; 128];
+    let mut page = [0u8; 128];
     let mut out = io::large_buffer();
-    long_line(&mut memory, &mut identification, &mut out);
-    million(&mut memory, &mut identification, &mut out);
-    refusals(&mut memory, &mut identification, &mut out);
+    let m = first(size, 65536);
+    let n = first(room, 65536);
+    let f = trace::feed(
+        player,
+        &mut memory[..m],
+        &mut page,
+        b"S\t0\n",
+        &mut out[..n],
+    );
+    let answer = f.answer;
+    say(what, answer.number() as u64);
+}
+
+fn refused_end(what: &[u8], room: usize) {
+    let mut out = io::large_buffer();
+    let n = first(room, 65536);
+    let f = trace::finish(player::start(M95512), &mut out[..n]);
+    let answer = f.answer;
+    say(what, answer.number() as u64);
+}
+
+// The M95512's memory and page, also lent to an M95M01.
+fn refusals() {
+    let fresh = player::start(M95512);
+    let large = player::start(M95M01);
+    let mut broken = fresh;
+    broken.headed = 2;
+    title(b"refusals\n");
+    refused(b"a memory of 64 bytes", fresh, 64, 65536);
+    refused(b"and a flag of 2", broken, 64, 65536);
+    refused(b"the M95M01, a memory of 65536 bytes", large, 65536, 65536);
+    refused(b"a flag of 2", broken, 65536, 65536);
+    refused(b"and an output of 58 bytes", broken, 65536, 58);
+    refused(b"an output of 58 bytes", fresh, 65536, 58);
+    refused(b"an output of 59 bytes", fresh, 65536, 59);
+    refused_end(b"the end, an output of 18 bytes", 18);
+    refused_end(b"the end, an output of 19 bytes", 19);
 }
 
 fn main() {
@@ -457,5 +387,7 @@ fn main() {
     cut(64);
     cut(1000);
     large();
-    long_texts();
+    long_line();
+    million();
+    refusals();
 }

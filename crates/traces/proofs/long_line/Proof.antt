@@ -1,16 +1,13 @@
-use mathlib.Core.Path.{_≡_}
-use lib.ListN.{length}
 use Prim.Native.Nat.{_≤_, _-_}
 use borrow.Author.Needs.{needs}
 use Rattle.traces.proofs.long_line.Statement.{statement}
 use Rattle.traces.proofs.long_line.Tie as tie
 
 abbrev Inv-loop : tie.InvT-loop
-Inv-loop memory₀ identification₀ out₀ digits player₀ i₀ t8 memory identification out player i =
-    (i ≤ 256) × (length memory ≡ length memory₀) × (length identification ≡ length identification₀) × (length out ≡ length out₀)
+Inv-loop digits player₀ i₀ t player i = i ≤ 256
 
 abbrev μ-loop : tie.MeasureT-loop
-μ-loop memory₀ identification₀ out₀ digits player₀ i₀ t8 memory identification out player i = 256 - i
+μ-loop digits player₀ i₀ t player i = 256 - i
 
 slice-aggregate-title : tie.Need-slice-aggregate-title Inv-loop μ-loop
 slice-aggregate-title c = search needs
@@ -21,20 +18,20 @@ title-requires c κs = tt
 start-requires : tie.Need-start-requires Inv-loop μ-loop
 start-requires c κs = tt
 
-slice-aggregate-fed : tie.Need-slice-aggregate-fed Inv-loop μ-loop
-slice-aggregate-fed c = search needs
+slice-aggregate-taken : tie.Need-slice-aggregate-taken Inv-loop μ-loop
+slice-aggregate-taken c = search needs
 
-fed-requires : tie.Need-fed-requires Inv-loop μ-loop
-fed-requires c κs = tt
+taken-requires : tie.Need-taken-requires Inv-loop μ-loop
+taken-requires c κs = tt
 
 loop-holds : tie.Need-loop-holds Inv-loop μ-loop
 loop-holds c = search needs
 
-slice-aggregate-fed-2 : tie.Need-slice-aggregate-fed-2 Inv-loop μ-loop
-slice-aggregate-fed-2 c = search needs
+slice-aggregate-taken-2 : tie.Need-slice-aggregate-taken-2 Inv-loop μ-loop
+slice-aggregate-taken-2 c = search needs
 
-fed-requires-2 : tie.Need-fed-requires-2 Inv-loop μ-loop
-fed-requires-2 c κs = tt
+taken-requires-2 : tie.Need-taken-requires-2 Inv-loop μ-loop
+taken-requires-2 c κs = tt
 
 add-i : tie.Need-add-i Inv-loop μ-loop
 add-i c = search needs
@@ -45,23 +42,14 @@ loop-less c = search needs
 loop-again : tie.Need-loop-again Inv-loop μ-loop
 loop-again c = search needs
 
-slice-aggregate-fed-3 : tie.Need-slice-aggregate-fed-3 Inv-loop μ-loop
-slice-aggregate-fed-3 c = search needs
+slice-aggregate-taken-3 : tie.Need-slice-aggregate-taken-3 Inv-loop μ-loop
+slice-aggregate-taken-3 c = search needs
 
-fed-requires-3 : tie.Need-fed-requires-3 Inv-loop μ-loop
-fed-requires-3 c κs = tt
+taken-requires-3 : tie.Need-taken-requires-3 Inv-loop μ-loop
+taken-requires-3 c κs = tt
 
-ended-requires : tie.Need-ended-requires Inv-loop μ-loop
-ended-requires c κs = tt
-
-same-length : tie.Need-same-length Inv-loop μ-loop
-same-length c = search needs
-
-same-length-2 : tie.Need-same-length-2 Inv-loop μ-loop
-same-length-2 c = search needs
-
-same-length-3 : tie.Need-same-length-3 Inv-loop μ-loop
-same-length-3 c = search needs
+finished-requires : tie.Need-finished-requires Inv-loop μ-loop
+finished-requires c κs = tt
 
 returns : tie.Need-returns Inv-loop μ-loop
 returns c = tt
@@ -75,18 +63,15 @@ long-line-spec =
     slice-aggregate-title
     title-requires
     start-requires
-    slice-aggregate-fed
-    fed-requires
+    slice-aggregate-taken
+    taken-requires
     loop-holds
-    slice-aggregate-fed-2
-    fed-requires-2
+    slice-aggregate-taken-2
+    taken-requires-2
     add-i
     loop-less
     loop-again
-    slice-aggregate-fed-3
-    fed-requires-3
-    ended-requires
-    same-length
-    same-length-2
-    same-length-3
+    slice-aggregate-taken-3
+    taken-requires-3
+    finished-requires
     returns)

@@ -1,53 +1,31 @@
--- Both lent slices are as long as the part has it: the memory as delivered says so, the page is within its array.
-use Prim.Native.Nat.{ℕ}
-use mathlib.Core.List.{List}
-use mathlib.Core.Path.{_≡_, ap, sym, _∙_}
+-- The title is as long as the first line.
+use mathlib.Core.Path.{sym}
 use native.Mathlib.Omega.{arith}
-use lib.ListN.{length, length-replicate, replicate, take}
 use lib.Seq.{length-take-le}
 use borrow.Author.Needs.{needs}
 use Rattle.traces.proofs.tell_on.Statement.{statement}
 use Rattle.traces.proofs.tell_on.Tie as tie
 
--- n cells of what begins with k bytes FFh, for n = k
-front : (n k : ℕ) (xs : List ℕ) → n ≡ k → take k xs ≡ replicate k 0xff → n ≡ length (take n xs)
-front n k xs e h = e ∙ sym (ap (λ (m : ℕ). length (take m xs)) e ∙ ap length h ∙ length-replicate {A = ℕ} k 0xff)
+first-line-requires : tie.Need-first-line-requires
+first-line-requires c κs = search needs
+
+slice-aggregate-title : tie.Need-slice-aggregate-title
+slice-aggregate-title c = sym (length-take-le _ _ (omega arith))
 
 title-requires : tie.Need-title-requires
 title-requires c κs = search needs
 
-size-of-requires : tie.Need-size-of-requires
-size-of-requires c κs = search needs
+sub-play-on : tie.Need-sub-play-on
+sub-play-on c = search needs
 
-page-of-requires : tie.Need-page-of-requires
-page-of-requires c κs = search needs
+part-play-on-start : tie.Need-part-play-on-start
+part-play-on-start c = search needs
 
-memory-requires : tie.Need-memory-requires
-memory-requires c κs = search needs
+part-play-on-end : tie.Need-part-play-on-end
+part-play-on-end c = search needs
 
-identification-requires : tie.Need-identification-requires
-identification-requires c κs = search needs
-
-large-buffer-requires : tie.Need-large-buffer-requires
-large-buffer-requires c κs = search needs
-
-array-borrow-prefix-memory : tie.Need-array-borrow-prefix-memory
-array-borrow-prefix-memory c = search needs
-
-slice-aggregate-play : tie.Need-slice-aggregate-play
-slice-aggregate-play c = front _ _ _ (c .before .before .before .before .before .size-of .ensures .0) (c .before .before .before .memory .ensures .1 _)
-
-array-borrow-prefix-identification : tie.Need-array-borrow-prefix-identification
-array-borrow-prefix-identification c = search needs
-
-slice-aggregate-play-2 : tie.Need-slice-aggregate-play-2
-slice-aggregate-play-2 c = sym (length-take-le _ _ (omega arith))
-
-slice-aggregate-play-3 : tie.Need-slice-aggregate-play-3
-slice-aggregate-play-3 c = search needs
-
-play-requires : tie.Need-play-requires
-play-requires c κs = search needs
+play-on-requires : tie.Need-play-on-requires
+play-on-requires c κs = search needs
 
 returns : tie.Need-returns
 returns c = search needs
@@ -56,16 +34,11 @@ pub tell-on-spec : {M : Type 1} → statement M
 tell-on-spec =
     tie.close
     (tie.spec
+    first-line-requires
+    slice-aggregate-title
     title-requires
-    size-of-requires
-    page-of-requires
-    memory-requires
-    identification-requires
-    large-buffer-requires
-    array-borrow-prefix-memory
-    slice-aggregate-play
-    array-borrow-prefix-identification
-    slice-aggregate-play-2
-    slice-aggregate-play-3
-    play-requires
+    sub-play-on
+    part-play-on-start
+    part-play-on-end
+    play-on-requires
     returns)

@@ -3,15 +3,15 @@ use native.Mathlib.Omega.{arith}
 use lib.ListN.{length}
 use Prim.Native.Nat.{_≤_, _-_}
 use borrow.Author.Needs.{needs}
-use Rattle.traces.proofs.in_chunks.Statement.{statement}
-use Rattle.traces.proofs.in_chunks.Tie as tie
+use Rattle.traces.proofs.play.Statement.{statement}
+use Rattle.traces.proofs.play.Tie as tie
 
 abbrev Inv-loop : tie.InvT-loop
-Inv-loop part text size memory₀ identification₀ out₀ player₀ i₀ memory identification out player i =
-    (i ≤ length text) × (length memory ≡ length memory₀) × (length identification ≡ length identification₀) × (length out ≡ length out₀)
+Inv-loop part text size memory₀ page₀ out₀ player₀ i₀ memory page out player i =
+    (i ≤ length text) × (length memory ≡ length memory₀) × (length page ≡ length page₀) × (length out ≡ length out₀)
 
 abbrev μ-loop : tie.MeasureT-loop
-μ-loop part text size memory₀ identification₀ out₀ player₀ i₀ memory identification out player i = length text - i
+μ-loop part text size memory₀ page₀ out₀ player₀ i₀ memory page out player i = length text - i
 
 start-requires : tie.Need-start-requires Inv-loop μ-loop
 start-requires c κs = tt
@@ -40,6 +40,9 @@ loop-less c = omega arith
 loop-again : tie.Need-loop-again Inv-loop μ-loop
 loop-again c = omega arith
 
+ended-requires : tie.Need-ended-requires Inv-loop μ-loop
+ended-requires c κs = tt
+
 same-length : tie.Need-same-length Inv-loop μ-loop
 same-length c = omega arith
 
@@ -52,8 +55,8 @@ same-length-3 c = omega arith
 returns : tie.Need-returns Inv-loop μ-loop
 returns c = tt
 
-pub in-chunks-spec : {M : Type 1} → statement M
-in-chunks-spec =
+pub play-spec : {M : Type 1} → statement M
+play-spec =
     tie.close
     (tie.spec
     Inv-loop
@@ -67,6 +70,7 @@ in-chunks-spec =
     fed-requires
     loop-less
     loop-again
+    ended-requires
     same-length
     same-length-2
     same-length-3
