@@ -1,6 +1,7 @@
 // The memories and the identification pages: how a round fills them, and whether they are the same. Each array has the
 // cells of the largest part; a part is lent the first of them, as many as it has.
 ghost use Prim.Native.Nat.{_≤_};
+use crate::differing;
 use crate::run::CELLS;
 use crate::run::Run;
 use crate::run::count;
@@ -58,7 +59,7 @@ pub fn fill(memory: &mut Memory, patterned: bool) {
 pub fn memories(frame_side: &mut Memory, pin_side: &mut Memory, run: &mut Run) {
     let mut i: usize = 0;
     while i < MOST {
-        same_at(b"cell", i, frame_side[i], pin_side[i], run);
+        same_at(differing::CELL, i, frame_side[i], pin_side[i], run);
         i += 1;
     }
 }
@@ -67,7 +68,7 @@ pub fn memories(frame_side: &mut Memory, pin_side: &mut Memory, run: &mut Run) {
 pub fn pages(frame_side: Page, pin_side: Page, run: &mut Run) {
     let mut i: usize = 0;
     while i < ROOM {
-        same_at(b"identification cell", i, frame_side[i], pin_side[i], run);
+        same_at(differing::PAGE_CELL, i, frame_side[i], pin_side[i], run);
         i += 1;
     }
 }

@@ -1,4 +1,5 @@
 // What is compared of a frame: Q at each counted clock, then the records.
+use crate::differing;
 use crate::run::CLOCKS;
 use crate::run::DRIVEN;
 use crate::run::Run;
@@ -30,8 +31,8 @@ fn as_bit(q: u32) -> u8 {
 // Just before counted clock k: Q at the pins, 0, 1 or 2 for Z, against the bit that the frame model has there.
 pub fn clock(q: u32, bit: u8, k: usize, run: &mut Run) {
     let drives = (run[UNDRIVEN] <= k as u64) as u8;
-    same_at(b"Q at clock", k, bit, as_bit(q), run);
-    same_at(b"Q driven at clock", k, drives, (q < 2) as u8, run);
+    same_at(differing::Q, k, bit, as_bit(q), run);
+    same_at(differing::Q_DRIVEN, k, drives, (q < 2) as u8, run);
     count(CLOCKS, run);
     if q < 2 {
         count(DRIVEN, run);
@@ -46,13 +47,7 @@ pub fn padding(out: &[u8], bits: usize, run: &mut Run) {
         return;
     }
     if at < out.len() {
-        same_at(
-            b"output past the count, byte",
-            at,
-            out[at] & ones,
-            ones,
-            run,
-        );
+        same_at(differing::PAST_COUNT, at, out[at] & ones, ones, run);
     }
 }
 
@@ -60,7 +55,7 @@ fn latches(frame_side: Latch, pin_side: Latch, run: &mut Run) {
     let mut i: usize = 0;
     while i < ROOM {
         same_at(
-            b"latched byte",
+            differing::LATCHED,
             i,
             frame_side.bytes[i],
             pin_side.bytes[i],
@@ -75,35 +70,35 @@ fn latches(frame_side: Latch, pin_side: Latch, run: &mut Run) {
 }
 
 fn word(i: usize, frame_side: u64, pin_side: u64, run: &mut Run) {
-    same_at(b"word of marks", i, (frame_side == pin_side) as u8, 1, run);
+    same_at(differing::MARKS, i, (frame_side == pin_side) as u8, 1, run);
 }
 
 fn waits(frame_side: Waiting, pin_side: Waiting, run: &mut Run) {
     let a = frame_side.latch;
     let b = pin_side.latch;
-    same_at(b"what waits", 0, frame_side.kind, pin_side.kind, run);
+    same_at(differing::WAITS, 0, frame_side.kind, pin_side.kind, run);
     same_at(
-        b"status that waits",
+        differing::STATUS_WAITS,
         0,
         frame_side.status,
         pin_side.status,
         run,
     );
-    same(b"page that waits", frame_side.page, pin_side.page, run);
+    same(differing::PAGE_WAITS, frame_side.page, pin_side.page, run);
     latches(a, b, run);
 }
 
 // The cycle's times, the last reading and the number of blank cells.
 fn numbers(frame_side: Core, pin_side: Core, run: &mut Run) {
-    same(b"cycle length", frame_side.cycle, pin_side.cycle, run);
-    same(b"time left", frame_side.left, pin_side.left, run);
-    same(b"last reading", frame_side.last, pin_side.last, run);
-    same(b"blank cells", frame_side.blank, pin_side.blank, run);
+    same(differing::CYCLE, frame_side.cycle, pin_side.cycle, run);
+    same(differing::LEFT, frame_side.left, pin_side.left, run);
+    same(differing::LAST, frame_side.last, pin_side.last, run);
+    same(differing::BLANK, frame_side.blank, pin_side.blank, run);
 }
 
 fn parts(frame_side: Core, pin_side: Core, run: &mut Run) {
-    same_at(b"part", 0, frame_side.part, pin_side.part, run);
-    same_at(b"lock", 0, frame_side.lock, pin_side.lock, run);
+    same_at(differing::PART, 0, frame_side.part, pin_side.part, run);
+    same_at(differing::LOCK, 0, frame_side.lock, pin_side.lock, run);
 }
 
 // The whole core records: SRWD, BP1, BP0, WEL and WIP are the bits of the status byte.
@@ -112,7 +107,7 @@ pub fn records(frame_side: Core, pin_side: Device, run: &mut Run) {
     let a = frame_side.waits;
     let b = core.waits;
     same(
-        b"status byte",
+        differing::STATUS,
         wide(frame_side.status()),
         pin_side.status().value(),
         run,

@@ -8,6 +8,7 @@ use crate::chance::below;
 use crate::chance::percent;
 use crate::compared::bit_at;
 use crate::compared::clock;
+use crate::differing;
 use crate::run::CHANGES;
 use crate::run::LIVELY;
 use crate::run::PAUSES;
@@ -64,7 +65,7 @@ pub fn set(side: PinSide, pin: u64, high: bool, memory: &Memory, run: &mut Run) 
     let outcome = stepped.outcome;
     let device = stepped.device;
     let page = side.page;
-    same(b"number of a pin change", 0, outcome.number(), run);
+    same(differing::CHANGE, 0, outcome.number(), run);
     count(CHANGES, run);
     PinSide {
         device: device,
@@ -86,7 +87,7 @@ pub fn read_pins(side: PinSide, reading: u32, memory: &mut Memory, run: &mut Run
     let stepped = pins_timed(side.device, reading, memory, &mut page);
     let device = stepped.device;
     let outcome = stepped.outcome;
-    same(b"number of a reading", 0, outcome.number(), run);
+    same(differing::READING, 0, outcome.number(), run);
     PinSide {
         device: device,
         page: page,

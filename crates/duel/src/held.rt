@@ -1,7 +1,6 @@
 // Frames that are deselected in Hold. The frame model knows no Hold, so it is asked for the frame as if unheld: a WRITE
 // must leave the same, any other frame nothing.
-use crate::made::Bytes;
-use crate::made::address_in;
+use crate::made::Head;
 use crate::made::one_byte;
 use crate::run::HELD;
 use crate::run::HELD_BEGUN;
@@ -53,14 +52,14 @@ fn count_conditions(before: Core, address: u32, run: &mut Run) {
 }
 
 // A frame deselected in Hold; what it begins is the frame model's.
-pub fn count_held(before: Core, after: Core, bytes: &Bytes, bits: usize, run: &mut Run) {
+pub fn count_held(before: Core, after: Core, head: Head, run: &mut Run) {
     count(HELD, run);
-    if bytes[0] != WRITE {
+    if head.code != WRITE {
         return;
     }
     count(HELD_WRITES, run);
-    count_bits(before.part, bits, run);
-    count_conditions(before, address_in(before.part, bytes), run);
+    count_bits(before.part, head.bits, run);
+    count_conditions(before, head.address, run);
     if (before.left == 0) & (after.left > 0) {
         count(HELD_BEGUN, run);
     }

@@ -1,7 +1,6 @@
 // Frames with 82h and 83h: those to the lock by their count, those that the lock stops, and those that show the page or
 // the lock.
-use crate::made::Bytes;
-use crate::made::address_in;
+use crate::made::Head;
 use crate::made::one_byte;
 use crate::run::LOCK_32;
 use crate::run::LOCK_40;
@@ -54,16 +53,11 @@ fn count_wrid(before: Core, locks: bool, bits: usize, run: &mut Run) {
 }
 
 // A frame with so many leading bits undriven, from the record before it.
-pub fn count_identified(before: Core, bytes: &Bytes, bits: usize, undriven: usize, run: &mut Run) {
-    if (bytes[0] == WRID) & identified(before.part) {
-        count_wrid(
-            before,
-            picks_lock(address_in(before.part, bytes)),
-            bits,
-            run,
-        );
+pub fn count_identified(before: Core, head: Head, undriven: usize, run: &mut Run) {
+    if (head.code == WRID) & identified(before.part) {
+        count_wrid(before, picks_lock(head.address), head.bits, run);
     }
-    if (bytes[0] == RDID) & (undriven < bits) {
+    if (head.code == RDID) & (undriven < head.bits) {
         count(SHOWN, run);
     }
 }

@@ -206,12 +206,27 @@ fn put_address(part: u8, code: u8, bytes: &mut Bytes, run: &mut Run) {
 }
 
 // The address after the code, as the part takes it.
-pub fn address_in(part: u8, bytes: &Bytes) -> u32 {
+fn address_in(part: u8, bytes: &Bytes) -> u32 {
     let two = wide(bytes[1]) << 8 | wide(bytes[2]);
     if address_bytes_of(part) == 3 {
         return (two & 0x1ff) << 8 | wide(bytes[3]);
     }
     two
+}
+
+// What is counted of a frame: its instruction byte, its address and its count of bits.
+pub struct Head {
+    pub code: u8,
+    pub address: u32,
+    pub bits: usize,
+}
+
+pub fn head_in(part: u8, bytes: &Bytes, bits: usize) -> Head {
+    Head {
+        code: bytes[0],
+        address: address_in(part, bytes),
+        bits: bits,
+    }
 }
 
 // A frame's bytes, and how many: the instruction byte, an address, then any.

@@ -19,6 +19,7 @@ use crate::run::count;
 mod cells;
 mod chance;
 mod compared;
+mod differing;
 mod drawn;
 mod held;
 mod identified;

@@ -11,6 +11,7 @@ use crate::chance::percent;
 use crate::chance::word;
 use crate::compared::padding;
 use crate::compared::records;
+use crate::differing;
 use crate::drawn::PinSide;
 use crate::drawn::W;
 use crate::drawn::draw;
@@ -21,6 +22,7 @@ use crate::held::left_by;
 use crate::identified::count_identified;
 use crate::made;
 use crate::made::Bytes;
+use crate::made::Head;
 use crate::run::ACTS;
 use crate::run::CLEARED;
 use crate::run::DIFFERENCES;
@@ -46,6 +48,7 @@ use crate::run::count;
 use crate::run::same;
 use crate::schedules::Schedule;
 use crate::schedules::count_inside;
+use crate::schedules::falls;
 use crate::schedules::passing;
 use crate::schedules::scheduled;
 use chip::Core;
@@ -53,6 +56,7 @@ use chip::Timed;
 use codes::M95M01;
 use codes::M95512;
 use codes::M95512D;
+use codes::RDSR;
 use codes::WRITE;
 use codes::longest_of;
 use codes::page_of;
@@ -157,7 +161,7 @@ fn read_frames(side: FrameSide, reading: u32, memory: &mut Memory, run: &mut Run
     let timed = frames_timed(side.core, reading, memory, &mut page);
     let core = timed.core;
     let outcome = timed.outcome;
-    same(b"number of a reading", outcome.number(), 0, run);
+    same(differing::READING, outcome.number(), 0, run);
     FrameSide {
         core: core,
         page: page,
@@ -194,7 +198,7 @@ pub fn cells_alike(pair: Pair, frame_side: &mut Memory, pin_side: &mut Memory, r
     memories(frame_side, pin_side, run);
     pages(frame_page, pin_page, run);
     let scanned = blanks(frame_side, size_of(core.part));
-    same(b"blank cells, scanned", core.blank, scanned, run);
+    same(differing::SCANNED, core.blank, scanned, run);
 }
 
 // A clock reading for both.
@@ -369,7 +373,7 @@ fn meet(
 ) -> Pair {
     let answer = framed.answer;
     let core = framed.core;
-    same(b"number of a frame", answer.number(), 0, run);
+    same(differing::FRAME, answer.number(), 0, run);
     begin(core.part, bits, schedule.mode3, answer.undriven(), run);
     padding(out, bits, run);
     let drawn = draw(pair.pins, bytes, out, bits, schedule, pin_side, run);
@@ -381,6 +385,25 @@ fn meet(
         },
         w: pair.w,
         pins: drawn,
+    }
+}
+
+// A frame from a record, with what it leaves.
+fn count_sent(
+    before: Core,
+    framed: Framed,
+    schedule: Schedule,
+    head: Head,
+    saw: bool,
+    run: &mut Run,
+) {
+    let after = framed.core;
+    let answer = framed.answer;
+    count_begun(before, after, run);
+    count_identified(before, head, answer.undriven(), run);
+    count_inside(schedule, ended(before.left, after.left), saw, run);
+    if schedule.held {
+        count_held(before, after, head, run);
     }
 }
 
@@ -407,15 +430,10 @@ fn send_bits(
         bits,
         out,
     );
-    let reply = left_by(asked, core, schedule.held & (bytes[0] != WRITE));
-    let next = reply.core;
-    let answer = reply.answer;
-    count_begun(core, next, run);
-    count_identified(core, bytes, bits, answer.undriven(), run);
-    count_inside(schedule, ended(core.left, next.left), bytes, bits, out, run);
-    if schedule.held {
-        count_held(core, next, bytes, bits, run);
-    }
+    let head = made::head_in(core.part, bytes, bits);
+    let reply = left_by(asked, core, schedule.held & (head.code != WRITE));
+    let saw = (head.code == RDSR) & falls(out, bits);
+    count_sent(core, reply, schedule, head, saw, run);
     meet(pair, reply, page, schedule, pin_side, bytes, bits, out, run)
 }
 

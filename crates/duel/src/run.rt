@@ -135,14 +135,23 @@ fn say_where(round: u64, act: u64) {
     say(b"act", act);
 }
 
-fn say_what(what: &[u8], at: u64, frame_side: u64, pin_side: u64) {
-    say(what, at);
+// The labels are in the order of `differing`.
+fn say_what(what: usize, at: u64, frame_side: u64, pin_side: u64) {
+    row(
+        b"number of a reading number of a frame   number of a change  blank cells, scannedcell                \
+        identification cell Q at clock          Q driven at clock   output past count   latched byte        \
+        word of marks       what waits          status that waits   page that waits     cycle length        \
+        time left           last reading        blank cells         part                lock                \
+        status byte         ",
+        what,
+        at,
+    );
     say(b"the frame model's", frame_side);
     say(b"the pin model's", pin_side);
 }
 
 // The first difference is printed.
-fn differ(what: &[u8], at: u64, frame_side: u64, pin_side: u64, run: &mut Run) {
+fn differ(what: usize, at: u64, frame_side: u64, pin_side: u64, run: &mut Run) {
     if run[DIFFERENCES] == 0 {
         say_where(run[ROUNDS], run[ACTS]);
         say_what(what, at, frame_side, pin_side);
@@ -151,22 +160,22 @@ fn differ(what: &[u8], at: u64, frame_side: u64, pin_side: u64, run: &mut Run) {
 }
 
 // A bit or a byte of each model; `at` says which clock or cell it is.
-pub fn same_at(what: &[u8], at: usize, frame_side: u8, pin_side: u8, run: &mut Run) {
+pub fn same_at(what: usize, at: usize, frame_side: u8, pin_side: u8, run: &mut Run) {
     if frame_side != pin_side {
         differ(what, at as u64, frame_side as u64, pin_side as u64, run);
     }
 }
 
 // A number of each model.
-pub fn same(what: &[u8], frame_side: u32, pin_side: u32, run: &mut Run) {
+pub fn same(what: usize, frame_side: u32, pin_side: u32, run: &mut Run) {
     if frame_side != pin_side {
         differ(what, 0, frame_side as u64, pin_side as u64, run);
     }
 }
 
-// Row i of up to eight: its label has 20 characters.
+// Row i of up to 32: its label has 20 characters.
 fn row(labels: &[u8], i: usize, number: u64) {
-    let from = 20 * (i % 8);
+    let from = 20 * (i % 32);
     let to = from + 20;
     if to <= labels.len() {
         say(&labels[from..to], number);

@@ -5,7 +5,6 @@ use crate::chance::below;
 use crate::chance::percent;
 use crate::chance::word;
 use crate::compared::bit_at;
-use crate::made::Bytes;
 use crate::run::AT_END;
 use crate::run::AT_SAME;
 use crate::run::AT_START;
@@ -17,7 +16,6 @@ use crate::run::ROUND;
 use crate::run::Run;
 use crate::run::TIMED;
 use crate::run::count;
-use codes::RDSR;
 
 // The most readings that come inside a frame.
 pub const MANY: usize = 4;
@@ -174,7 +172,7 @@ pub fn is_due(schedule: Schedule, i: usize, k: usize, mode3: bool) -> bool
 }
 
 // WIP is 1 in the first status byte and 0 in the last whole one.
-fn falls(out: &[u8], bits: usize) -> bool {
+pub fn falls(out: &[u8], bits: usize) -> bool {
     let last = bits - bits % 8;
     if last < 24 {
         return false;
@@ -190,15 +188,8 @@ fn count_poll(mode3: bool, run: &mut Run) {
     }
 }
 
-// A frame with readings inside, and whether it met a cycle's end.
-pub fn count_inside(
-    schedule: Schedule,
-    ended: bool,
-    bytes: &Bytes,
-    bits: usize,
-    out: &[u8],
-    run: &mut Run,
-) {
+// A frame with readings inside, whether it met a cycle's end, and whether it is a poll that saw WIP fall.
+pub fn count_inside(schedule: Schedule, ended: bool, saw: bool, run: &mut Run) {
     if schedule.number == 0 {
         return;
     }
@@ -206,7 +197,7 @@ pub fn count_inside(
     if ended {
         count(ENDED_INSIDE, run);
     }
-    if (bytes[0] == RDSR) & falls(out, bits) {
+    if saw {
         count_poll(schedule.mode3, run);
     }
 }

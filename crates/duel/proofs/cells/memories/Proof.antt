@@ -5,16 +5,13 @@ use Rattle.duel.proofs.cells.memories.Statement.{statement}
 use Rattle.duel.proofs.cells.memories.Tie as tie
 
 abbrev Inv-loop : tie.InvT-loop
-Inv-loop frame_side pin_side run₀ i₀ t5 run i = i ≤ 131072
+Inv-loop frame_side pin_side run₀ i₀ run i = i ≤ 131072
 
 abbrev μ-loop : tie.MeasureT-loop
-μ-loop frame_side pin_side run₀ i₀ t5 run i = 131072 - i
+μ-loop frame_side pin_side run₀ i₀ run i = 131072 - i
 
 loop-holds : tie.Need-loop-holds Inv-loop μ-loop
 loop-holds c = search needs
-
-slice-aggregate-same-at : tie.Need-slice-aggregate-same-at Inv-loop μ-loop
-slice-aggregate-same-at c = search needs
 
 element-copy-out-same-at : tie.Need-element-copy-out-same-at Inv-loop μ-loop
 element-copy-out-same-at c = search needs
@@ -44,7 +41,6 @@ memories-spec =
     Inv-loop
     μ-loop
     loop-holds
-    slice-aggregate-same-at
     element-copy-out-same-at
     element-copy-out-same-at-2
     same-at-requires

@@ -5,16 +5,13 @@ use Rattle.duel.proofs.cells.pages.Statement.{statement}
 use Rattle.duel.proofs.cells.pages.Tie as tie
 
 abbrev Inv-loop : tie.InvT-loop
-Inv-loop run₀ frame-side pin-side i₀ t7 run i = i ≤ 256
+Inv-loop run₀ frame-side pin-side i₀ run i = i ≤ 256
 
 abbrev μ-loop : tie.MeasureT-loop
-μ-loop run₀ frame-side pin-side i₀ t7 run i = 256 - i
+μ-loop run₀ frame-side pin-side i₀ run i = 256 - i
 
 loop-holds : tie.Need-loop-holds Inv-loop μ-loop
 loop-holds c = search needs
-
-slice-aggregate-same-at : tie.Need-slice-aggregate-same-at Inv-loop μ-loop
-slice-aggregate-same-at c = search needs
 
 array-read-same-at : tie.Need-array-read-same-at Inv-loop μ-loop
 array-read-same-at c = search needs
@@ -44,7 +41,6 @@ pages-spec =
     Inv-loop
     μ-loop
     loop-holds
-    slice-aggregate-same-at
     array-read-same-at
     array-read-same-at-2
     same-at-requires

@@ -5,16 +5,13 @@ use Rattle.duel.proofs.compared.latches.Statement.{statement}
 use Rattle.duel.proofs.compared.latches.Tie as tie
 
 abbrev Inv-loop : tie.InvT-loop
-Inv-loop run₀ frame-side pin-side i₀ t7 run i = i ≤ 256
+Inv-loop run₀ frame-side pin-side i₀ run i = i ≤ 256
 
 abbrev μ-loop : tie.MeasureT-loop
-μ-loop run₀ frame-side pin-side i₀ t7 run i = 256 - i
+μ-loop run₀ frame-side pin-side i₀ run i = 256 - i
 
 loop-holds : tie.Need-loop-holds Inv-loop μ-loop
 loop-holds c = search needs
-
-slice-aggregate-same-at : tie.Need-slice-aggregate-same-at Inv-loop μ-loop
-slice-aggregate-same-at c = search needs
 
 element-copy-out-same-at : tie.Need-element-copy-out-same-at Inv-loop μ-loop
 element-copy-out-same-at c = search needs
@@ -80,7 +77,6 @@ latches-spec =
     Inv-loop
     μ-loop
     loop-holds
-    slice-aggregate-same-at
     element-copy-out-same-at
     element-copy-out-same-at-2
     same-at-requires
