@@ -1,5 +1,5 @@
 // A part with its memory and its identification page, handed about whole: what a frame, a clock reading and a driver
-// run make of it. A call is lent the memory's first cells, as many as the board says.
+// run make of it. A call is lent as many cells of the memory as the board says, and of the page as the part has.
 ghost use Prim.Native.Nat.{_≤_};
 use chip::Core;
 use chip::Timed;
@@ -14,6 +14,7 @@ use latch::ROOM;
 
 pub type Memory = [u8; LARGE_SIZE];
 
+// Of the memory the first `size` cells are lent.
 pub struct Board {
     pub core: Core,
     pub memory: Memory,
