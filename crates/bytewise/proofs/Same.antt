@@ -18,11 +18,11 @@ use Rattle.codes.specs.declared.Instruction.the-variants.{Wren, Wrdi, Rdsr, Wrs
 use Rattle.latch.specs.Latches.{zeros, noLatch, latchFits}
 use Rattle.latch.specs.declared.Latch.{Latch}
 use Rattle.latch.proofs.Fitting.{none-latched}
+use Rattle.blanks.specs.Blanks.{recounted}
 use Rattle.chip.specs.Lents.{Lent, lent}
 use Rattle.chip.specs.Records.{waitsPage, waitsIdentification, waitsStatus, withTime, withoutCycle}
 use Rattle.chip.specs.Ranges.{flagsFit, timeFits, tied, valueFits, pageFits, inRanges}
 use Rattle.chip.specs.Effects.{effect}
-use Rattle.chip.specs.Blanks.{recounted}
 use Rattle.chip.specs.Time.{ends, timed, timedCells, timedBlank}
 use Rattle.chip.specs.declared.Waiting.{Waiting}
 use Rattle.chip.specs.declared.Core.{Core}

@@ -13,10 +13,10 @@ use Rattle.codes.specs.declared.Instruction.{Instruction}
 use Rattle.codes.specs.declared.Instruction.the-variants.{Wren, Wrdi, Rdsr, Wrsr, Read, Write, Rdid}
 use Rattle.codes.specs.declared.Instruction.the-variants.{Wrid, Silence}
 use Rattle.latch.specs.Latches.{noLatch}
+use Rattle.blanks.specs.Blanks.{recounted}
 use Rattle.chip.specs.Lents.{Lent, lent}
 use Rattle.chip.specs.Records.{waitsPage, waitsIdentification, waitsLatch, withBlank}
 use Rattle.chip.specs.Ranges.{inRanges}
-use Rattle.chip.specs.Blanks.{recounted}
 use Rattle.chip.specs.Time.{ends, timed}
 use Rattle.chip.specs.declared.Waiting.{Waiting}
 use Rattle.chip.specs.declared.Core.{Core}

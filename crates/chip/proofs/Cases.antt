@@ -11,15 +11,16 @@ use Rattle.laws.specs.Pick.{pick-case}
 use Rattle.codes.specs.Part.{Part, partOf, isPart}
 use Rattle.codes.proofs.Parts.{of-each}
 use Rattle.codes.specs.Status.{bit}
+use Rattle.blanks.specs.Blanks.{blanks}
+use Rattle.blanks.proofs.Blanking.{blanks-most, all-blank}
 use Rattle.chip.specs.Records.{ownPart, running, status, idle}
 use Rattle.chip.specs.Ranges.{flagsFit, cycleFits}
 use Rattle.chip.specs.Time.{elapsed}
-use Rattle.chip.specs.Blanks.{blanks, Counted}
+use Rattle.chip.specs.Blanks.{Counted}
 use Rattle.chip.specs.Power.{quiet, delivered, unpowered, deliveredMemory, deliveredIdentification, poweredUp}
 use Rattle.chip.specs.declared.Core.{Core}
 use Rattle.chip.specs.declared.PoweredUp.{PoweredUp}
 use Rattle.chip.proofs.Within.{Within, quiet-within}
-use Rattle.chip.proofs.Blanking.{blanks-most, all-blank}
 
 -- e: SRWD, BP1, BP0 all 1, idle: 8Ch; with WEL 8Eh; in a cycle 8Fh
 pub record CaseE (c : Core) : Type 0 where

@@ -2,7 +2,6 @@
 pub mod Readings
 pub mod Within
 pub mod Passing
-pub mod Blanking
 pub mod Recounts
 pub mod Locking
 pub mod Plain

@@ -15,15 +15,16 @@ use Rattle.codes.specs.declared.Instruction.{Instruction}
 use Rattle.codes.specs.declared.Instruction.the-variants.{Wren, Wrdi, Rdsr, Wrsr, Read, Write, Rdid, Wrid, Silence}
 use Rattle.latch.specs.declared.Latch.{Latch}
 use Rattle.latch.proofs.Stores.{stored-length}
+use Rattle.blanks.specs.Blanks.{blanks, recounted}
+use Rattle.blanks.proofs.Blanking.{held-most, right-recounted}
 use Rattle.chip.specs.Records.{waitsPage, waitsStatus, waitsLock, withStatus, withLock, withTime, withBlank, withoutCycle}
 use Rattle.chip.specs.Ranges.{flagsFit, timeFits, tied, waitFits, inRanges}
-use Rattle.chip.specs.Blanks.{blanks, recounted, Counted, EqualBut}
+use Rattle.chip.specs.Blanks.{Counted, EqualBut}
 use Rattle.chip.specs.Effects.{effect}
 use Rattle.chip.specs.Time.{elapsed, ends, ended, endedBlank, endedCells, timed, timedCells, timedMemory, timedBlank, timedIn}
 use Rattle.chip.specs.declared.Waiting.{Waiting}
 use Rattle.chip.specs.declared.Core.{Core}
 use Rattle.chip.proofs.Within.{Within}
-use Rattle.chip.proofs.Blanking.{held-most, right-recounted}
 use Rattle.chip.proofs.Passing.{timed-within, on-core}
 
 -- ---- its range

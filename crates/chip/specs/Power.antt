@@ -6,9 +6,9 @@ use lib.ListN.{length, replicate}
 use lib.Dec.{eqb}
 use Rattle.laws.specs.Pick.{pick}
 use Rattle.codes.specs.Part.{Part, partOf, isPart}
+use Rattle.blanks.specs.Blanks.{blanks}
 use Rattle.chip.specs.Records.{idle}
 use Rattle.chip.specs.Ranges.{cycleFits}
-use Rattle.chip.specs.Blanks.{blanks}
 use Rattle.chip.specs.declared.Core.{Core}
 use Rattle.chip.specs.declared.PoweredUp.{PoweredUp}
 use Rattle.codes.specs.declared.Refusal.{Refusal}

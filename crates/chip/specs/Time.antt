@@ -7,9 +7,9 @@ use lib.Dec.{leb, eqb}
 use Rattle.laws.specs.Pick.{pick}
 use Rattle.codes.specs.Part.{Part}
 use Rattle.latch.specs.Latches.{stored}
+use Rattle.blanks.specs.Blanks.{recounted}
 use Rattle.chip.specs.Records.{running, waitsStatus, waitsPage, waitsIdentification, waitsLock}
 use Rattle.chip.specs.Records.{withStatus, withLock, withTime, withBlank, withoutCycle}
-use Rattle.chip.specs.Blanks.{recounted}
 use Rattle.chip.specs.Ranges.{inRanges}
 use Rattle.codes.specs.Refusals.{isDone}
 use Rattle.chip.specs.declared.Waiting.{Waiting}

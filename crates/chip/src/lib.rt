@@ -8,7 +8,7 @@ use codes::Refusal;
 use latch::Latch;
 
 mod answers;
-mod blanks;
+mod counted;
 mod counting;
 mod effects;
 mod power;

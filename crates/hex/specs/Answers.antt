@@ -9,9 +9,9 @@ use Rattle.laws.specs.Pick.{pick}
 use Rattle.codes.specs.Part.{Part}
 use Rattle.codes.specs.Refusals.{refusalNumber}
 use Rattle.codes.specs.declared.Refusal.the-variants.{MemoryLength, RecordRange, OutputLength}
+use Rattle.blanks.specs.Blanks.{blanks}
 use Rattle.chip.specs.declared.Core.{Core}
 use Rattle.chip.specs.Records.{ownPart, running, withBlank}
-use Rattle.chip.specs.Blanks.{blanks}
 use Rattle.chip.specs.Ranges.{inRanges}
 use Rattle.hex.specs.declared.HexReply.{HexReply}
 use Rattle.hex.specs.declared.HexReply.the-variants.{Done, NotTaken, Refused}

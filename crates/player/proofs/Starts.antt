@@ -7,8 +7,9 @@ use borrow.Author.Tests.{eq-eqb}
 use Rattle.laws.specs.Pick.{pick-case, at-yes}
 use Rattle.codes.specs.Part.{partOf, isPart}
 use Rattle.codes.proofs.Parts.{row-plain, row-none}
+use Rattle.blanks.specs.Blanks.{blanks}
 use Rattle.chip.specs.Records.{ownPart}
-use Rattle.chip.specs.Blanks.{blanks, Counted}
+use Rattle.chip.specs.Blanks.{Counted}
 use Rattle.chip.specs.Power.{quiet, delivered, deliveredMemory, poweredUp}
 use Rattle.chip.specs.declared.Core.{Core}
 use Rattle.chip.specs.declared.PoweredUp.{PoweredUp}

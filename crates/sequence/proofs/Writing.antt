@@ -11,13 +11,13 @@ use borrow.Author.Tests.{lt-ltb, le-ltb, le-leb, eq-eqb}
 use Rattle.laws.specs.Pick.{pick, at-yes, and-both}
 use Rattle.codes.specs.Part.{Part}
 use Rattle.codes.specs.Status.{on}
+use Rattle.blanks.specs.Blanks.{recounted}
 use Rattle.chip.specs.Questions.{protects}
 use Rattle.latch.specs.Latches.{stored}
 use Rattle.chip.specs.Records.{running, waitsPage, waitsIdentification, pageWaits, withWel, withTime, withBlank, withCycle, withoutCycle}
 use Rattle.codes.specs.Instructions.{decode, countFits, writeBits}
 use Rattle.codes.specs.Verdicts.{isExecuted, verdictBy}
 use Rattle.chip.specs.Time.{ended, endedCells, endedBlank}
-use Rattle.chip.specs.Blanks.{recounted}
 use Rattle.latch.specs.declared.Latch.{Latch}
 use Rattle.chip.specs.declared.Core.{Core}
 use Rattle.codes.specs.declared.Count.the-variants.{WholeBytes}

@@ -15,11 +15,11 @@ use Rattle.codes.specs.Part.{Part}
 use Rattle.latch.specs.Latches.{laidAt, stored}
 use Rattle.latch.specs.declared.Latch.{Latch}
 use Rattle.latch.proofs.Stores.{stored-at, stored-length, in-page}
+use Rattle.blanks.specs.Blanks.{blankAt, blanksIn, heldWithin, recounted}
+use Rattle.blanks.proofs.Blanking.{page-recounted}
 use Rattle.chip.specs.Records.{waitsPage}
-use Rattle.chip.specs.Blanks.{blankAt, blanksIn, heldWithin, recounted}
 use Rattle.chip.specs.Time.{ends, timedBlank}
 use Rattle.chip.specs.declared.Core.{Core}
-use Rattle.chip.proofs.Blanking.{page-recounted}
 
 module _ (P : Part) (p k : ℕ) (fits : p * P .page + P .page ≤ k) where
   on-page : (m : List ℕ) → length m ≡ k → blanksIn P p m ≡ count (λ i. blankAt m (p * P .page + i)) (P .page)

@@ -9,10 +9,11 @@ use lib.ListN.{length}
 use Rattle.laws.specs.Pick.{pick}
 use Rattle.codes.specs.Part.{Part}
 use Rattle.codes.specs.declared.Refusal.the-variants.{MemoryLength, RecordRange, OutputLength}
+use Rattle.blanks.specs.Blanks.{blanks}
 use Rattle.chip.specs.Lents.{Lent}
 use Rattle.chip.specs.Records.{ownPart, withBlank}
 use Rattle.chip.specs.Ranges.{inRanges}
-use Rattle.chip.specs.Blanks.{blanks, EqualBut}
+use Rattle.chip.specs.Blanks.{EqualBut}
 use Rattle.chip.specs.Time.{lentFits}
 use Rattle.chip.specs.declared.Core.{Core}
 use Rattle.hex.specs.declared.HexReply.the-variants.{Done, NotTaken, Refused}

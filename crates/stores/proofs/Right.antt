@@ -16,12 +16,13 @@ use Rattle.codes.specs.Instructions.{decode}
 use Rattle.codes.specs.declared.Outcome.{Outcome}
 use Rattle.codes.specs.declared.Outcome.the-variants as outcome
 use Rattle.codes.specs.declared.Refusal.the-variants.{MemoryLength, RecordRange, OutputLength, CycleLength}
+use Rattle.blanks.specs.Blanks.{blanks}
 use Rattle.chip.specs.declared.Core.{Core}
 use Rattle.chip.specs.declared.PoweredUp.{PoweredUp}
 use Rattle.chip.specs.Lents.{Lent, lent}
 use Rattle.chip.specs.Records.{ownPart, running, waitsPage, withBlank, idle}
 use Rattle.chip.specs.Ranges.{inRanges, cycleFits}
-use Rattle.chip.specs.Blanks.{blanks, Counted, counted}
+use Rattle.chip.specs.Blanks.{Counted, counted}
 use Rattle.chip.specs.Power.{poweredUp, powerUpNumber, unpowered, notPowered}
 use Rattle.chip.specs.Time.{lentFits, readingOutcome, clockReading, clockMemory, timedIn, timedMemory}
 use Rattle.chip.proofs.Passing.{timed-length}

@@ -1,46 +1,26 @@
-use Prim.Native.Nat.{ℕ, _+_, _-_}
-use mathlib.Core.Path.{refl, ap, ap₂, sym, _∙_}
+-- Where a page waits, what it leaves is what is stored.
+use mathlib.Core.Path.{refl, ap, sym, _∙_}
 use borrow.Author.Tests.{eq-eqb}
 use Rattle.laws.specs.Pick.{eq-so, ne-so, at-yes}
+use Rattle.blanks.specs.Blanks.{recounted}
 use Rattle.chip.specs.Records.{ownPart}
-use Rattle.chip.specs.Blanks.{blanksIn, heldWithin, recounted}
-use Rattle.chip.proofs.Blanking.{page-recounted}
 use borrow.Author.Needs.{needs}
 use Rattle.chip.proofs.Core.store_page.Statement.{statement}
 use Rattle.chip.proofs.Core.store_page.Tie as tie
 
-blanks-in-requires : tie.Need-blanks-in-requires
-blanks-in-requires c κs = search needs
-
-store-requires : tie.Need-store-requires
-store-requires c κs = search needs
-
-blanks-in-requires-2 : tie.Need-blanks-in-requires-2
-blanks-in-requires-2 c κs = search needs
-
-held-within-requires : tie.Need-held-within-requires
-held-within-requires c κs = search needs
+store-counting-requires : tie.Need-store-counting-requires
+store-counting-requires c κs = search needs
 
 same-length : tie.Need-same-length
 same-length c = search needs
 
 returns : tie.Need-returns
 returns c =
-    let a = c .before .before .before .before .before .before .before .before .before .before .before .before .before .args in
-    let P = ownPart (a .self) in
-    let p = a .self .waits .page in
-    let m = a .memory .now in
-    let e = c .before .before .before .before .before .store .ensures in
-    let before = c .before .before .before .before .before .before .before .blanks-in .ensures in
-    let after = c .before .blanks-in2 .ensures ∙ ap (blanksIn P p) e in
-    let yes = c .before .before .before .before .before .before .before .before .before .if1 .taken in (
-      eq-so _ yes
-          (c .held-within .ensures
-          ∙ ap₂ (λ (n k : ℕ). heldWithin (P .size) (a .self .blank + n - k)) after before
-          ∙ page-recounted P p (a .self .waits .latch) m (a .self .blank)
-          ∙ ap (recounted P (a .self .blank) m) (sym (at-yes _ _ (eq-eqb _ _ yes)))),
-      eq-so _ yes e,
-    )
+    let a = c .before .before .before .before .before .before .before .before .args in
+    let yes = c .before .before .before .before .if1 .taken in
+    let e = c .before .before .store-counting .ensures in
+    let kept = sym (at-yes _ _ (eq-eqb _ _ yes)) in
+    (eq-so _ yes (e .0 ∙ ap (recounted (ownPart (a .self)) (a .self .blank) (a .memory .now)) kept), eq-so _ yes (e .1))
 
 returns-2 : tie.Need-returns-2
 returns-2 c = (ne-so _ (c .if1 .left) refl, ne-so _ (c .if1 .left) refl)
@@ -49,10 +29,7 @@ pub store-page-spec : {M : Type 1} → statement M
 store-page-spec =
     tie.close
     (tie.spec
-    blanks-in-requires
-    store-requires
-    blanks-in-requires-2
-    held-within-requires
+    store-counting-requires
     same-length
     returns
     returns-2)

@@ -1,5 +1,10 @@
+use Prim.Native.Nat.{_≤_}
 use mathlib.Core.Path.{refl, sym, _∙_}
+use native.Mathlib.Omega.{arith}
+use lib.ListN.{length}
 use Rattle.laws.specs.Pick.{eq-so, ne-so, call-yes, call-no}
+use Rattle.codes.specs.Part.{roomCells}
+use Rattle.blanks.proofs.Blanking.{blanks-of}
 use Rattle.chip.proofs.Numbers.{powered}
 use borrow.Author.Needs.{needs}
 use Rattle.chip.proofs.power.power_up.Statement.{statement}
@@ -23,10 +28,14 @@ idle-requires c κs = search needs
 returns : tie.Need-returns
 returns c =
     let a = c .before .before .before .before .before .before .before .before .before .args in
+    let long = c .before .before .before .before .before .before .if1 .taken in
+    let size = c .before .before .before .before .before .before .before .size-of .ensures in
+    let fits : length (a .memory .now) ≤ roomCells = omega (arith, long, size .1 .1) in
+    let scanned = c .before .blanks .ensures ∙ blanks-of (a .memory .now) fits in
     powered (a .part) (a .lock) (a .cycle) (a .srwd) (a .bp1) (a .bp0) (a .reading) (a .memory .now)
-    (eq-so _ (c .before .before .before .before .before .before .if1 .taken ∙ c .before .before .before .before .before .before .before .size-of .ensures .0)
+    (eq-so _ (long ∙ size .0)
     (call-yes _ (c .before .before .before .before .before .is-part .ensures) (c .before .before .before .before .if2 .taken)
-    (call-yes _ (c .before .before .before .cycle-fits .ensures) (c .before .before .if3 .taken) (rw (c .idle .ensures, c .before .blanks .ensures) refl))))
+    (call-yes _ (c .before .before .before .cycle-fits .ensures) (c .before .before .if3 .taken) (rw (c .idle .ensures, scanned) refl))))
 
 not-powered-requires : tie.Need-not-powered-requires
 not-powered-requires c κs = search needs

@@ -7,9 +7,10 @@ use lib.ListN.{length}
 use borrow.Author.Tests.{eqb-true, eq-eqb}
 use Rattle.laws.specs.Pick.{pick, arms, eq-so, yes-so, at-yes, pick-ap, and-no-left}
 use Rattle.codes.specs.Part.{Part, m95512}
+use Rattle.blanks.specs.Blanks.{blanks}
 use Rattle.chip.specs.declared.Core.{Core}
 use Rattle.chip.specs.Records.{ownPart, running, withBlank}
-use Rattle.chip.specs.Blanks.{blanks, counted}
+use Rattle.chip.specs.Blanks.{counted}
 use Rattle.hex.specs.Reading.{isGood}
 use Rattle.hex.specs.declared.Imported.{Imported}
 use Rattle.hex.specs.declared.HexReply.the-variants.{Done, NotTaken}

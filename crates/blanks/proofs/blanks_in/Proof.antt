@@ -5,10 +5,10 @@ use native.Mathlib.Omega.{arith}
 use lib.ListN.{length, take, drop}
 use Rattle.laws.specs.Pick.{le-so, gt-so}
 use Rattle.codes.specs.Part.{partOf}
-use Rattle.chip.specs.Blanks.{blanks}
+use Rattle.blanks.specs.Blanks.{blanks}
 use borrow.Author.Needs.{needs}
-use Rattle.chip.proofs.blanks.blanks_in.Statement.{statement}
-use Rattle.chip.proofs.blanks.blanks_in.Tie as tie
+use Rattle.blanks.proofs.blanks_in.Statement.{statement}
+use Rattle.blanks.proofs.blanks_in.Tie as tie
 
 page-of-requires : tie.Need-page-of-requires
 page-of-requires c κs = search needs
@@ -19,17 +19,17 @@ mul-start c = omega (arith, mul-le-mul-left (c .before .before .args .page) (c .
 add-end : tie.Need-add-end
 add-end c = omega (arith, mul-le-mul-left (c .before .before .args .page) (c .page-of .ensures .1 .1))
 
-sub-blanks : tie.Need-sub-blanks
-sub-blanks c = search needs
+sub-scan : tie.Need-sub-scan
+sub-scan c = search needs
 
-part-blanks-start : tie.Need-part-blanks-start
-part-blanks-start c = search needs
+part-scan-start : tie.Need-part-scan-start
+part-scan-start c = search needs
 
-part-blanks-end : tie.Need-part-blanks-end
-part-blanks-end c = search needs
+part-scan-end : tie.Need-part-scan-end
+part-scan-end c = search needs
 
-blanks-requires : tie.Need-blanks-requires
-blanks-requires c κs = search needs
+scan-requires : tie.Need-scan-requires
+scan-requires c κs = search needs
 
 returns : tie.Need-returns
 returns c =
@@ -37,7 +37,7 @@ returns c =
     let P = partOf (a .part) in
     let e = c .before .before .before .page-of .ensures .0 in
     let fits : a .page * P .page + P .page ≤ length (a .memory .now) = rw (← e) (omega arith) in
-    le-so _ fits (rw (c .blanks .ensures, e, add-sub-cancel-left (a .page * P .page) (P .page)) refl)
+    le-so _ fits (rw (c .scan .ensures, e, add-sub-cancel-left (a .page * P .page) (P .page)) refl)
 
 returns-2 : tie.Need-returns-2
 returns-2 c =
@@ -54,9 +54,9 @@ blanks-in-spec =
     page-of-requires
     mul-start
     add-end
-    sub-blanks
-    part-blanks-start
-    part-blanks-end
-    blanks-requires
+    sub-scan
+    part-scan-start
+    part-scan-end
+    scan-requires
     returns
     returns-2)

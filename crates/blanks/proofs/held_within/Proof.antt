@@ -4,8 +4,8 @@ use native.Mathlib.Omega.{arith}
 use Rattle.laws.specs.Pick.{le-so, gt-so}
 use Rattle.codes.specs.Part.{partOf}
 use borrow.Author.Needs.{needs}
-use Rattle.chip.proofs.blanks.held_within.Statement.{statement}
-use Rattle.chip.proofs.blanks.held_within.Tie as tie
+use Rattle.blanks.proofs.held_within.Statement.{statement}
+use Rattle.blanks.proofs.held_within.Tie as tie
 
 size-of-requires : tie.Need-size-of-requires
 size-of-requires c κs = search needs

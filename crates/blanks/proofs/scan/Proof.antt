@@ -7,10 +7,10 @@ use native.Mathlib.Omega.{arith}
 use lib.ListN.{length}
 use Rattle.laws.specs.Count.{count, count-le}
 use Rattle.laws.specs.Flags.{bit-small, byte-bit}
-use Rattle.chip.specs.Blanks.{blankAt}
+use Rattle.blanks.specs.Blanks.{blankAt}
 use borrow.Author.Needs.{needs}
-use Rattle.chip.proofs.blanks.blanks.Statement.{statement}
-use Rattle.chip.proofs.blanks.blanks.Tie as tie
+use Rattle.blanks.proofs.scan.Statement.{statement}
+use Rattle.blanks.proofs.scan.Tie as tie
 
 abbrev Inv-loop : tie.InvT-loop
 Inv-loop cells n₀ i₀ i-end n i = (i ≤ length cells) × (i-end ≡ length cells) × (n ≡ count (blankAt cells) i)
@@ -53,8 +53,8 @@ returns c =
     let all : l .i ≡ length cells = le-antisymm (l .inv .0) (omega (arith, l .inv .1, c .loop-test .left)) in
     l .inv .2 ∙ ap (count (blankAt cells)) all
 
-pub blanks-spec : {M : Type 1} → statement M
-blanks-spec =
+pub scan-spec : {M : Type 1} → statement M
+scan-spec =
     tie.close
     (tie.spec
     Inv-loop

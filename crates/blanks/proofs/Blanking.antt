@@ -2,7 +2,6 @@
 -- right number moves to the right one.
 use mathlib.Core.Path.{_≡_, refl, ap, sym, _∙_}
 use mathlib.Core.List.{List}
-use mathlib.Core.Bool.{Bool, true, false}
 use Prim.Native.Nat.{ℕ, _+_, _-_, _*_, _<_, _≤_}
 use native.Mathlib.Decide.{decLe}
 use native.Mathlib.Omega.{arith}
@@ -10,17 +9,21 @@ use lib.ListN.{length, take, drop, getD, replicate, length-drop, length-replicat
 use lib.Seq.{length-take-le, getD-take, getD-drop}
 use lib.Dec.{eqb, leb}
 use borrow.Author.Tests.{le-leb, lt-leb, leb-true, eq-eqb}
-use Rattle.laws.specs.Pick.{pick, at-yes, at-no}
+use Rattle.laws.specs.Pick.{pick-case, at-yes, at-no}
 use Rattle.laws.specs.Count.{count, count-add, count-cong, count-le, count-all, count-exchange}
-use Rattle.codes.specs.Part.{Part}
+use Rattle.codes.specs.Part.{Part, roomCells}
 use Rattle.latch.specs.Latches.{stored, storedAt}
 use Rattle.latch.specs.declared.Latch.{Latch}
 use Rattle.latch.proofs.Stores.{stored-at, stored-none, stored-length, before-page, after-page}
-use Rattle.chip.specs.Blanks.{blankAt, blanks, blanksIn, gained, lost, heldWithin, recounted}
+use Rattle.blanks.specs.Blanks.{blankAt, blanks, blanksOf, blanksIn, gained, lost, heldWithin, recounted}
 
 -- no more than there are cells
 pub blanks-most : (m : List ℕ) → blanks m ≤ length m
 blanks-most m = count-le (blankAt m) (length m)
+
+-- the call's answer is the scan, of every memory that a part has
+pub blanks-of : (m : List ℕ) → length m ≤ roomCells → blanksOf m ≡ blanks m
+blanks-of m h = at-yes (blanks m) 0 (le-leb (length m) roomCells h)
 
 -- of FFh alone all are
 pub all-blank : (n : ℕ) → blanks (replicate n 0xff) ≡ n
@@ -31,14 +34,10 @@ all-blank n =
 -- ---- held within the size
 
 pub held-most : (size n : ℕ) → heldWithin size n ≤ size
-held-most size n = go (leb n size) refl
-  where
-    go : (b : Bool) → leb n size ≡ b → heldWithin size n ≤ size
-    go true e = rw (at-yes {t = leb n size} n size e) (leb-true n size e)
-    go false e = rw (at-no {t = leb n size} n size e) (omega arith)
+held-most size n = pick-case (λ (x : ℕ). x ≤ size) (leb n size) (leb-true n size) (λ e. omega arith)
 
 pub held-same : (size n : ℕ) → n ≤ size → heldWithin size n ≡ n
-held-same size n h = at-yes n size (le-leb n size h)
+held-same size n h = at-yes n _ (le-leb n size h)
 
 -- ---- from one memory to another of its length
 

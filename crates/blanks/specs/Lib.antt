@@ -1,0 +1,2 @@
+-- The number of blank cells of a memory.
+pub mod Blanks
