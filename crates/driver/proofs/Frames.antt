@@ -13,14 +13,15 @@ use Rattle.laws.specs.Spliced.{spliced, spliced-length}
 use Rattle.laws.specs.Filled.{copied}
 use Rattle.codes.specs.Part.{Part}
 use Rattle.chip.specs.Records.{running}
-use Rattle.chip.specs.Ranges.{inRanges}
 use Rattle.codes.specs.Refusals.{isDone}
-use Rattle.chip.specs.Time.{lentFits}
+use Rattle.chip.proofs.Readings.{lent-both}
 use Rattle.chip.specs.declared.Core.{Core}
 use Rattle.fields.specs.Counts.{bitsFit, longestFrame}
 use Rattle.frames.proofs.Outcomes.{accepted}
 use Rattle.frames.specs.After.{after}
 use Rattle.frames.specs.Answers.{framed}
+use Rattle.frames.specs.Play.{frameBench}
+use Rattle.sequence.specs.Ready.{Ready}
 
 -- the first n of a list that has them
 pub part-length : (l : List ℕ) (k n : ℕ) → k ≡ n → n ≤ length l → length (take k l) ≡ n
@@ -59,11 +60,11 @@ whole-fits len = elim (ℕ-discrete len 0) [
       sym (ne-so _ h (sym (and-both _ _ (le-leb _ _ low) (le-leb _ _ high))))
 ]
 
-module _ (P : Part) (c : Core) (m i s : List ℕ) (fits : lentFits P (length m) (length i) ≡ true) (ranges : inRanges P c ≡ true)
-    (short : length s ≤ longestFrame P) where
+module _ (P : Part) (c : Core) (m i s : List ℕ) (ready : Ready P (frameBench c m i)) (short : length s ≤ longestFrame P) where
   -- what it leaves
   pub sent-core : (room : ℕ) → room ≡ length s
       → framed P c m i true s (8 * length s) room .core ≡ after P (running c) true c s (8 * length s)
   unfolding framed
   sent-core room e =
-      at-yes _ _ (ap isDone (accepted P c (length m) (length i) (length s) (8 * length s) room fits ranges short (whole-fits (length s)) e))
+      let fits = lent-both P (length m) (length i) (ready .whole) (ready .page) in
+      at-yes _ _ (ap isDone (accepted P c (length m) (length i) (length s) (8 * length s) room fits (ready .ranges) short (whole-fits (length s)) e))

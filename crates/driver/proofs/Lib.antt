@@ -3,6 +3,7 @@
 pub mod Heads
 pub mod Frames
 pub mod Left
+pub mod Moved
 pub mod Told
 pub mod Ended
 pub mod Drives

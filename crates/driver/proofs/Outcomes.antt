@@ -1,6 +1,5 @@
 -- What it says of an input that it is not refused, document 01's number and counts of each answer, and what is handed back.
 use mathlib.Core.Path.{_≡_, refl, ap, sym, _∙_}
-use mathlib.Core.Bool.{true}
 use mathlib.Core.List.{List}
 use Prim.Native.Nat.{ℕ, _+_, _-_, _≤_}
 use native.Mathlib.Decide.{decLe}
@@ -20,7 +19,8 @@ use Rattle.codes.specs.declared.Refusal.the-variants.{MemoryLength, RecordRange
 use Rattle.codes.specs.declared.Outcome.{Outcome}
 use Rattle.codes.specs.declared.Outcome.the-variants as outcome
 use Rattle.frames.proofs.Outcomes.{not-refused}
-use Rattle.frames.specs.Play.{FrameBench, actedAll, frameBench}
+use Rattle.frames.specs.Play.{FrameBench, frameBench}
+use Rattle.sequence.specs.Ready.{Ready}
 use Rattle.driver.specs.declared.Sent.{Sent}
 use Rattle.driver.specs.declared.RunReply.{RunReply}
 use Rattle.driver.specs.declared.RunReply.the-variants.{Refused}
@@ -28,7 +28,7 @@ use Rattle.driver.specs.declared.Driven.{Driven}
 use Rattle.sequence.specs.Sequence.{Ending, allDone, timedOut, protected, endingNumber, Run, run}
 use Rattle.driver.specs.Answers.{runReplyNumber, runReplyPages, runReplyFrames, endingAnswer, runAnswer, pollsFit}
 use Rattle.driver.specs.Answers.{driveChoice, driveOutcome, driveNumber, drivePages, driveFrames, runReply}
-use Rattle.driver.specs.Answers.{driven, drivenMemory, drivenIdentification}
+use Rattle.driver.specs.Answers.{LimitFits, Drove, driven, drivenMemory, drivenIdentification}
 
 -- the test that makes no sum
 pub fits-either : (a n m : ℕ) → n ≤ m → leb a (m - n) ≡ leb (a + n) m
@@ -37,17 +37,16 @@ fits-either a n m h = elim (decLe (a + n) m) [
   | no f ↦ lt-leb a (m - n) (omega arith) ∙ sym (lt-leb (a + n) m (omega arith))
 ]
 
-pub record Taken (P : Part) (c : Core) (size cells a len interval limit : ℕ) : Type 0 where
-  pub whole : size ≡ P .size
-  pub page : cells ≡ P .page
-  pub ranges : inRanges P c ≡ true
+pub record Taken (P : Part) (d : FrameBench) (a len interval limit : ℕ) : Type 0 where
+  pub ready : Ready P d
   pub inside : a + len ≤ P .size
   pub interval-some : 1 ≤ interval
   pub interval-most : interval ≤ P .longest
-  pub limits : (1 ≤ limit) × (limit ≤ P .longest + 1)
+  pub limits : LimitFits P limit
 
-module _ (P : Part) (c : Core) (size cells a len interval limit : ℕ) where
-  pub taken : {o : Outcome} → o ≡ driveOutcome P c size cells a len interval limit → o ≡ outcome.Done → Taken P c size cells a len interval limit
+module _ (P : Part) (c : Core) (m i : List ℕ) (a len interval limit : ℕ) where
+  pub taken : {o : Outcome} → o ≡ driveOutcome P c (length m) (length i) a len interval limit → o ≡ outcome.Done
+      → Taken P (frameBench c m i) a len interval limit
   taken found done =
       let memory = not-refused _ _ MemoryLength (sym found ∙ done) in
       let ranges = not-refused _ _ RecordRange (memory .1) in
@@ -55,9 +54,7 @@ module _ (P : Part) (c : Core) (size cells a len interval limit : ℕ) where
       let polls = not-refused _ _ PollRange (address .1) in
       let four = and-4-out (leb 1 interval) (leb interval (P .longest)) (leb 1 limit) (leb limit (P .longest + 1)) (polls .0) in
       record {
-        whole = lent-memory P size cells (memory .0);
-        page = lent-identification P size cells (memory .0);
-        ranges = ranges .0;
+        ready = record { whole = lent-memory P _ _ (memory .0); page = lent-identification P _ _ (memory .0); ranges = ranges .0 };
         inside = leb-true _ _ (address .0);
         interval-some = leb-true _ _ (four .0);
         interval-most = leb-true _ _ (four .1 .0);
@@ -131,12 +128,11 @@ module _ (P : Part) (c : Core) (m i : List ℕ) (a : ℕ) (bytes : List ℕ) (in
   frames o e = by runReplyFrames o e (ending-frames (whole .ending) _)
 
   pub drove : (r : Driven) (m′ i′ : List ℕ) {o : Outcome} → o ≡ driveOutcome P c (length m) (length i) a (length bytes) interval limit → o ≡ outcome.Done
-      → r ≡ record { answer = runAnswer whole; core = actedAll P (whole .acts) began .core } → m′ ≡ actedAll P (whole .acts) began .memory
-      → i′ ≡ actedAll P (whole .acts) began .identification → HandsBack r m′ i′
+      → Drove P runAnswer (run P interval limit a bytes) began r m′ i′ → HandsBack r m′ i′
   unfolding driven drivenMemory drivenIdentification pick
-  drove r m′ i′ found done p q u =
+  drove r m′ i′ found done told =
       let e = sym found ∙ done in
-      rw (p, q, u) (rw e, (numbers outcome.Done e, (pages outcome.Done e, (frames outcome.Done e, (rw e, rw e)))))
+      rw (told .0, told .1 .0, told .1 .1) (rw e, (numbers outcome.Done e, (pages outcome.Done e, (frames outcome.Done e, (rw e, rw e)))))
 
   pub refused : (n : Refusal) {o : Outcome} → o ≡ driveOutcome P c (length m) (length i) a (length bytes) interval limit → o ≡ outcome.Refused n
       → HandsBack (record { answer = Refused n; core = c }) m i

@@ -1,6 +1,7 @@
 -- The public call, for every input: the refusals in their order, the answer with its counts, the record, the memory and
 -- the identification page.
-use Prim.Native.Nat.{ℕ, _+_}
+use Prim.Native.Nat.{ℕ, _+_, _≤_}
+use mathlib.Core.Path.{_≡_}
 use mathlib.Core.Bool.{Bool, _&&_}
 use mathlib.Core.List.{List}
 use lib.ListN.{length}
@@ -66,6 +67,10 @@ partsAnswer before r = countedAnswer (before + sent (r .acts)) r
 abbrev pub pollsFit : Part → ℕ → ℕ → Bool
 pollsFit P interval limit = leb 1 interval && leb interval (P .longest) && leb 1 limit && leb limit (P .longest + 1)
 
+-- such a limit
+abbrev pub LimitFits : Part → ℕ → Type 0
+LimitFits P limit = (1 ≤ limit) × (limit ≤ P .longest + 1)
+
 -- what stands for each of them, and for none; size is the memory's length, cells the identification page's
 abbrev pub driveChoice : {A : Type 0} → Part → Core → ℕ → ℕ → ℕ → ℕ → ℕ → ℕ → A → A → A → A → A → A
 driveChoice P c size cells a len interval limit one two seven eight done =
@@ -106,12 +111,12 @@ runReply (outcome.Refused e) r = Refused e
 abbrev pub leaves : Part → Run → Core → List ℕ → List ℕ → FrameBench
 leaves P r c m i = actedAll P (r .acts) (frameBench c m i)
 
--- a run that is not refused: its answer, and the record that it leaves; and its page parts, after so many frames
-abbrev pub runDriven : Part → Run → Core → List ℕ → List ℕ → Driven
-runDriven P r c m i = record { answer = runAnswer r; core = leaves P r c m i .core }
-
-abbrev pub partsDriven : Part → ℕ → Run → Core → List ℕ → List ℕ → Driven
-partsDriven P before r c m i = record { answer = partsAnswer before r; core = leaves P r c m i .core }
+-- of a run that is not refused and that depends on the bench: its answer and the record that it leaves, the memory and
+-- the identification page
+abbrev pub Drove : Part → (Run → RunReply) → (FrameBench → Run) → FrameBench → Driven → List ℕ → List ℕ → Type 0
+Drove P answer runs d r m i =
+    let left = actedAll P (runs d .acts) d in
+    (r ≡ record { answer = answer (runs d); core = left .core }) × ((m ≡ left .memory) × (i ≡ left .identification))
 
 unfoldable pub driven : Part → Core → List ℕ → List ℕ → ℕ → List ℕ → ℕ → ℕ → Driven
 driven P c m i a bytes interval limit =

@@ -2,6 +2,7 @@
 ghost use mathlib.Core.Path.{_≡_};
 ghost use Rattle.driver.specs.Answers.{runReplyNumber, runReplyPages, runReplyFrames};
 use crate::RunReply;
+use crate::Sent;
 
 impl RunReply {
     pub fn number(self) -> u32
@@ -15,27 +16,30 @@ impl RunReply {
         }
     }
 
-    // Pages done; 0 in a refusal.
-    pub fn pages(self) -> u32
-        ensures { λ r. ⌜ r ≡ runReplyPages self ⌝ }
+    // Pages done and frames sent; none in a refusal.
+    fn sent(self) -> Sent
+        ensures { λ r. ⌜ (r .pages ≡ runReplyPages self) × (r .frames ≡ runReplyFrames self) ⌝ }
     {
         match self {
-            RunReply::Done(s) => s.pages,
-            RunReply::TimedOut(s) => s.pages,
-            RunReply::Protected(s) => s.pages,
-            RunReply::Refused(_) => 0,
+            RunReply::Done(s) => s,
+            RunReply::TimedOut(s) => s,
+            RunReply::Protected(s) => s,
+            RunReply::Refused(_) => Sent {
+                pages: 0,
+                frames: 0,
+            },
         }
     }
 
-    // Frames sent; 0 in a refusal.
+    pub fn pages(self) -> u32
+        ensures { λ r. ⌜ r ≡ runReplyPages self ⌝ }
+    {
+        self.sent().pages
+    }
+
     pub fn frames(self) -> u32
         ensures { λ r. ⌜ r ≡ runReplyFrames self ⌝ }
     {
-        match self {
-            RunReply::Done(s) => s.frames,
-            RunReply::TimedOut(s) => s.frames,
-            RunReply::Protected(s) => s.frames,
-            RunReply::Refused(_) => 0,
-        }
+        self.sent().frames
     }
 }

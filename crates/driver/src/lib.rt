@@ -5,14 +5,14 @@
 // run that touches the block. Else it sends WREN and WRITE for each page part and waits for the end of its cycle. It
 // says exactly what it did. Public call, for every input: write.
 ghost use mathlib.Core.Path.{_≡_};
-ghost use mathlib.Core.Bool.{true};
 ghost use Prim.Native.Nat.{_+_, _≤_};
 ghost use lib.ListN.{length};
-ghost use Rattle.chip.specs.Ranges.{inRanges};
 ghost use Rattle.chip.specs.Records.{ownPart};
 ghost use Rattle.frames.specs.Play.{frameBench};
 ghost use Rattle.sequence.specs.Sequence.{run};
-ghost use Rattle.driver.specs.Answers.{runReplyNumber, runReplyPages, runReplyFrames, leaves, runDriven};
+ghost use Rattle.sequence.specs.Ready.{Ready};
+ghost use Rattle.driver.specs.Answers.{runReplyNumber, runReplyPages, runReplyFrames, runAnswer};
+ghost use Rattle.driver.specs.Answers.{LimitFits, Drove};
 ghost use Rattle.driver.specs.Answers.{driveNumber, drivePages, driveFrames};
 ghost use Rattle.driver.specs.Answers.{driven, drivenMemory, drivenIdentification};
 use chip::Core;
@@ -57,26 +57,12 @@ fn drive(
     interval: u32,
     limit: u32,
 ) -> Driven
-    requires { ⌜ length (now memory) ≡ ownPart core .size ⌝ }
-    requires { ⌜ length (now identification) ≡ ownPart core .page ⌝ }
-    requires { ⌜ inRanges (ownPart core) core ≡ true ⌝ }
+    requires { ⌜ Ready (ownPart core) (frameBench core (now memory) (now identification)) ⌝ }
     requires { ⌜ address + length (now bytes) ≤ ownPart core .size ⌝ }
-    requires { ⌜ (1 ≤ limit) × (limit ≤ ownPart core .longest + 1) ⌝ }
-    ensures { λ r. ⌜ r
-        ≡ runDriven (ownPart core)
-        (run (ownPart core) interval limit address (now (bytes .entry))
-        (frameBench core (now (memory .entry)) (now (identification .entry))))
-        core (now (memory .entry)) (now (identification .entry)) ⌝ }
-    ensures { λ _. ⌜ now (memory .exit)
-        ≡ leaves (ownPart core)
-        (run (ownPart core) interval limit address (now (bytes .entry))
-        (frameBench core (now (memory .entry)) (now (identification .entry))))
-        core (now (memory .entry)) (now (identification .entry)) .memory ⌝ }
-    ensures { λ _. ⌜ now (identification .exit)
-        ≡ leaves (ownPart core)
-        (run (ownPart core) interval limit address (now (bytes .entry))
-        (frameBench core (now (memory .entry)) (now (identification .entry))))
-        core (now (memory .entry)) (now (identification .entry)) .identification ⌝ }
+    requires { ⌜ LimitFits (ownPart core) limit ⌝ }
+    ensures { λ r. ⌜ Drove (ownPart core) runAnswer (run (ownPart core) interval limit address (now (bytes .entry)))
+        (frameBench core (now (memory .entry)) (now (identification .entry))) r (now (memory .exit))
+        (now (identification .exit)) ⌝ }
 {
     if bytes.len() == 0 {
         return Driven {

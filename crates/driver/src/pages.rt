@@ -1,15 +1,13 @@
 // Page parts: WREN and WRITE for each, its wait, and what its last poll says.
-ghost use mathlib.Core.Path.{_≡_};
-ghost use mathlib.Core.Bool.{true};
 ghost use Prim.Native.Nat.{_+_, _≤_, _<_};
 ghost use lib.ListN.{length};
-ghost use Rattle.chip.specs.Ranges.{inRanges};
 ghost use Rattle.chip.specs.Records.{ownPart};
 ghost use Rattle.split.specs.Split.{count};
 ghost use Rattle.frames.specs.Play.{frameBench};
 ghost use Rattle.sequence.specs.Sequence.{pageActs, partActs, allParts};
+ghost use Rattle.sequence.specs.Ready.{Ready};
 ghost use Rattle.driver.specs.Told.{ToldFrom};
-ghost use Rattle.driver.specs.Answers.{leaves, partsDriven};
+ghost use Rattle.driver.specs.Answers.{partsAnswer, LimitFits, Drove};
 use crate::Driven;
 use crate::RunReply;
 use crate::Sent;
@@ -34,12 +32,10 @@ fn write_page(
     interval: u32,
     limit: u32,
 ) -> Waited
-    requires { ⌜ length (now memory) ≡ ownPart core .size ⌝ }
-    requires { ⌜ length (now identification) ≡ ownPart core .page ⌝ }
-    requires { ⌜ inRanges (ownPart core) core ≡ true ⌝ }
+    requires { ⌜ Ready (ownPart core) (frameBench core (now memory) (now identification)) ⌝ }
     requires { ⌜ address < ownPart core .size ⌝ }
     requires { ⌜ length (now bytes) ≤ ownPart core .page ⌝ }
-    requires { ⌜ (1 ≤ limit) × (limit ≤ ownPart core .longest + 1) ⌝ }
+    requires { ⌜ LimitFits (ownPart core) limit ⌝ }
     ensures { λ r. ⌜ ToldFrom (ownPart core) (pageActs (ownPart core) interval limit address (now (bytes .entry)))
         (frameBench core (now (memory .entry)) (now (identification .entry))) r (now (memory .exit))
         (now (identification .exit)) ⌝ }
@@ -61,10 +57,8 @@ fn write_part(
     interval: u32,
     limit: u32,
 ) -> Waited
-    requires { ⌜ length (now memory) ≡ ownPart core .size ⌝ }
-    requires { ⌜ length (now identification) ≡ ownPart core .page ⌝ }
-    requires { ⌜ inRanges (ownPart core) core ≡ true ⌝ }
-    requires { ⌜ (1 ≤ limit) × (limit ≤ ownPart core .longest + 1) ⌝ }
+    requires { ⌜ Ready (ownPart core) (frameBench core (now memory) (now identification)) ⌝ }
+    requires { ⌜ LimitFits (ownPart core) limit ⌝ }
     requires { ⌜ k < count (ownPart core .size) (ownPart core .page) address (length (now bytes)) ⌝ }
     ensures { λ r. ⌜ ToldFrom (ownPart core) (partActs (ownPart core) interval limit address (now (bytes .entry)) k)
         (frameBench core (now (memory .entry)) (now (identification .entry))) r (now (memory .exit))
@@ -96,26 +90,13 @@ pub(crate) fn write_parts(
     limit: u32,
     sent: u32,
 ) -> Driven
-    requires { ⌜ length (now memory) ≡ ownPart core .size ⌝ }
-    requires { ⌜ length (now identification) ≡ ownPart core .page ⌝ }
-    requires { ⌜ inRanges (ownPart core) core ≡ true ⌝ }
-    requires { ⌜ (1 ≤ limit) × (limit ≤ ownPart core .longest + 1) ⌝ }
+    requires { ⌜ Ready (ownPart core) (frameBench core (now memory) (now identification)) ⌝ }
+    requires { ⌜ LimitFits (ownPart core) limit ⌝ }
     requires { ⌜ sent ≤ ownPart core .longest + 1 ⌝ }
-    ensures { λ r. ⌜ r
-        ≡ partsDriven (ownPart core) sent
-        (allParts (ownPart core) interval limit address (now (bytes .entry))
-        (frameBench core (now (memory .entry)) (now (identification .entry))))
-        core (now (memory .entry)) (now (identification .entry)) ⌝ }
-    ensures { λ _. ⌜ now (memory .exit)
-        ≡ leaves (ownPart core)
-        (allParts (ownPart core) interval limit address (now (bytes .entry))
-        (frameBench core (now (memory .entry)) (now (identification .entry))))
-        core (now (memory .entry)) (now (identification .entry)) .memory ⌝ }
-    ensures { λ _. ⌜ now (identification .exit)
-        ≡ leaves (ownPart core)
-        (allParts (ownPart core) interval limit address (now (bytes .entry))
-        (frameBench core (now (memory .entry)) (now (identification .entry))))
-        core (now (memory .entry)) (now (identification .entry)) .identification ⌝ }
+    ensures { λ r. ⌜ Drove (ownPart core) (partsAnswer sent)
+        (allParts (ownPart core) interval limit address (now (bytes .entry)))
+        (frameBench core (now (memory .entry)) (now (identification .entry))) r (now (memory .exit))
+        (now (identification .exit)) ⌝ }
 {
     let parts = cartvesper_split_parts(core.part, address, bytes.len() as u64, 0);
     let mut next = core;

@@ -5,10 +5,11 @@ ghost use mathlib.Core.Bool.{true};
 ghost use Prim.Native.Nat.{_+_, _*_, _≤_, _<_};
 ghost use lib.ListN.{drop, length};
 ghost use Rattle.codes.specs.Part.{partOf, room, roomHead};
-ghost use Rattle.chip.specs.Ranges.{inRanges};
 ghost use Rattle.chip.specs.Records.{ownPart, running, status};
 ghost use Rattle.frames.specs.After.{after};
+ghost use Rattle.frames.specs.Play.{frameBench};
 ghost use Rattle.sequence.specs.Sequence.{writeBytes};
+ghost use Rattle.sequence.specs.Ready.{Ready};
 use chip::Core;
 use codes::ADDRESS_BYTES;
 use codes::LARGE_HEAD;
@@ -21,9 +22,7 @@ use latch::ROOM;
 const LONGEST: usize = LARGE_HEAD + ROOM;
 
 pub(crate) fn send(core: Core, memory: &[u8], identification: &[u8], bytes: &[u8]) -> Core
-    requires { ⌜ length (now memory) ≡ ownPart core .size ⌝ }
-    requires { ⌜ length (now identification) ≡ ownPart core .page ⌝ }
-    requires { ⌜ inRanges (ownPart core) core ≡ true ⌝ }
+    requires { ⌜ Ready (ownPart core) (frameBench core (now memory) (now identification)) ⌝ }
     requires { ⌜ length (now bytes) ≤ ownPart core .addressBytes + 1 + ownPart core .page ⌝ }
     ensures { λ r. ⌜ r
         ≡ after (ownPart core) (running core) true core (now (bytes .entry)) (8 * length (now (bytes .entry))) ⌝ }
@@ -82,9 +81,7 @@ pub(crate) fn send_write(
     address: usize,
     bytes: &[u8],
 ) -> Core
-    requires { ⌜ length (now memory) ≡ ownPart core .size ⌝ }
-    requires { ⌜ length (now identification) ≡ ownPart core .page ⌝ }
-    requires { ⌜ inRanges (ownPart core) core ≡ true ⌝ }
+    requires { ⌜ Ready (ownPart core) (frameBench core (now memory) (now identification)) ⌝ }
     requires { ⌜ address < ownPart core .size ⌝ }
     requires { ⌜ length (now bytes) ≤ ownPart core .page ⌝ }
     ensures { λ r. ⌜ r

@@ -1,13 +1,12 @@
 // A wait: polls until WIP is 0, at most as many as its limit.
 ghost use mathlib.Core.Path.{_≡_};
-ghost use mathlib.Core.Bool.{true};
 ghost use Prim.Native.Nat.{_+_, _≤_};
-ghost use lib.ListN.{length};
-ghost use Rattle.chip.specs.Ranges.{inRanges};
 ghost use Rattle.chip.specs.Records.{ownPart, status};
 ghost use Rattle.frames.specs.Play.{acted, frameBench};
 ghost use Rattle.sequence.specs.Sequence.{moved, pollsOn, firstWait, pageWait};
+ghost use Rattle.sequence.specs.Ready.{Ready};
 ghost use Rattle.driver.specs.Told.{ToldFrom};
+ghost use Rattle.driver.specs.Answers.{LimitFits};
 use crate::sending::poll;
 use chip::Core;
 use chip::elapsed;
@@ -33,18 +32,10 @@ impl Waited {
 
 // The clock moved by the interval; the counter wraps. A reading that ends no cycle moves two fields of the record.
 fn moved(core: Core, memory: &mut [u8], identification: &mut [u8], interval: u32) -> Core
-    requires { ⌜ length (now memory) ≡ ownPart core .size ⌝ }
-    requires { ⌜ length (now identification) ≡ ownPart core .page ⌝ }
-    requires { ⌜ inRanges (ownPart core) core ≡ true ⌝ }
-    ensures { λ r. ⌜ r
+    requires { ⌜ Ready (ownPart core) (frameBench core (now memory) (now identification)) ⌝ }
+    ensures { λ r. ⌜ frameBench r (now (memory .exit)) (now (identification .exit))
         ≡ acted (ownPart core) (moved interval (frameBench core (now (memory .entry)) (now (identification .entry))))
-        (frameBench core (now (memory .entry)) (now (identification .entry))) .core ⌝ }
-    ensures { λ _. ⌜ now (memory .exit)
-        ≡ acted (ownPart core) (moved interval (frameBench core (now (memory .entry)) (now (identification .entry))))
-        (frameBench core (now (memory .entry)) (now (identification .entry))) .memory ⌝ }
-    ensures { λ _. ⌜ now (identification .exit)
-        ≡ acted (ownPart core) (moved interval (frameBench core (now (memory .entry)) (now (identification .entry))))
-        (frameBench core (now (memory .entry)) (now (identification .entry))) .identification ⌝ }
+        (frameBench core (now (memory .entry)) (now (identification .entry))) ⌝ }
 {
     let reading = std::num::wrapping_add_u32(core.last, interval);
     let passed = elapsed(core.last, reading);
@@ -63,9 +54,7 @@ fn poll_on(
     interval: u32,
     left: u32,
 ) -> Waited
-    requires { ⌜ length (now memory) ≡ ownPart start .size ⌝ }
-    requires { ⌜ length (now identification) ≡ ownPart start .page ⌝ }
-    requires { ⌜ inRanges (ownPart start) start ≡ true ⌝ }
+    requires { ⌜ Ready (ownPart start) (frameBench start (now memory) (now identification)) ⌝ }
     requires { ⌜ seen ≡ status start ⌝ }
     ensures { λ r. ⌜ ToldFrom (ownPart start) (pollsOn (ownPart start) interval left)
         (frameBench start (now (memory .entry)) (now (identification .entry))) r (now (memory .exit))
@@ -102,10 +91,8 @@ pub(crate) fn first_wait(
     interval: u32,
     limit: u32,
 ) -> Waited
-    requires { ⌜ length (now memory) ≡ ownPart core .size ⌝ }
-    requires { ⌜ length (now identification) ≡ ownPart core .page ⌝ }
-    requires { ⌜ inRanges (ownPart core) core ≡ true ⌝ }
-    requires { ⌜ (1 ≤ limit) × (limit ≤ ownPart core .longest + 1) ⌝ }
+    requires { ⌜ Ready (ownPart core) (frameBench core (now memory) (now identification)) ⌝ }
+    requires { ⌜ LimitFits (ownPart core) limit ⌝ }
     ensures { λ r. ⌜ ToldFrom (ownPart core) (firstWait (ownPart core) interval limit)
         (frameBench core (now (memory .entry)) (now (identification .entry))) r (now (memory .exit))
         (now (identification .exit)) ⌝ }
@@ -114,7 +101,7 @@ pub(crate) fn first_wait(
     poll_on(core, seen, memory, identification, interval, limit - 1).and_sent(1)
 }
 
-// The wait of a page: each poll after moving the clock.
+// The wait of a page: the clock is moved before its first poll too.
 pub(crate) fn page_wait(
     core: Core,
     memory: &mut [u8],
@@ -122,15 +109,12 @@ pub(crate) fn page_wait(
     interval: u32,
     limit: u32,
 ) -> Waited
-    requires { ⌜ length (now memory) ≡ ownPart core .size ⌝ }
-    requires { ⌜ length (now identification) ≡ ownPart core .page ⌝ }
-    requires { ⌜ inRanges (ownPart core) core ≡ true ⌝ }
-    requires { ⌜ (1 ≤ limit) × (limit ≤ ownPart core .longest + 1) ⌝ }
+    requires { ⌜ Ready (ownPart core) (frameBench core (now memory) (now identification)) ⌝ }
+    requires { ⌜ LimitFits (ownPart core) limit ⌝ }
     ensures { λ r. ⌜ ToldFrom (ownPart core) (pageWait (ownPart core) interval limit)
         (frameBench core (now (memory .entry)) (now (identification .entry))) r (now (memory .exit))
         (now (identification .exit)) ⌝ }
 {
     let next = moved(core, memory, identification, interval);
-    let seen = poll(next);
-    poll_on(next, seen, memory, identification, interval, limit - 1).and_sent(1)
+    first_wait(next, memory, identification, interval, limit)
 }

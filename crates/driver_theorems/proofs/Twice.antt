@@ -23,7 +23,7 @@ use Rattle.driver.specs.Answers.{endingAnswer, runReply, driveOutcome, driven, 
 use Rattle.driver.specs.declared.Sent.{Sent}
 use Rattle.driver.specs.declared.RunReply.{RunReply}
 use Rattle.driver.specs.declared.RunReply.the-variants.{Done, TimedOut, Protected, Refused}
-use Rattle.driver.proofs.Outcomes.{Taken, taken}
+use Rattle.driver.proofs.Outcomes.{taken}
 use Rattle.sequence.proofs.Ways.{run-none}
 use Rattle.sequence.specs.Counts.{overwritten, onceEnded, onceEndedIdentification}
 use Rattle.sequence.proofs.Results.{Given, run-done}
@@ -102,9 +102,9 @@ module _ (P : Part) (sound : Sound P) (a : ℕ) (bytes : List ℕ) where
 
     given : c .last < 2 ^ 32 → 0 < length bytes → Given P i limit a bytes (frameBench c m page)
     given low some =
-        let t = taken P c (length m) (length page) a (length bytes) i limit {o = found} refl (says .0) in
+        let t = taken P c m page a (length bytes) i limit {o = found} refl (says .0) in
         record {
-          ready = record { whole = t .whole; page = t .page; ranges = t .ranges };
+          ready = t .ready;
           low = low;
           interval-some = t .interval-some;
           interval-most = t .interval-most;

@@ -38,10 +38,6 @@ module _ (P : Part) (i limit : ℕ) (d x : FrameBench) where
   unfolding firstWait
   first-wait e = follows P (rdsr ∷ []) (pollsOn P i (limit - 1)) d x (e ∙ sym (rdsr-leaves P d))
 
-  pub page-wait : x ≡ actedAll P (latePoll i d) d → Follows P (pageWait P i limit d) d (pollsOn P i (limit - 1) x) x 1
-  unfolding pageWait
-  page-wait e = follows P (latePoll i d) (pollsOn P i (limit - 1)) d x e
-
   pub page-acts : (a : ℕ) (bytes : List ℕ) → x ≡ actedAll P (wrenAndWrite P a bytes) d
       → Follows P (pageActs P i limit a bytes d) d (pageWait P i limit x) x 2
   unfolding pageActs

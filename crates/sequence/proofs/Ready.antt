@@ -1,24 +1,18 @@
 -- A device that no call refuses, and that whatever is played on it leaves one, for any sound part.
 use mathlib.Core.Path.{_≡_, refl, ap, sym, subst, _∙_}
-use mathlib.Core.Bool.{true}
 use mathlib.Core.List.{List, [], _∷_}
 use Prim.Native.Nat.{ℕ}
 use lib.ListN.{length}
 use Rattle.codes.specs.Part.{Part, partOf}
-use Rattle.chip.specs.Ranges.{inRanges}
 use Rattle.chip.specs.Records.{ownPart, waitsIdentification}
 use Rattle.chip.specs.declared.Core.{Core}
 use Rattle.chip.proofs.Within.{within, in-ranges}
 use Rattle.chip.proofs.Passing.{timed-length}
-use Rattle.codes.proofs.Sound.{Sound}
+use Rattle.codes.proofs.Sound.{Sound, sound-of}
 use Rattle.frames.specs.Play.{Act, frame, reading, FrameBench, acted, actedAll, frameBench}
 use Rattle.frames.proofs.CellRule.{acted-all-length, acted-all-within}
 use Rattle.frames.proofs.PartKept.{acted-all-part}
-
-pub record Ready (P : Part) (d : FrameBench) : Type 0 where
-  pub whole : length (d .memory) ≡ P .size
-  pub page : length (d .identification) ≡ P .page
-  pub ranges : inRanges P (d .core) ≡ true
+use Rattle.sequence.specs.Ready.{Ready}
 
 -- a record, a memory and an identification page, each known
 pub bench-of : {c : Core} {m i : List ℕ} (d : FrameBench) → c ≡ d .core → m ≡ d .memory → i ≡ d .identification → frameBench c m i ≡ d
@@ -31,13 +25,9 @@ acted-all-page P (frame w s n ∷ acts) d = acted-all-page P acts (acted P (fram
 acted-all-page P (reading t ∷ acts) d =
     acted-all-page P acts (acted P (reading t) d) ∙ timed-length waitsIdentification P t (d .core) (d .identification)
 
--- whatever is played, the record is of the part that it was ..
+-- whatever is played, the record is of the part that it was
 pub own-acted : (P : Part) (acts : List Act) (d : FrameBench) {c : Core} → c ≡ actedAll P acts d .core → ownPart c ≡ ownPart (d .core)
 own-acted P acts d e = ap ownPart e ∙ ap partOf (acted-all-part P acts d)
-
--- .. and inside the ranges of its own part
-pub own-ranges : {P : Part} {c x : Core} → ownPart c ≡ P → c ≡ x → inRanges P x ≡ true → inRanges (ownPart c) c ≡ true
-own-ranges {P} {c} {x} same e r = ap (λ (Q : Part). inRanges Q c) same ∙ ap (inRanges P) e ∙ r
 
 -- what holds of a part holds of the row that a record of it reads
 pub at-own : {P Q : Part} → Q ≡ P → (F : Part → Type 0) → F P → F Q
@@ -52,5 +42,9 @@ module _ (P : Part) (sound : Sound P) where
         ranges = in-ranges P _ (acted-all-within P sound acts d (within P _ (r .ranges)));
       }
 
-  pub ready-read : (t : ℕ) (d : FrameBench) → Ready P d → Ready P (acted P (reading t) d)
-  ready-read t d r = ready-acted-all (reading t ∷ []) d r
+-- whatever is played on one, it is one at the part that its record reads
+pub ready-own : (acts : List Act) (d x : FrameBench) → Ready (ownPart (d .core)) d → x ≡ actedAll (ownPart (d .core)) acts d → Ready (ownPart (x .core)) x
+ready-own acts d x r e =
+    let P = ownPart (d .core) in
+    let left = subst (Ready P) (sym e) (ready-acted-all P (sound-of (d .core .part)) acts d r) in
+    at-own (own-acted P acts d (ap (λ (y : FrameBench). y .core) e)) (λ (Q : Part). Ready Q x) left

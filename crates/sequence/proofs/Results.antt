@@ -26,7 +26,8 @@ use Rattle.sequence.specs.Sequence.{sent, pollsOn, firstWait, Ending, al
 use Rattle.sequence.specs.Sequence.{lowestShown, touches, run}
 use Rattle.sequence.specs.Counts.{roundedUp, allExecuted, overwritten, onceEnded, onceEndedIdentification}
 use Rattle.sequence.proofs.Playing.{acted-all-append, sent-append}
-use Rattle.sequence.proofs.Ready.{Ready, ready-acted-all}
+use Rattle.sequence.specs.Ready.{Ready}
+use Rattle.sequence.proofs.Ready.{ready-acted-all}
 use Rattle.sequence.proofs.Waits.{polls-on-free}
 use Rattle.sequence.proofs.Joined.{first-wait}
 use Rattle.sequence.proofs.Polls.{waited, late}

@@ -15,10 +15,9 @@ drive-requires : tie.Need-drive-requires
 drive-requires c κs =
     let a = c .before .before .before .before .before .before .before .before .args in
     let t =
-    taken (ownPart (a .core)) (a .core) (length (a .memory .now)) (length (a .identification .now)) (a .address) (length (a .bytes .now))
-    (a .interval) (a .limit)
+    taken (ownPart (a .core)) (a .core) (a .memory .now) (a .identification .now) (a .address) (length (a .bytes .now)) (a .interval) (a .limit)
     (c .before .before .before .before .outcome .ensures) (c .before .before .enum-told .given .1) in
-    (t .whole, (t .page, (t .ranges, (t .inside, t .limits))))
+    (t .ready, (t .inside, t .limits))
 
 enum-known-r : tie.Need-enum-known-r
 enum-known-r c = search needs
@@ -36,7 +35,7 @@ returns c =
     drove (ownPart (a .core)) (a .core) (a .memory .now) (a .identification .now) (a .address) (a .bytes .now) (a .interval) (a .limit)
     (drive .result) (drive .last .1 .0) (drive .last .1 .1 .0)
     (c .before .before .before .before .before .before .before .before .before .outcome .ensures)
-    (c .before .before .before .before .before .before .before .enum-told .given .1) (drive .ensures .0) (drive .ensures .1 .0) (drive .ensures .1 .1)
+    (c .before .before .before .before .before .before .before .enum-told .given .1) (drive .ensures)
 
 returns-2 : tie.Need-returns-2
 returns-2 c =

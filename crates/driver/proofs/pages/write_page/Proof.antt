@@ -1,19 +1,19 @@
 use mathlib.Core.Path.{_≡_, refl, ap, subst, _∙_}
 use mathlib.Core.Bool.{true}
 use mathlib.Core.List.{List, [], _∷_}
-use Prim.Native.Nat.{ℕ, _+_, _*_, _<_, _≤_}
+use Prim.Native.Nat.{ℕ, _*_, _<_, _≤_}
 use native.Mathlib.Omega.{arith}
 use lib.ListN.{length}
 use Rattle.codes.specs.Part.{Part}
 use Rattle.chip.specs.Records.{ownPart, running}
 use Rattle.chip.specs.declared.Core.{Core}
 use Rattle.codes.proofs.Parts.{longest-most}
-use Rattle.codes.proofs.Sound.{sound-of}
 use Rattle.frames.specs.After.{after}
 use Rattle.frames.specs.Play.{FrameBench, actedAll, frameBench}
 use Rattle.sequence.specs.Sequence.{wren, writeBytes, wrenAndWrite, pageWait}
-use Rattle.sequence.proofs.Ready.{bench-of, ready-acted-all, own-acted, own-ranges, at-own}
+use Rattle.sequence.proofs.Ready.{bench-of, own-acted, at-own, ready-own}
 use Rattle.driver.specs.Told.{Told}
+use Rattle.driver.specs.Answers.{LimitFits}
 use Rattle.sequence.proofs.Joined.{page-acts, page-most}
 use Rattle.driver.proofs.Told.{told}
 use borrow.Author.Needs.{needs}
@@ -35,30 +35,20 @@ slice-aggregate-send : tie.Need-slice-aggregate-send
 slice-aggregate-send c = search needs
 
 send-requires : tie.Need-send-requires
-send-requires c κs =
-    (search needs, (search needs, (search needs, omega arith)))
+send-requires c κs = (search needs, omega arith)
 
 send-write-requires : tie.Need-send-write-requires
 send-write-requires c κs =
     let start = c .before .before .before .before .before .before .before .before .before in
-    let d : FrameBench = frameBench (start .args .core) (start .args .memory .now) (start .args .identification .now) in
-    let P = ownPart (d .core) in
-    let ready =
-    ready-acted-all P (sound-of (d .core .part)) (wren ∷ []) d (record { whole = start .pre .0; page = start .pre .1 .0; ranges = start .pre .1 .1 .0 }) in
+    let a = start .args in
+    let d : FrameBench = frameBench (a .core) (a .memory .now) (a .identification .now) in
+    let P = ownPart (a .core) in
     let sent = c .before .before .send .ensures in
-    let same = own-acted P (wren ∷ []) d sent in
-    let m = start .args .memory .now in
-    let i = start .args .identification .now in (
-      at-own same (λ (Q : Part). length m ≡ Q .size) (start .pre .0),
+    let same = own-acted P (wren ∷ []) d sent in (
+      ready-own (wren ∷ []) d _ (start .pre .0) (bench-of (actedAll P (wren ∷ []) d) sent refl refl),
       (
-        at-own same (λ (Q : Part). length i ≡ Q .page) (start .pre .1 .0),
-        (
-          own-ranges same sent (ready .ranges),
-          (
-            at-own same (λ (Q : Part). start .args .address < Q .size) (start .pre .1 .1 .1 .0),
-            at-own same (λ (Q : Part). length (start .args .bytes .now) ≤ Q .page) (start .pre .1 .1 .1 .1 .0),
-          ),
-        ),
+        at-own same (λ (Q : Part). a .address < Q .size) (start .pre .1 .0),
+        at-own same (λ (Q : Part). length (a .bytes .now) ≤ Q .page) (start .pre .1 .1 .0),
       ),
     )
 
@@ -69,17 +59,9 @@ page-wait-requires c κs =
     let d : FrameBench = frameBench (a .core) (a .memory .now) (a .identification .now) in
     let P = ownPart (a .core) in
     let acts = wrenAndWrite P (a .address) (a .bytes .now) in
-    let ready = ready-acted-all P (sound-of (a .core .part)) acts d (record { whole = start .pre .0; page = start .pre .1 .0; ranges = start .pre .1 .1 .0 }) in
-    let begun = both d _ _ (a .address) (a .bytes .now) (c .before .before .before .before .before .send .ensures) (c .before .before .send-write .ensures) in
-    let same = own-acted P acts d begun in (
-      at-own same (λ (Q : Part). length (a .memory .now) ≡ Q .size) (start .pre .0),
-      (
-        at-own same (λ (Q : Part). length (a .identification .now) ≡ Q .page) (start .pre .1 .0),
-        (
-          own-ranges same begun (ready .ranges),
-          at-own same (λ (Q : Part). (1 ≤ a .limit) × (a .limit ≤ Q .longest + 1)) (start .pre .1 .1 .1 .1 .1),
-        ),
-      ),
+    let begun = both d _ _ (a .address) (a .bytes .now) (c .before .before .before .before .before .send .ensures) (c .before .before .send-write .ensures) in (
+      ready-own acts d _ (start .pre .0) (bench-of (actedAll P acts d) begun refl refl),
+      at-own (own-acted P acts d begun) (λ (Q : Part). LimitFits Q (a .limit)) (start .pre .1 .1 .1),
     )
 
 and-sent-requires : tie.Need-and-sent-requires
@@ -89,8 +71,8 @@ and-sent-requires c κs =
     let x : FrameBench =
     frameBench (c .before .before .before .before .before .before .before .send-write .result) (start .args .memory .now)
     (start .args .identification .now) in
-    let most = page-most (ownPart (x .core)) (start .args .interval) (start .args .limit) x (start .pre .1 .1 .1 .1 .1 .0) in
-    omega (arith, wait .ensures .1 .1 .0, start .pre .1 .1 .1 .1 .1 .1, longest-most (start .args .core .part))
+    let most = page-most (ownPart (x .core)) (start .args .interval) (start .args .limit) x (start .pre .1 .1 .1 .0) in
+    omega (arith, wait .ensures .1 .1 .0, start .pre .1 .1 .1 .1, longest-most (start .args .core .part))
 
 same-length : tie.Need-same-length
 same-length c = search needs

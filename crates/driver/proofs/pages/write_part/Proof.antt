@@ -2,14 +2,14 @@ use mathlib.Core.Path.{refl, subst}
 use mathlib.Core.List.{List}
 use Prim.Native.Nat.{ℕ, _+_, _-_}
 use native.Mathlib.Omega.{arith}
-use lib.ListN.{length-take, length-drop}
+use lib.ListN.{length, length-take, length-drop}
 use Rattle.chip.specs.Records.{ownPart}
 use Rattle.codes.proofs.Sound.{sound-of}
 use Rattle.split.specs.Pieces.{piece}
 use Rattle.frames.specs.Play.{FrameBench, frameBench}
 use Rattle.sequence.specs.Sequence.{pageActs}
 use Rattle.driver.specs.Told.{Told}
-use Rattle.sequence.proofs.Parts.{lies, part-bytes}
+use Rattle.sequence.proofs.Parts.{Lies, lies, part-bytes}
 use borrow.Author.Needs.{needs}
 use Rattle.driver.proofs.pages.write_part.Statement.{statement}
 use Rattle.driver.proofs.pages.write_part.Tie as tie
@@ -23,23 +23,27 @@ sub-from c =
     let a = start .args in
     let at = c .cartvesper-split-address in
     let l =
-    lies (ownPart (a .core)) (sound-of (a .core .part)) (a .address) (a .bytes .now) (a .k) (at .result) _ (start .pre .1 .1 .1 .1) (at .ensures) refl in
+    lies (ownPart (a .core)) (sound-of (a .core .part)) (a .address) (a .bytes .now) (a .k) (at .result) _ (start .pre .1 .1) (at .ensures) refl in
     l .from
 
 cartvesper-split-length-requires : tie.Need-cartvesper-split-length-requires
 cartvesper-split-length-requires c κs = search needs
 
+-- the part's place and length are known: where it lies
+lying : (w : tie.After-cartvesper-split-length) → let a = w .before .before .before .before .before .args in
+    Lies (ownPart (a .core)) (a .address) (length (a .bytes .now)) (w .before .cartvesper-split-address .result) (w .cartvesper-split-length .result)
+lying w =
+    let start = w .before .before .before .before .before in
+    let a = start .args in
+    let at = w .before .cartvesper-split-address in
+    let long = w .cartvesper-split-length in
+    lies (ownPart (a .core)) (sound-of (a .core .part)) (a .address) (a .bytes .now) (a .k) (at .result) (long .result)
+    (start .pre .1 .1) (at .ensures) (long .ensures)
+
 add-end : tie.Need-add-end
 add-end c =
-    let start = c .before .before .before .before .before in
-    let a = start .args in
-    let at = c .before .cartvesper-split-address in
-    let long = c .cartvesper-split-length in
-    let l =
-    lies (ownPart (a .core)) (sound-of (a .core .part)) (a .address) (a .bytes .now) (a .k) (at .result) (long .result)
-    (start .pre .1 .1 .1 .1) (at .ensures) (long .ensures) in
-    let to = l .to in
-    let inside = l .inside in
+    let to = lying c .to in
+    let inside = lying c .inside in
     omega arith
 
 sub-write-page : tie.Need-sub-write-page
@@ -50,30 +54,14 @@ part-write-page-start c = search needs
 
 part-write-page-end : tie.Need-part-write-page-end
 part-write-page-end c =
-    let start = c .before .before .before .before .before .before .before in
-    let a = start .args in
-    let at = c .before .before .before .cartvesper-split-address in
-    let long = c .before .before .cartvesper-split-length in
-    let l =
-    lies (ownPart (a .core)) (sound-of (a .core .part)) (a .address) (a .bytes .now) (a .k) (at .result) (long .result)
-    (start .pre .1 .1 .1 .1) (at .ensures) (long .ensures) in
-    let from = l .from in
-    let to = l .to in
-    omega arith
+    let l = lying (c .before .before) in
+    omega (arith, l .from, l .to)
 
 write-page-requires : tie.Need-write-page-requires
 write-page-requires c κs =
     let start = c .before .before .before .before .before .before .before .before in
-    let a = start .args in
-    let at = c .before .before .before .before .cartvesper-split-address in
-    let long = c .before .before .before .cartvesper-split-length in
-    let l =
-    lies (ownPart (a .core)) (sound-of (a .core .part)) (a .address) (a .bytes .now) (a .k) (at .result) (long .result)
-    (start .pre .1 .1 .1 .1) (at .ensures) (long .ensures) in
-    let from = l .from in
-    let to = l .to in
-    let page = l .page in
-    (start .pre .0, (start .pre .1 .0, (start .pre .1 .1 .0, (l .memory, (simp (length-take, length-drop) (omega arith), start .pre .1 .1 .1 .0)))))
+    let l = lying (c .before .before .before) in
+    (start .pre .0, (l .memory, (simp (length-take, length-drop) (omega (arith, l .from, l .to, l .page)), start .pre .1 .0)))
 
 same-length : tie.Need-same-length
 same-length c = search needs
@@ -91,7 +79,7 @@ returns c =
     let page = c .before .before .before .before .write-page in
     let d : FrameBench = frameBench (a .core) (a .memory .now) (a .identification .now) in
     let bytes =
-    part-bytes P (sound-of (a .core .part)) (a .address) (a .bytes .now) (a .k) (at .result) (long .result) (start .pre .1 .1 .1 .1) (at .ensures)
+    part-bytes P (sound-of (a .core .part)) (a .address) (a .bytes .now) (a .k) (at .result) (long .result) (start .pre .1 .1) (at .ensures)
     (long .ensures) (at .result - a .address + long .result - (at .result - a .address)) (omega arith) in
     let Wrote : ℕ → List ℕ → Type 0 =
     λ s l. Told P (pageActs P (a .interval) (a .limit) s l d) d (page .result) (page .last .1 .0) (page .last .1 .1 .0) in

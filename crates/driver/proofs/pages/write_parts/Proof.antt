@@ -1,21 +1,22 @@
-use mathlib.Core.Path.{_≡_, refl, ap, sym, subst, _∙_}
+use mathlib.Core.Path.{_≡_, refl, sym, subst, _∙_}
 use Prim.Native.Nat.{ℕ, _+_, _-_, _*_, _<_, _≤_}
 use native.Mathlib.Omega.{arith}
 use lib.ListN.{length}
 use Rattle.chip.specs.Records.{ownPart}
-use Rattle.codes.specs.Part.{Part}
+use Rattle.codes.specs.Part.{Part, partOf}
 use Rattle.codes.proofs.Parts.{longest-most}
 use Rattle.codes.proofs.Sound.{sound-of}
 use Rattle.split.specs.Split.{count, splitAddress}
 use Rattle.split.specs.Pieces.{piece}
 use Rattle.split.proofs.Numbers.{parts-asked}
 use Rattle.frames.specs.Play.{FrameBench, frameBench}
-use Rattle.sequence.proofs.Ready.{Ready, own-ranges, at-own}
+use Rattle.sequence.specs.Ready.{Ready}
+use Rattle.sequence.proofs.Ready.{at-own}
+use Rattle.driver.specs.Answers.{LimitFits}
 use Rattle.driver.proofs.Left.{Left}
 use Rattle.sequence.proofs.Joined.{acts-most}
-use Rattle.sequence.proofs.Seen.{seen-wip}
-use Rattle.sequence.proofs.Runs.{partActs, Rest, rest-first, rest-next, pages-few, parts-few}
-use Rattle.driver.proofs.Ended.{part-left, ended-of, rest-late, rest-done}
+use Rattle.sequence.proofs.Runs.{partActs, Rest, rest-first, pages-few, parts-few}
+use Rattle.driver.proofs.Ended.{part-left, rest-on, rest-late, rest-done}
 use Rattle.driver.proofs.pages.write_parts.Statement.{statement}
 use Rattle.driver.proofs.pages.write_parts.Tie as tie
 
@@ -39,13 +40,11 @@ loop-holds : tie.Need-loop-holds Inv-loop μ-loop
 loop-holds c =
     let start = c .before .before .before .before in
     let parts = c .cartvesper-split-parts .ensures
-    ∙ parts-asked (ownPart (start .args .core) .size) (ownPart (start .args .core) .page) (start .args .address) (length (start .args .bytes .now)) in
-    let ready : Ready (ownPart (start .args .core)) (frameBench (start .args .core) (start .args .memory .now) (start .args .identification .now)) =
-    record { whole = start .pre .0; page = start .pre .1 .0; ranges = start .pre .1 .1 .0 } in (
+    ∙ parts-asked (ownPart (start .args .core) .size) (ownPart (start .args .core) .page) (start .args .address) (length (start .args .bytes .now)) in (
       omega arith,
       (
-        omega (arith, start .pre .1 .1 .1 .1, longest-most (start .args .core .part)),
-        (parts, (refl, (ready, rest-first (ownPart (start .args .core)) _ _ _ _ _ _ _))),
+        omega (arith, start .pre .1 .1, longest-most (start .args .core .part)),
+        (parts, (refl, (start .pre .0, rest-first (ownPart (start .args .core)) _ _ _ _ _ _ _))),
       ),
     )
 
@@ -54,19 +53,12 @@ write-part-requires c κs =
     let start = c .before .before .before .before .before .before .before .before in
     let a = start .args in
     let l = c .before .before .before .loop in
-    let ready = l .inv .1 .1 .1 .1 .0 in
     let below = subst (λ (n : ℕ). l .k < n) (l .inv .1 .1 .0) (c .before .before .loop-test .taken) in
     let same = l .inv .1 .1 .1 .0 in (
-      at-own same (λ (Q : Part). length (l .memory) ≡ Q .size) (ready .whole),
+      at-own same (λ (Q : Part). Ready Q (frameBench (l .next) (l .memory) (l .identification))) (l .inv .1 .1 .1 .1 .0),
       (
-        at-own same (λ (Q : Part). length (l .identification) ≡ Q .page) (ready .page),
-        (
-          own-ranges same refl (ready .ranges),
-          (
-            at-own same (λ (Q : Part). (1 ≤ a .limit) × (a .limit ≤ Q .longest + 1)) (start .pre .1 .1 .1 .0),
-            at-own same (λ (Q : Part). l .k < count (Q .size) (Q .page) (a .address) (length (a .bytes .now))) below,
-          ),
-        ),
+        at-own same (λ (Q : Part). LimitFits Q (a .limit)) (start .pre .1 .0),
+        at-own same (λ (Q : Part). l .k < count (Q .size) (Q .page) (a .address) (length (a .bytes .now))) below,
       ),
     )
 
@@ -93,8 +85,12 @@ few-frames w =
     acts-most (ownPart (a .core)) (a .interval) (a .limit)
     (splitAddress (ownPart (a .core) .size) (ownPart (a .core) .page) (a .address) (length (a .bytes .now)) (l .k))
     (piece (ownPart (a .core) .size) (ownPart (a .core) .page) (a .address) (a .bytes .now) (l .k)) (frameBench (l .next) (l .memory) (l .identification))
-    (w .before .before .before .before .before .before .before .before .before .pre .1 .1 .1 .0 .0) in
+    (w .before .before .before .before .before .before .before .before .before .pre .1 .0 .0) in
     omega (arith, went w .told .1 .1 .0)
+
+-- a run has at most 512 parts
+few-parts : (n a len : ℕ) {parts : ℕ} → parts ≡ count (partOf n .size) (partOf n .page) a len → parts ≤ 512
+few-parts n a len e = omega (arith, parts-few (partOf n) (sound-of n) a len, pages-few n)
 
 add-frames : tie.Need-add-frames Inv-loop μ-loop
 add-frames c =
@@ -103,67 +99,46 @@ add-frames c =
     let a = start .args in
     let l = w .before .before .before .before .loop in
     let most = few-frames w in
-    let few = parts-few (ownPart (a .core)) (sound-of (a .core .part)) (a .address) (length (a .bytes .now)) in
-    let all = l .inv .1 .1 .0 in
-    let below = c .before .before .before .before .before .before .before .before .before .loop-test .taken in
-    omega (arith, l .inv .1 .0, start .pre .1 .1 .1 .0 .1, longest-most (a .core .part), pages-few (a .core .part))
+    let few = few-parts (a .core .part) (a .address) (length (a .bytes .now)) (l .inv .1 .1 .0) in
+    let below = w .before .before .before .loop-test .taken in
+    omega (arith, l .inv .1 .0, start .pre .1 .0 .1, longest-most (a .core .part))
 
 wip-requires : tie.Need-wip-requires Inv-loop μ-loop
 wip-requires c κs = tt
 
 cast-t22 : tie.Need-cast-t22 Inv-loop μ-loop
 cast-t22 c =
-    let start = c .before .before .before .before .before .before .before .before .before .before .before .before .before .before .before .before .before in
-    let a = start .args in
     let l = c .before .before .before .before .before .before .before .before .before .before .before .before .loop in
-    let few = parts-few (ownPart (a .core)) (sound-of (a .core .part)) (a .address) (length (a .bytes .now)) in
-    let all = l .inv .1 .1 .0 in
-    omega (arith, l .inv .0, pages-few (a .core .part))
+    let a = c .before .before .before .before .before .before .before .before .before .before .before .before .before .before .before .before .before .args in
+    let few = few-parts (a .core .part) (a .address) (length (a .bytes .now)) (l .inv .1 .1 .0) in
+    omega (arith, l .inv .0)
 
 same-length : tie.Need-same-length Inv-loop μ-loop
 same-length c =
     let w = c .before .before .before .before .before .before .before .before in
-    went w .ready .whole ∙ sym (w .before .before .before .before .before .before .before .before .before .pre .0)
+    went w .ready .whole ∙ sym (w .before .before .before .before .before .before .before .before .before .pre .0 .whole)
 
 same-length-2 : tie.Need-same-length-2 Inv-loop μ-loop
 same-length-2 c =
     let w = c .before .before .before .before .before .before .before .before in
-    went w .ready .page ∙ sym (w .before .before .before .before .before .before .before .before .before .pre .1 .0)
+    went w .ready .page ∙ sym (w .before .before .before .before .before .before .before .before .before .pre .0 .page)
 
 returns : tie.Need-returns Inv-loop μ-loop
 returns c =
     let w = c .before .before .before .before .before .before .before .before in
-    let start = w .before .before .before .before .before .before .before .before .before in
-    let a = start .args in
     let l = w .before .before .before .before .loop in
-    let part = w .write-part in
-    let d : FrameBench = frameBench (l .next) (l .memory) (l .identification) in
-    let P = ownPart (a .core) in
-    let left = went w in
-    ended-of P (a .interval) (a .limit) (a .address) (a .bytes .now)
-    (c .before .before .before .before .before .before .before .before .before .before .before .before .before .cartvesper-split-parts .result) _
-    (a .sent) (frameBench (a .core) (a .memory .now) (a .identification .now)) (l .inv .1 .1 .0)
-    (rest-late P (a .interval) (a .limit) (a .address) (a .bytes .now)
-    (c .before .before .before .before .before .before .before .before .before .before .before .before .before .cartvesper-split-parts .result)
-    (a .sent) _ (l .k) (l .frames) (part .result .frames) d _
-    (c .before .before .before .before .before .before .before .before .before .before .before .loop-test .taken) (left .leaves) (left .told .1 .1 .0)
-    (sym (seen-wip (part .result .status) (part .result .core) (part .ensures .1 .0)) ∙ sym (c .before .wip .ensures) ∙ c .if1 .taken) (l .inv .1 .1 .1 .1 .1))
+    rest-late (l .inv .1 .1 .1 .1 .1) (w .before .before .before .loop-test .taken) (went w) (sym (c .before .wip .ensures) ∙ c .if1 .taken) (l .inv .1 .1 .0)
 
 add-k : tie.Need-add-k Inv-loop μ-loop
 add-k c =
-    let start = c .before .before .before .before .before .before .before .before .before .before .before .before .before .before .before .before .before in
-    let a = start .args in
-    let l = c .before .before .before .before .before .before .before .before .before .before .before .before .loop in
-    let few = parts-few (ownPart (a .core)) (sound-of (a .core .part)) (a .address) (length (a .bytes .now)) in
-    let all = l .inv .1 .1 .0 in
-    let below = c .before .before .before .before .before .before .before .before .before .before .before .loop-test .taken in
-    omega (arith, pages-few (a .core .part))
+    let w = c .before .before .before .before .before .before .before .before in
+    let a = w .before .before .before .before .before .before .before .before .before .args in
+    let few = few-parts (a .core .part) (a .address) (length (a .bytes .now)) (w .before .before .before .before .loop .inv .1 .1 .0) in
+    let below = w .before .before .before .loop-test .taken in
+    omega arith
 
 loop-less : tie.Need-loop-less Inv-loop μ-loop
 loop-less c =
-    let start = c .before .before .before .before .before .before .before .before .before .before .before .before .before .before .before .before .before in
-    let a = start .args in
-    let l = c .before .before .before .before .before .before .before .before .before .before .before .before .loop in
     let below = c .before .before .before .before .before .before .before .before .before .before .before .loop-test .taken in
     omega arith
 
@@ -171,57 +146,31 @@ loop-again : tie.Need-loop-again Inv-loop μ-loop
 loop-again c =
     let w = c .before .before .before .before .before .before .before .before in
     let start = w .before .before .before .before .before .before .before .before .before in
-    let a = start .args in
     let l = w .before .before .before .before .loop in
-    let part = w .write-part in
-    let d : FrameBench = frameBench (l .next) (l .memory) (l .identification) in
-    let P = ownPart (a .core) in
-    let left = went w in
-    let most = few-frames w in
     let below = w .before .before .before .loop-test .taken in
-    let counts = left .told .1 .1 .0 in
-    let parts = w .before .before .before .before .before .cartvesper-split-parts .result in
-    let idle = sym (seen-wip (part .result .status) (part .result .core) (part .ensures .1 .0)) ∙ sym (c .before .wip .ensures) ∙ c .if1 .left in
-    let rest =
-    rest-next P (a .interval) (a .limit) (a .address) (a .bytes .now) parts (a .sent) _ (l .k) (l .frames) (part .result .frames) d _ below
-    (left .leaves) counts idle
-    (l .inv .1 .1 .1 .1 .1) in
-    (omega arith, (omega (arith, l .inv .1 .0, start .pre .1 .1 .1 .0 .1, longest-most (a .core .part)), (l .inv .1 .1 .0, (left .stays, (left .ready, rest)))))
+    let most = few-frames w in
+    let rest = rest-on (l .inv .1 .1 .1 .1 .1) below (went w) (sym (c .before .wip .ensures) ∙ c .if1 .left) in (
+      omega arith,
+      (
+        omega (arith, l .inv .1 .0, start .pre .1 .0 .1, longest-most (start .args .core .part)),
+        (l .inv .1 .1 .0, (went w .stays, (went w .ready, rest))),
+      ),
+    )
 
 cast-t25 : tie.Need-cast-t25 Inv-loop μ-loop
 cast-t25 c =
-    let start = c .before .before .before .before .before .before in
-    let a = start .args in
-    let l = c .before .loop in
-    let few = parts-few (ownPart (a .core)) (sound-of (a .core .part)) (a .address) (length (a .bytes .now)) in
-    let all = l .inv .1 .1 .0 in
-    omega (arith, l .inv .0, pages-few (a .core .part))
+    let a = c .before .before .before .before .before .before .args in
+    let few = few-parts (a .core .part) (a .address) (length (a .bytes .now)) (c .before .loop .inv .1 .1 .0) in
+    omega (arith, c .before .loop .inv .0)
 
 same-length-3 : tie.Need-same-length-3 Inv-loop μ-loop
-same-length-3 c =
-    let start = c .before .before .before .before .before .before in
-    let a = start .args in
-    let l = c .before .loop in
-    l .inv .1 .1 .1 .1 .0 .whole ∙ sym (start .pre .0)
+same-length-3 c = c .before .loop .inv .1 .1 .1 .1 .0 .whole ∙ sym (c .before .before .before .before .before .before .pre .0 .whole)
 
 same-length-4 : tie.Need-same-length-4 Inv-loop μ-loop
-same-length-4 c =
-    let start = c .before .before .before .before .before .before in
-    let a = start .args in
-    let l = c .before .loop in
-    l .inv .1 .1 .1 .1 .0 .page ∙ sym (start .pre .1 .0)
+same-length-4 c = c .before .loop .inv .1 .1 .1 .1 .0 .page ∙ sym (c .before .before .before .before .before .before .pre .0 .page)
 
 returns-2 : tie.Need-returns-2 Inv-loop μ-loop
-returns-2 c =
-    let start = c .before .before .before .before .before .before in
-    let a = start .args in
-    let P = ownPart (a .core) in
-    let l = c .before .loop in
-    let d : FrameBench = frameBench (l .next) (l .memory) (l .identification) in
-    ended-of P (a .interval) (a .limit) (a .address) (a .bytes .now) (c .before .before .cartvesper-split-parts .result) _ (a .sent)
-    (frameBench (a .core) (a .memory .now) (a .identification .now)) (l .inv .1 .1 .0)
-    (rest-done P (a .interval) (a .limit) (a .address) (a .bytes .now) (c .before .before .cartvesper-split-parts .result) (a .sent) _ (l .k) (l .frames) d
-    (c .loop-test .left) (l .inv .1 .1 .1 .1 .1))
+returns-2 c = rest-done (c .before .loop .inv .1 .1 .1 .1 .1) (c .loop-test .left) (c .before .loop .inv .1 .1 .0)
 
 pub write-parts-spec : {M : Type 1} → statement M
 write-parts-spec =

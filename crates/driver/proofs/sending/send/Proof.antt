@@ -7,7 +7,6 @@ use Rattle.codes.specs.Part.{Part, partOf}
 use Rattle.codes.proofs.Parts.{of-each}
 use Rattle.fields.specs.Counts.{longestFrame}
 use Rattle.chip.specs.Records.{ownPart}
-use Rattle.chip.proofs.Readings.{lent-both}
 use Rattle.frames.specs.declared.Framed.{Framed}
 use Rattle.driver.proofs.Frames.{sent-core, part-length}
 use borrow.Author.Needs.{needs}
@@ -45,13 +44,12 @@ returns c =
     let start = c .before .before .before .before .before .before .before .before in
     let n = length (start .args .bytes .now) in
     let room = c .before .before .before .before .room in
-    let short : n ≤ longestFrame (ownPart (start .args .core)) = omega (arith, start .pre .1 .1 .1, room-in-size (start .args .core .part)) in
+    let short : n ≤ longestFrame (ownPart (start .args .core)) = omega (arith, start .pre .1, room-in-size (start .args .core .part)) in
     let a = start .args in
     let P = ownPart (a .core) in
-    let fits = lent-both P (length (a .memory .now)) (length (a .identification .now)) (start .pre .0) (start .pre .1 .0) in
     ap (λ (x : Framed). x .core) (f .ensures .0)
-    ∙ sent-core P (a .core) (a .memory .now) (a .identification .now) (a .bytes .now) fits (start .pre .1 .1 .0) short
-    _ (part-length (room .result) (n - 0) n (omega arith) (omega (arith, longest (start .args .core .part), room .ensures, start .pre .1 .1 .1)))
+    ∙ sent-core P (a .core) (a .memory .now) (a .identification .now) (a .bytes .now) (start .pre .0) short
+    _ (part-length (room .result) (n - 0) n (omega arith) (omega (arith, longest (start .args .core .part), room .ensures, start .pre .1)))
 
 pub send-spec : {M : Type 1} → statement M
 send-spec =

@@ -25,7 +25,7 @@ and-sent-requires c κs =
     let a = c .before .before .before .before .before .before .before .before .before .before .args in
     let wait = c .before .before .before .before .poll-on in
     let d : FrameBench = frameBench (a .core) (a .memory .now) (a .identification .now) in
-    let most = c .before .before .before .before .before .before .before .before .before .before .pre .1 .1 .1 in
+    let most = c .before .before .before .before .before .before .before .before .before .before .pre .1 in
     omega (arith, wait .ensures .1 .1 .0, sent-most (ownPart (a .core)) (a .interval) (a .limit - 1) d, longest-most (a .core .part))
 
 same-length : tie.Need-same-length

@@ -1,12 +1,11 @@
 -- A reading that ends the cycle is the record's own step; any other leaves a little less of it.
-use mathlib.Core.Path.{_≡_, ap, sym, _∙_}
-use mathlib.Core.Bool.{false, _&&_}
-use Prim.Native.Nat.{ℕ, _-_}
-use lib.Dec.{leb}
-use Rattle.chip.specs.Records.{ownPart, running, waitsPage, waitsIdentification, withTime}
-use Rattle.chip.specs.Time.{ends, timedIn, timedMemory, timedIdentification}
-use Rattle.chip.proofs.Passing.{no-end}
-use Rattle.chip.proofs.Recounts.{timed-on}
+use mathlib.Core.Path.{ap, _∙_}
+use Prim.Native.Nat.{ℕ}
+use Rattle.chip.specs.Records.{ownPart}
+use Rattle.chip.specs.declared.Core.{Core}
+use Rattle.frames.specs.Play.{FrameBench, reading, acted, frameBench}
+use Rattle.sequence.proofs.Ready.{bench-of}
+use Rattle.driver.proofs.Moved.{moved-on}
 use borrow.Author.Needs.{needs}
 use Rattle.driver.proofs.waiting.moved.Statement.{statement}
 use Rattle.driver.proofs.waiting.moved.Tie as tie
@@ -34,13 +33,9 @@ returns c =
     let a = c .before .before .before .before .before .before .before .before .before .before .before .before .before .args in
     let P = ownPart (a .core) in
     let added = c .before .before .before .before .before .before .before .before .before .before .wrapping-add-u32 in
-    let step = c .before .before .before .before .timed .ensures in (
-      step .0 ∙ ap (λ (n : ℕ). timedIn P n (a .core) (a .memory .now)) (added .ensures),
-      (
-        step .1 .0 ∙ ap (λ (n : ℕ). timedMemory P n (a .core) (a .memory .now)) (added .ensures),
-        step .1 .1 ∙ ap (λ (n : ℕ). timedIdentification P n (a .core) (a .identification .now)) (added .ensures),
-      ),
-    )
+    let d : FrameBench = frameBench (a .core) (a .memory .now) (a .identification .now) in
+    let step = c .before .before .before .before .timed .ensures in
+    bench-of (acted P (reading (added .result)) d) (step .0) (step .1 .0) (step .1 .1) ∙ ap (λ (n : ℕ). acted P (reading n) d) (added .ensures)
 
 left-after-requires : tie.Need-left-after-requires
 left-after-requires c κs = search needs
@@ -51,24 +46,11 @@ with-time-requires c κs = search needs
 returns-2 : tie.Need-returns-2
 returns-2 c =
     let a = c .before .before .before .before .before .before .before .before .args in
-    let P = ownPart (a .core) in
-    let added = c .before .before .before .before .before .wrapping-add-u32 in
-    let passed = c .before .before .before .before .elapsed .ensures in
-    let t = added .result in
-    let on : ends t (a .core) ≡ false =
-    ap (λ (n : ℕ). running (a .core) && leb (a .core .left) n) (sym passed) ∙ sym (c .before .before .before .ends .ensures) ∙ c .before .before .if1 .left in
-    let left = c .before .left-after .ensures ∙ ap (λ (n : ℕ). a .core .left - n) passed in (
-      c .with-time .ensures
-          ∙ ap (λ (n : ℕ). withTime t n (a .core)) left
-          ∙ sym (timed-on P t (a .core) (a .memory .now) on)
-          ∙ ap (λ (n : ℕ). timedIn P n (a .core) (a .memory .now)) (added .ensures),
-      (
-        sym (no-end waitsPage P t (a .core) (a .memory .now) on)
-            ∙ ap (λ (n : ℕ). timedMemory P n (a .core) (a .memory .now)) (added .ensures),
-        sym (no-end waitsIdentification P t (a .core) (a .identification .now) on)
-            ∙ ap (λ (n : ℕ). timedIdentification P n (a .core) (a .identification .now)) (added .ensures),
-      ),
-    )
+    let d : FrameBench = frameBench (a .core) (a .memory .now) (a .identification .now) in
+    ap (λ (y : Core). frameBench y (d .memory) (d .identification)) (c .with-time .ensures)
+    ∙ moved-on (ownPart (a .core)) (a .interval) d (c .before .before .before .before .before .wrapping-add-u32 .ensures)
+    (c .before .before .before .before .elapsed .ensures) (c .before .before .before .ends .ensures) (c .before .before .if1 .left)
+    (c .before .left-after .ensures)
 
 pub moved-spec : {M : Type 1} → statement M
 moved-spec =

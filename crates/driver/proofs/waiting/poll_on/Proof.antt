@@ -1,23 +1,19 @@
-use mathlib.Core.Path.{_≡_, refl, ap, sym, subst, _∙_}
+use mathlib.Core.Path.{_≡_, refl, ap, ap₂, sym, subst, _∙_}
+use mathlib.Core.Bool.{true}
 use mathlib.Core.Logic.{⊎-elim}
 use mathlib.Core.List.{[], _∷_}
-use Prim.Native.Nat.{ℕ, _-_, _≤_}
-use mathlib.Core.Bool.{false, _&&_}
-use lib.Dec.{leb}
+use Prim.Native.Nat.{ℕ, _-_, _<_, _≤_}
 use native.Mathlib.Omega.{arith}
-use lib.ListN.{length}
 use Rattle.codes.specs.Part.{Part}
-use Rattle.chip.specs.Records.{ownPart, status, running, waitsPage, waitsIdentification, withTime}
-use Rattle.chip.specs.Time.{ends, timedIn, timedMemory, timedIdentification}
-use Rattle.chip.proofs.Passing.{no-end}
-use Rattle.chip.proofs.Recounts.{timed-on}
-use Rattle.chip.specs.Ranges.{inRanges}
+use Rattle.chip.specs.Records.{ownPart, status, running, withTime}
 use Rattle.codes.proofs.Sound.{sound-of}
-use Rattle.frames.specs.Play.{FrameBench, acted, frameBench}
+use Rattle.frames.specs.Play.{FrameBench, reading, acted, frameBench}
 use Rattle.sequence.specs.Sequence.{moved}
-use Rattle.sequence.proofs.Ready.{Ready, bench-of, ready-acted-all, own-acted}
+use Rattle.sequence.specs.Ready.{Ready}
+use Rattle.sequence.proofs.Ready.{bench-of, ready-acted-all, own-acted}
 use Rattle.sequence.proofs.Joined.{late-poll-leaves}
 use Rattle.sequence.proofs.Waits.{goes-on, is-over, Onward, onward-first, onward-next, onward-last}
+use Rattle.driver.proofs.Moved.{moved-on}
 use borrow.Author.Needs.{needs}
 use Rattle.driver.proofs.waiting.poll_on.Statement.{statement}
 use Rattle.driver.proofs.waiting.poll_on.Tie as tie
@@ -37,9 +33,7 @@ loop-holds : tie.Need-loop-holds Inv-loop μ-loop
 loop-holds c =
     let start = c .before .before in
     let P = ownPart (start .args .start) in
-    let ready : Ready P (frameBench (start .args .start) (start .args .memory .now) (start .args .identification .now)) =
-    record { whole = start .pre .0; page = start .pre .1 .0; ranges = start .pre .1 .1 .0 } in
-    (omega arith, (start .pre .1 .1 .1, (refl, (ready, onward-first P _ _ _))))
+    (omega arith, (start .pre .1, (refl, (start .pre .0, onward-first P _ _ _))))
 
 wrapping-add-u32-requires : tie.Need-wrapping-add-u32-requires Inv-loop μ-loop
 wrapping-add-u32-requires c κs = search needs
@@ -59,72 +53,55 @@ left-after-requires c κs = search needs
 poll-requires : tie.Need-poll-requires Inv-loop μ-loop
 poll-requires c κs = search needs
 
+-- in the loop: polls are left, and a cycle runs
+on : (w : tie.After-wrapping-add-u32 Inv-loop μ-loop) → let l = w .before .before .loop in
+    (l .polls < w .before .before .before .before .before .args .left) × (running (l .core) ≡ true)
+on w =
+    let l = w .before .before .loop in
+    goes-on (l .polls) (w .before .before .before .before .before .args .left) (l .status) (l .core) (l .inv .1 .0) (w .before .loop-test .taken)
+
 add-polls : tie.Need-add-polls Inv-loop μ-loop
 add-polls c =
-    let l = c .before .before .before .before .before .before .loop in
-    let start = c .before .before .before .before .before .before .before .before .before in
-    let a = start .args in
-    let on = goes-on (l .polls) (a .left) (l .status) (l .core) (l .inv .1 .0) (c .before .before .before .before .before .loop-test .taken) in
-    let most = start .good in
-    omega (arith, on .0)
+    let w = c .before .before .before .before in
+    let most = w .before .before .before .before .before .good in
+    omega (arith, on w .0)
 
 loop-less : tie.Need-loop-less Inv-loop μ-loop
-loop-less c =
-    let l = c .before .before .before .before .before .before .loop in
-    let start = c .before .before .before .before .before .before .before .before .before in
-    let a = start .args in
-    let on = goes-on (l .polls) (a .left) (l .status) (l .core) (l .inv .1 .0) (c .before .before .before .before .before .loop-test .taken) in
-    omega (arith, on .0)
+loop-less c = omega (arith, on (c .before .before .before .before) .0)
 
 loop-again : tie.Need-loop-again Inv-loop μ-loop
 loop-again c =
-    let l = c .before .before .before .before .before .before .loop in
-    let start = c .before .before .before .before .before .before .before .before .before in
-    let a = start .args in
-    let on = goes-on (l .polls) (a .left) (l .status) (l .core) (l .inv .1 .0) (c .before .before .before .before .before .loop-test .taken) in
+    let w = c .before .before .before .before in
+    let l = w .before .before .loop in
+    let a = w .before .before .before .before .before .args in
     let P = ownPart (a .start) in
     let d : FrameBench = frameBench (l .core) (l .memory) (l .identification) in
     let x : FrameBench = frameBench (c .before .if1 .core) (c .before .if1 .memory) (c .before .if1 .identification) in
-    let added = c .before .before .before .before .wrapping-add-u32 in
-    let t = added .result in
-    let passed = c .before .before .before .elapsed .ensures in
+    let t = w .wrapping-add-u32 .result in
+    let clock = w .wrapping-add-u32 .ensures in
     let same = l .inv .1 .1 .0 in
-    let step = ap (λ (n : ℕ). timedIn P n (l .core) (l .memory)) (added .ensures) in
-    let kept = ap (λ (n : ℕ). timedMemory P n (l .core) (l .memory)) (added .ensures) in
-    let kept-page = ap (λ (n : ℕ). timedIdentification P n (l .core) (l .identification)) (added .ensures) in
-    let core = ap (λ (Q : Part). timedIn Q t (l .core) (l .memory)) same ∙ step in
-    let memory = ap (λ (Q : Part). timedMemory Q t (l .core) (l .memory)) same ∙ kept in
-    let page = ap (λ (Q : Part). timedIdentification Q t (l .core) (l .identification)) same ∙ kept-page in
     let e : x ≡ acted P (moved (a .interval) d) d =
     ⊎-elim
-    (λ w.
-    let told = w .3 .ensures in
-    bench-of (acted P (moved (a .interval) d) d) (w .10 ∙ told .0 ∙ core) (w .8 ∙ told .1 .0 ∙ memory) (w .9 ∙ told .1 .1 ∙ page))
-    (λ w.
-    let on : ends t (l .core) ≡ false =
-    ap (λ (n : ℕ). running (l .core) && leb (l .core .left) n) (sym passed) ∙ sym (c .before .before .ends .ensures) ∙ w .0 .left in
-    let rest = w .1 .ensures ∙ ap (λ (n : ℕ). l .core .left - n) passed in
-    bench-of (acted P (moved (a .interval) d) d)
-    (w .4 ∙ ap (λ (n : ℕ). withTime t n (l .core)) rest ∙ sym (timed-on P t (l .core) (l .memory) on) ∙ step)
-    (w .2 ∙ sym (no-end waitsPage P t (l .core) (l .memory) on) ∙ kept)
-    (w .3 ∙ sym (no-end waitsIdentification P t (l .core) (l .identification) on) ∙ kept-page))
+    (λ y.
+    let step = y .3 .ensures in
+    bench-of (acted (ownPart (l .core)) (reading t) d) (y .10 ∙ step .0) (y .8 ∙ step .1 .0) (y .9 ∙ step .1 .1)
+    ∙ ap₂ (λ (Q : Part) (n : ℕ). acted Q (reading n) d) same clock)
+    (λ y.
+    bench-of (frameBench (withTime t (y .1 .result) (l .core)) (l .memory) (l .identification)) (y .4) (y .2) (y .3)
+    ∙ moved-on P (a .interval) d clock (c .before .before .before .elapsed .ensures) (c .before .before .ends .ensures) (y .0 .left) (y .1 .ensures))
     (c .before .if1 .came) in
-    let ready : Ready P x =
-    subst (Ready P) (sym e) (ready-acted-all P (sound-of (a .start .part)) (moved (a .interval) d ∷ []) d (l .inv .1 .1 .1 .0)) in
+    let acts = moved (a .interval) d ∷ [] in
+    let ready : Ready P x = subst (Ready P) (sym e) (ready-acted-all P (sound-of (a .start .part)) acts d (l .inv .1 .1 .1 .0)) in
     let rest =
-    onward-next P (a .interval) (a .left) _ (l .polls) d x (e ∙ late-poll-leaves P (a .interval) d) (on .0) (on .1) (l .inv .1 .1 .1 .1) in
-    let stays = own-acted P (moved (a .interval) d ∷ []) d (ap (λ (y : FrameBench). y .core) e) ∙ same in
-    (omega (arith, on .0), (c .poll .ensures, (stays, (ready, rest))))
+    onward-next P (a .interval) (a .left) _ (l .polls) d x (e ∙ late-poll-leaves P (a .interval) d) (on w .0) (on w .1) (l .inv .1 .1 .1 .1) in
+    let stays = own-acted P acts d (ap (λ (y : FrameBench). y .core) e) ∙ same in
+    (omega (arith, on w .0), (c .poll .ensures, (stays, (ready, rest))))
 
 same-length : tie.Need-same-length Inv-loop μ-loop
-same-length c =
-    let start = c .before .before .before .before in
-    c .before .loop .inv .1 .1 .1 .0 .whole ∙ sym (start .pre .0)
+same-length c = c .before .loop .inv .1 .1 .1 .0 .whole ∙ sym (c .before .before .before .before .pre .0 .whole)
 
 same-length-2 : tie.Need-same-length-2 Inv-loop μ-loop
-same-length-2 c =
-    let start = c .before .before .before .before in
-    c .before .loop .inv .1 .1 .1 .0 .page ∙ sym (start .pre .1 .0)
+same-length-2 c = c .before .loop .inv .1 .1 .1 .0 .page ∙ sym (c .before .before .before .before .pre .0 .page)
 
 returns : tie.Need-returns Inv-loop μ-loop
 returns c =
