@@ -52,6 +52,18 @@ module _ (m n : List ℕ) (long : length n ≡ length m) where
       let sum : b + gained m n - lost m n ≡ blanks n = omega (arith, exchange, e) in
       ap (heldWithin (P .size)) sum ∙ held-same (P .size) (blanks n) (omega (arith, blanks-most n, long, size))
 
+-- ---- cells in a row: those below where they start, and their own
+
+pub row-count : (m : List ℕ) (a n : ℕ) → a + n ≤ length m → count (blankAt m) (a + n) ≡ count (blankAt m) a + blanks (take n (drop a m))
+row-count m a n fits =
+    let row : List ℕ = take n (drop a m) in
+    let long : length row ≡ n = length-take-le n (drop a m) (simp length-drop (omega arith)) in
+    let own : count (λ i. blankAt m (a + i)) n ≡ blanks row =
+    count-cong (λ i. blankAt m (a + i)) (blankAt row) n
+    (λ i h. ap (λ (x : ℕ). eqb x 0xff) (sym (getD-take n (drop a m) i 0 h ∙ getD-drop a m i 0)))
+    ∙ ap (count (blankAt row)) (sym long) in
+    count-add (blankAt m) a n ∙ ap (λ (x : ℕ). count (blankAt m) a + x) own
+
 -- ---- a page of the memory
 
 module _ (P : Part) (p : ℕ) (m : List ℕ) (fits : p * P .page + P .page ≤ length m) where
@@ -60,9 +72,6 @@ module _ (P : Part) (p : ℕ) (m : List ℕ) (fits : p * P .page + P .page ≤ l
 
   abbrev page : List ℕ
   page = take (P .page) (drop start m)
-
-  long : length page ≡ P .page
-  long = length-take-le (P .page) (drop start m) (simp length-drop (omega arith))
 
   -- the cells before the page, its own, and those past it
   abbrev pub beforeIt : ℕ
@@ -74,13 +83,9 @@ module _ (P : Part) (p : ℕ) (m : List ℕ) (fits : p * P .page + P .page ≤ l
   pub page-apart : blanks m ≡ beforeIt + blanks page + pastIt
   page-apart =
       let all : length m ≡ start + P .page + (length m - (start + P .page)) = omega arith in
-      let own : count (λ i. blankAt m (start + i)) (P .page) ≡ blanks page =
-      count-cong (λ i. blankAt m (start + i)) (blankAt page) (P .page)
-      (λ i h. ap (λ (x : ℕ). eqb x 0xff) (sym (getD-take (P .page) (drop start m) i 0 h ∙ getD-drop start m i 0)))
-      ∙ ap (count (blankAt page)) (sym long) in
       ap (count (blankAt m)) all
       ∙ count-add (blankAt m) (start + P .page) (length m - (start + P .page))
-      ∙ ap (λ (x : ℕ). x + pastIt) (count-add (blankAt m) start (P .page) ∙ ap (λ (x : ℕ). beforeIt + x) own)
+      ∙ ap (λ (x : ℕ). x + pastIt) (row-count m start (P .page) fits)
 
   pub in-it : blanksIn P p m ≡ blanks page
   in-it = at-yes _ _ (le-leb _ _ fits)

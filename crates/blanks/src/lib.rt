@@ -12,14 +12,39 @@ use codes::page_of;
 use codes::size_of;
 use latch::Latch;
 
+// So many cells are counted in a byte.
+const FEW: usize = 128;
+
+// The blank cells among a few. A byte counts them, so that the processor looks at many at once.
+fn few(cells: &[u8]) -> u8
+    requires { ⌜ length (now cells) ≤ 128 ⌝ }
+    ensures { λ r. ⌜ r ≡ blanks (now (cells .entry)) ⌝ }
+{
+    let mut n: u8 = 0;
+    for i in 0..cells.len() {
+        n += (cells[i] == 255) as u8;
+    }
+    n
+}
+
+// A few of the cells that are left.
+fn few_of(left: usize) -> usize
+    ensures { λ r. ⌜ (r ≤ left) × (r ≤ 128) × (1 ≤ left → 1 ≤ r) ⌝ }
+{
+    if left < FEW { left } else { FEW }
+}
+
 // The blank cells among all that are lent.
 fn scan(cells: &[u8]) -> u32
     requires { ⌜ length (now cells) ≤ roomCells ⌝ }
     ensures { λ r. ⌜ r ≡ blanks (now (cells .entry)) ⌝ }
 {
     let mut n: u32 = 0;
-    for i in 0..cells.len() {
-        n += (cells[i] == 255) as u32;
+    let mut at: usize = 0;
+    while at < cells.len() {
+        let end = at + few_of(cells.len() - at);
+        n += few(&cells[at..end]) as u32;
+        at = end;
     }
     n
 }
