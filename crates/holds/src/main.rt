@@ -98,8 +98,8 @@ fn write_bits(part: u8) -> usize {
     8 * (head_of(part) as usize + 1)
 }
 
-// A case: BP0 and WEL before it, a WRITE of one byte whose cycle runs, or 0, the frame and how many of its bits are sent,
-// and the cell that is shown.
+// A case: BP0 and WEL before it, a WRITE of one byte whose cycle runs, or 0, the frame and how many of its bits are
+// sent, and the cell that is shown.
 struct Case {
     part: u8,
     bp0: bool,
