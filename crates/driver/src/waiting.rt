@@ -116,5 +116,6 @@ pub(crate) fn page_wait(
         (now (identification .exit)) ⌝ }
 {
     let next = moved(core, memory, identification, interval);
-    first_wait(next, memory, identification, interval, limit)
+    let seen = poll(next);
+    poll_on(next, seen, memory, identification, interval, limit - 1).and_sent(1)
 }
