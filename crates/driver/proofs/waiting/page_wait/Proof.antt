@@ -51,8 +51,9 @@ same-length-2 c = search needs
 returns : tie.Need-returns
 returns c =
     let wait = c .before .before .before .before .before .poll-on in
-    let next = c .before .before .before .before .before .before .before .before .before .before .before .before .before .moved in
-    let a = c .before .before .before .before .before .before .before .before .before .before .before .before .before .before .before .before .before .before .args in
+    let late = c .before .before .before .before .before .before .before .before .before .before .before .before .before in
+    let next = late .moved in
+    let a = late .before .before .before .before .before .args in
     let Q = ownPart (next .result) in
     let x : FrameBench = frameBench (next .result) (next .last .1 .0) (next .last .1 .1 .0) in
     let first =
