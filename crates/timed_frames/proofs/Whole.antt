@@ -197,22 +197,26 @@ module _ (c : Core) (m : Lent) (s : List ℕ) (n : ℕ) (ps ts : List ℕ) (k : 
   from : (l : List ℕ) → rest l ≡ drop (due 1 ps) l
   from l = part-to-end l k ∙ ap (λ (j : ℕ). drop j l) came
 
-  pub next-fits : length ps ≡ length ts → (room : ℕ)
-      → frameOutcome P c (length (m .memory)) (length (m .identification)) (length s) n room ≡ outcome.Done
-      → (frameOutcome Q (y .core) (length (y .memory)) (length (y .identification)) (length s) n room ≡ outcome.Done)
-      × ((length (rest ps) ≡ length (rest ts)) × (due 1 (rest ps) ≡ 0))
-  next-fits same room done =
-      let fits : Part → FrameBench → Outcome = λ O x. frameOutcome O (x .core) (length (x .memory)) (length (x .identification)) (length s) n room in
-      let long : (l : List ℕ) → length (rest l) ≡ length l - k = λ l. ap length (part-to-end l k) ∙ length-drop k l in (
-        ap₂ fits part first ∙ still-taken P (take (due 1 ps) ts) (given c m) (length s) n room done,
-        (long ps ∙ ap (λ (j : ℕ). j - k) same ∙ sym (long ts), ap (due 1) (from ps) ∙ none-left P ps ts (given c m)),
-      )
+  -- what the frame goes on with: it is not refused, its lists are of one length with no reading at 0, and what it hands back is the call's answer
+  pub record Next (w : Bool) (o : Mode) (out : List ℕ) : Type 0 where
+    pub fits : frameOutcome Q (y .core) (length (y .memory)) (length (y .identification)) (length s) n (length out) ≡ outcome.Done
+    pub lengths : length (rest ps) ≡ length (rest ts)
+    pub none : due 1 (rest ps) ≡ 0
+    pub carried : {r : Framed} {cells page shown : List ℕ} → r .answer ≡ Shown (undriven Q (instruction Q s) (running (y .core)) n)
+        → frameBench (r .core) cells page ≡ leftBy Q (rest ps) (rest ts) y w s n
+        → shown ≡ output Q (running (y .core)) (sightsIn Q (rest ps) (rest ts) y o) s n
+        → AnsweredInTime P c m w o s n ps ts out r cells page shown
 
-  pub next-carried : (w : Bool) (o : Mode) (out : List ℕ) {r : Framed} {cells page shown : List ℕ} → placesFit n ps ts ≡ true
-      → frameOutcome P c (length (m .memory)) (length (m .identification)) (length s) n (length out) ≡ outcome.Done
-      → r .answer ≡ Shown (undriven Q (instruction Q s) (running (y .core)) n)
-      → frameBench (r .core) cells page ≡ leftBy Q (rest ps) (rest ts) y w s n
-      → shown ≡ output Q (running (y .core)) (sightsIn Q (rest ps) (rest ts) y o) s n
-      → AnsweredInTime P c m w o s n ps ts out r cells page shown
-  next-carried w o out fits done =
-      carried-out P c m w o s n ps ts out (placed P c m s n ps ts (length out) fits ∙ done) part (from ps) (from ts) first
+  pub next : (w : Bool) (o : Mode) (out : List ℕ) → placesFit n ps ts ≡ true → length ps ≡ length ts
+      → frameOutcome P c (length (m .memory)) (length (m .identification)) (length s) n (length out) ≡ outcome.Done → Next w o out
+  next w o out placed-so same done =
+      let room = length out in
+      let outcome-of : Part → FrameBench → Outcome =
+      λ O x. frameOutcome O (x .core) (length (x .memory)) (length (x .identification)) (length s) n room in
+      let long : (l : List ℕ) → length (rest l) ≡ length l - k = λ l. ap length (part-to-end l k) ∙ length-drop k l in
+      record {
+        fits = ap₂ outcome-of part first ∙ still-taken P (take (due 1 ps) ts) (given c m) (length s) n room done;
+        lengths = long ps ∙ ap (λ (j : ℕ). j - k) same ∙ sym (long ts);
+        none = ap (due 1) (from ps) ∙ none-left P ps ts (given c m);
+        carried = carried-out P c m w o s n ps ts out (placed P c m s n ps ts room placed-so ∙ done) part (from ps) (from ts) first;
+      }

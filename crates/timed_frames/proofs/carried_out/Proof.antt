@@ -1,5 +1,5 @@
 -- The readings at 0 come, and the frame goes on with the rest of its lists: by what the frames in a cycle and out of one promise.
-use Prim.Native.Nat.{ℕ}
+use Prim.Native.Nat.{ℕ, _≤_}
 use mathlib.Core.Bool.{true}
 use mathlib.Core.List.{List}
 use mathlib.Core.Path.{_≡_, sym, _∙_}
@@ -12,7 +12,7 @@ use Rattle.chip.specs.Lents.{lent}
 use Rattle.frames.specs.Play.{frameBench}
 use Rattle.timed_frames.specs.Schedules.{due, placesFit}
 use Rattle.timed_frames.proofs.Walks.{due-most}
-use Rattle.timed_frames.proofs.Whole.{next-fits, next-carried}
+use Rattle.timed_frames.proofs.Whole.{Next, next}
 use borrow.Author.Needs.{needs}
 use Rattle.timed_frames.proofs.carried_out.Statement.{statement}
 use Rattle.timed_frames.proofs.carried_out.Tie as tie
@@ -27,54 +27,44 @@ to-requires c κs =
     let a = start .args in
     (same-lengths (a .bits) (a .positions .now) (a .readings .now) (start .pre .0), omega arith)
 
+-- the readings at 0: no more than the lists have
+came : (w : tie.After-to) → let a = w .before .before .before .before .before .before .before .before .before .args in
+    (w .to .result .next ≡ due 1 (a .positions .now))
+    × ((w .to .result .next ≤ length (a .positions .now)) × (w .to .result .next ≤ length (a .readings .now)))
+came w =
+    let start = w .before .before .before .before .before .before .before .before .before in
+    let a = start .args in
+    let few = due-most 1 (a .positions .now) in
+    let same = same-lengths (a .bits) (a .positions .now) (a .readings .now) (start .pre .0) in
+    let all : w .to .result .next ≡ due 1 (a .positions .now) = omega (arith, w .to .ensures .0) in
+    (all, (omega arith, omega arith))
+
 mul-rest : tie.Need-mul-rest
 mul-rest c =
-    let start = c .before .before .before .before .before .before .before .before .before .before .before .before .before .before in
-    omega (arith, c .before .before .before .before .before .to .ensures .0, due-most 1 (start .args .positions .now), start .good, start .fits)
+    let w = c .before .before .before .before .before in
+    let start = w .before .before .before .before .before .before .before .before .before in
+    omega (arith, came w .1 .0, start .good, start .fits)
 
 sub-rest : tie.Need-sub-rest
-sub-rest c =
-    let a = c .before .before .before .before .before .before .before .before .before .before .before .before .before .before .args in
-    omega (arith, c .before .before .before .before .before .to .ensures .0, due-most 1 (a .positions .now))
+sub-rest c = came (c .before .before .before .before .before) .1 .0
 
 part-rest-start : tie.Need-part-rest-start
-part-rest-start c =
-    let a = c .before .before .before .before .before .before .before .before .before .before .before .before .before .before .args in
-    omega (arith, c .before .before .before .before .before .to .ensures .0, due-most 1 (a .positions .now))
+part-rest-start c = came (c .before .before .before .before .before) .1 .0
 
 part-rest-end : tie.Need-part-rest-end
 part-rest-end c = search needs
 
 mul-times : tie.Need-mul-times
 mul-times c =
-    let start = c .before .before .before .before .before .before .before .before .before .before .before .before .before .before .before in
-    omega (arith, c .before .before .before .before .before .before .to .ensures .0, due-most 1 (start .args .positions .now), start .good, start .fits)
+    let w = c .before .before .before .before .before .before in
+    let start = w .before .before .before .before .before .before .before .before .before in
+    omega (arith, came w .1 .0, start .good, start .fits)
 
 sub-times : tie.Need-sub-times
-sub-times c =
-    let c8 = c .before .before .before .before .before .before .before .before in
-    let start = c8 .before .before .before .before .before .before .before in
-    let a = start .args in
-    omega (
-      arith,
-      c .before .before .before .before .before .before .to .ensures .0,
-      due-most 1 (a .positions .now),
-      same-lengths (a .bits)
-          (a .positions .now) (a .readings .now) (start .pre .0),
-    )
+sub-times c = came (c .before .before .before .before .before .before) .1 .1
 
 part-times-start : tie.Need-part-times-start
-part-times-start c =
-    let c8 = c .before .before .before .before .before .before .before .before in
-    let start = c8 .before .before .before .before .before .before .before in
-    let a = start .args in
-    omega (
-      arith,
-      c .before .before .before .before .before .before .to .ensures .0,
-      due-most 1 (a .positions .now),
-      same-lengths (a .bits)
-          (a .positions .now) (a .readings .now) (start .pre .0),
-    )
+part-times-start c = came (c .before .before .before .before .before .before) .1 .1
 
 part-times-end : tie.Need-part-times-end
 part-times-end c = search needs
@@ -82,21 +72,27 @@ part-times-end c = search needs
 running-requires : tie.Need-running-requires
 running-requires c κs = search needs
 
+-- with the readings at 0 gone: what the frame goes on with, in a cycle or out of one
+gone : (w : tie.After-running) → let w8 = w .before .before .before .before .before .before .before .before in
+    let to = w8 .to in
+    let a = w8 .before .before .before .before .before .before .before .before .before .args in
+    Next (a .core) (lent (a .memory .now) (a .identification .now)) (a .bytes .now) (a .bits) (a .positions .now) (a .readings .now) (to .result .next)
+    (frameBench (to .result .core) (to .last .1 .1 .1 .1 .0) (to .last .1 .1 .1 .1 .1 .0)) (came w8 .0) (to .ensures .1)
+    (a .w) (a .mode) (a .out .now)
+gone w =
+    let w8 = w .before .before .before .before .before .before .before .before in
+    let to = w8 .to in
+    let start = w8 .before .before .before .before .before .before .before .before .before in
+    let a = start .args in
+    next (a .core) (lent (a .memory .now) (a .identification .now)) (a .bytes .now) (a .bits) (a .positions .now) (a .readings .now) (to .result .next)
+    (frameBench (to .result .core) (to .last .1 .1 .1 .1 .0) (to .last .1 .1 .1 .1 .1 .0)) (came w8 .0) (to .ensures .1)
+    (a .w) (a .mode) (a .out .now) (start .pre .0) (same-lengths (a .bits) (a .positions .now) (a .readings .now) (start .pre .0)) (start .pre .1)
+
 ran-frame-requires : tie.Need-ran-frame-requires
 ran-frame-requires c κs =
-    let c8 = c .before .before .before .before .before .before .before .before in
-    let c16 = c8 .before .before .before .before .before .before .before .before in
-    let start = c16 .before .before .before .before .before in
-    let a = start .args in
-    let ps = a .positions .now in
-    let ts = a .readings .now in
-    let m = lent (a .memory .now) (a .identification .now) in
-    let to = c8 .before .before .before .before .to in
-    let y = frameBench (to .result .core) (to .last .1 .1 .1 .1 .0) (to .last .1 .1 .1 .1 .1 .0) in
-    let came : to .result .next ≡ due 1 ps = omega (arith, to .ensures .0) in
-    let next = next-fits (a .core) m (a .bytes .now) (a .bits) ps ts (to .result .next) y came (to .ensures .1)
-    (same-lengths (a .bits) ps ts (start .pre .0)) (length (a .out .now)) (start .pre .1) in
-    (next .0, (next .1, sym (c .before .before .before .before .running .ensures) ∙ c .before .before .before .if1 .taken))
+    let w = c .before .before .before .before in
+    let g = gone w in
+    (g .fits, ((g .lengths, g .none), sym (w .running .ensures) ∙ c .before .before .before .if1 .taken))
 
 same-length : tie.Need-same-length
 same-length c = search needs
@@ -109,36 +105,15 @@ same-length-3 c = search needs
 
 returns : tie.Need-returns
 returns c =
-    let c8 = c .before .before .before .before .before .before .before .before in
-    let c16 = c8 .before .before .before .before .before .before .before .before in
-    let c24 = c16 .before .before .before .before .before .before .before .before in
-    let start = c24 .before .before .before .before in
-    let a = start .args in
-    let ps = a .positions .now in
-    let ts = a .readings .now in
-    let m = lent (a .memory .now) (a .identification .now) in
-    let to = c16 .before .before .before .to in
-    let y = frameBench (to .result .core) (to .last .1 .1 .1 .1 .0) (to .last .1 .1 .1 .1 .1 .0) in
-    let came : to .result .next ≡ due 1 ps = omega (arith, to .ensures .0) in
+    let w = c .before .before .before .before .before .before .before .before .before .before .before in
     let f = c .before .before .before .before .before .before .ran-frame .ensures in
-    next-carried (a .core) m (a .bytes .now) (a .bits) ps ts (to .result .next) y came (to .ensures .1)
-    (a .w) (a .mode) (a .out .now) (start .pre .0) (start .pre .1) (f .0) (f .1 .0) (f .1 .1)
+    gone w .carried (f .0) (f .1 .0) (f .1 .1)
 
 quiet-frame-requires : tie.Need-quiet-frame-requires
 quiet-frame-requires c κs =
-    let c8 = c .before .before .before .before .before .before .before .before in
-    let c16 = c8 .before .before .before .before .before .before .before .before in
-    let start = c16 .before .before .before .before .before in
-    let a = start .args in
-    let ps = a .positions .now in
-    let ts = a .readings .now in
-    let m = lent (a .memory .now) (a .identification .now) in
-    let to = c8 .before .before .before .before .to in
-    let y = frameBench (to .result .core) (to .last .1 .1 .1 .1 .0) (to .last .1 .1 .1 .1 .1 .0) in
-    let came : to .result .next ≡ due 1 ps = omega (arith, to .ensures .0) in
-    let next = next-fits (a .core) m (a .bytes .now) (a .bits) ps ts (to .result .next) y came (to .ensures .1)
-    (same-lengths (a .bits) ps ts (start .pre .0)) (length (a .out .now)) (start .pre .1) in
-    (next .0, (next .1, sym (c .before .before .before .before .running .ensures) ∙ c .before .before .before .if1 .left))
+    let w = c .before .before .before .before in
+    let g = gone w in
+    (g .fits, ((g .lengths, g .none), sym (w .running .ensures) ∙ c .before .before .before .if1 .left))
 
 same-length-4 : tie.Need-same-length-4
 same-length-4 c = search needs
@@ -151,20 +126,11 @@ same-length-6 c = search needs
 
 returns-2 : tie.Need-returns-2
 returns-2 c =
-    let c8 = c .before .before .before .before .before .before .before .before in
-    let c16 = c8 .before .before .before .before .before .before .before .before in
-    let c24 = c16 .before .before .before .before .before .before .before .before in
-    let start = c24 .before .before .before .before in
-    let a = start .args in
-    let ps = a .positions .now in
-    let ts = a .readings .now in
-    let m = lent (a .memory .now) (a .identification .now) in
-    let to = c16 .before .before .before .to in
-    let y = frameBench (to .result .core) (to .last .1 .1 .1 .1 .0) (to .last .1 .1 .1 .1 .1 .0) in
-    let came : to .result .next ≡ due 1 ps = omega (arith, to .ensures .0) in
+    let w = c .before .before .before .before .before .before .before .before .before .before .before in
+    let c8 = w .before .before .before .before .before .before .before .before in
+    let mode = c8 .before .before .before .before .before .before .before .before .before .args .mode in
     let f = c .before .before .before .before .before .before .quiet-frame .ensures in
-    next-carried (a .core) m (a .bytes .now) (a .bits) ps ts (to .result .next) y came (to .ensures .1)
-    (a .w) (a .mode) (a .out .now) (start .pre .0) (start .pre .1) (f .0) (f .1 .0) (f .1 .1 (a .mode))
+    gone w .carried (f .0) (f .1 .0) (f .1 .1 mode)
 
 pub carried-out-spec : {M : Type 1} → statement M
 carried-out-spec =

@@ -1,5 +1,5 @@
 use mathlib.Core.Path.{_≡_, ap, sym, _∙_}
-use mathlib.Core.Bool.{not, _&&_}
+use mathlib.Core.Bool.{true, not, _&&_}
 use mathlib.Core.List.{List}
 use Prim.Native.Nat.{ℕ, _<_}
 use native.Mathlib.Omega.{arith}
@@ -33,21 +33,37 @@ add-next c =
     let small : s .shown < 8 = ltb-true (s .shown) 8 (and-right (leb 1 (s .shown)) (ltb (s .shown) 8) (c .if2 .taken)) in
     omega arith
 
+-- what is asked of the instruction: whether Q is driven ..
+drives : (b : tie.After-bit) → let a = b .before .before .before .before .before .before .before .before .before .args in
+    let P = ownPart (a .core) in
+    outputs P (decode P (a .self .code)) (a .self .taken) (on (a .self .ran)) ≡ b .before .before .before .outputs .result
+drives b =
+    let a = b .before .before .before .before .before .before .before .before .before .args in
+    sym (b .before .before .before .outputs .ensures
+    ∙ ap (λ i. outputs (ownPart (a .core)) i (a .self .taken) (on (a .self .ran))) (b .before .before .before .before .before .decode .ensures))
+
+-- .. and then whether the edge counts too
+counting : (b : tie.After-bit) → let a = b .before .before .before .before .before .before .before .before .before .args in
+    let s = a .self in
+    let P = ownPart (a .core) in
+    let counted = not (on (s .s)) && not (on (s .held)) in
+    (counted && b .before .before .before .outputs .result) ≡ true → (counted ≡ true) × (outputs P (decode P (s .code)) (s .taken) (on (s .ran)) ≡ true)
+counting b both =
+    let s = b .before .before .before .before .before .before .before .before .before .args .self in
+    let counted = not (on (s .s)) && not (on (s .held)) in
+    let driven = b .before .before .before .outputs .result in
+    (and-left counted driven both, drives b ∙ and-right counted driven both)
+
 returns : tie.Need-returns
 returns c =
     let b = c .before .before in
     let at = b .before .before .before .before .before .before .before .before .before in
     let s = at .args .self in
-    let m : List ℕ → Lent = lent (at .args .memory .now) in
     let k = at .args .core in
-    let drives = b .before .before .before .outputs .result in
-    let o : outputs (ownPart k) (decode (ownPart k) (s .code)) (s .taken) (on (s .ran)) ≡ drives =
-    sym (b .before .before .before .outputs .ensures
-    ∙ ap (λ i. outputs (ownPart k) i (s .taken) (on (s .ran))) (b .before .before .before .before .before .decode .ensures)) in
-    let counted = not (on (s .s)) && not (on (s .held)) in
-    let both = c .before .if1 .taken in
-    λ i l. down-counted (ownPart k) (m i) (whole s l k) _ _ (at .pre) (b .bit .ensures) (and-left counted drives both)
-    (next-bit (ownPart k) (m i) k (whole s l k .frame) (o ∙ and-right counted drives both) (c .if2 .taken))
+    let m : List ℕ → Lent = lent (at .args .memory .now) in
+    let shows = counting b (c .before .if1 .taken) in
+    λ i l. down-counted (ownPart k) (m i) (whole s l k) _ _ (at .pre) (b .bit .ensures) (shows .0)
+    (next-bit (ownPart k) (m i) k (whole s l k .frame) (shows .1) (c .if2 .taken))
 
 reads-requires : tie.Need-reads-requires
 reads-requires c κs = search needs
@@ -63,17 +79,12 @@ returns-2 c =
     let b = c .before .before .before .before .before .before in
     let at = b .before .before .before .before .before .before .before .before .before in
     let s = at .args .self in
-    let m : List ℕ → Lent = lent (at .args .memory .now) in
     let k = at .args .core in
-    let drives = b .before .before .before .outputs .result in
-    let o : outputs (ownPart k) (decode (ownPart k) (s .code)) (s .taken) (on (s .ran)) ≡ drives =
-    sym (b .before .before .before .outputs .ensures
-    ∙ ap (λ i. outputs (ownPart k) i (s .taken) (on (s .ran))) (b .before .before .before .before .before .decode .ensures)) in
-    let counted = not (on (s .s)) && not (on (s .held)) in
-    let both = c .before .before .before .before .before .if1 .taken in
+    let m : List ℕ → Lent = lent (at .args .memory .now) in
+    let shows = counting b (c .before .before .before .before .before .if1 .taken) in
     let read = sym (b .before .before .before .before .before .decode .ensures) ∙ c .before .before .before .reads .ensures (c .before .before .if3 .taken) in
-    λ i l. down-counted (ownPart k) (m i) (whole s l k) _ _ (at .pre) (b .bit .ensures) (and-left counted drives both)
-    (next-cell (ownPart k) (m i) k (whole s l k .frame) (o ∙ and-right counted drives both) _ _
+    λ i l. down-counted (ownPart k) (m i) (whole s l k) _ _ (at .pre) (b .bit .ensures) (shows .0)
+    (next-cell (ownPart k) (m i) k (whole s l k .frame) (shows .1) _ _
     (c .before .before .before .before .if2 .left) read (c .before .cell .ensures) (c .one-up .ensures))
 
 polls-requires : tie.Need-polls-requires
@@ -87,18 +98,13 @@ returns-3 c =
     let b = c .before .before .before .before .before .before .before in
     let at = b .before .before .before .before .before .before .before .before .before in
     let s = at .args .self in
-    let m : List ℕ → Lent = lent (at .args .memory .now) in
     let k = at .args .core in
-    let drives = b .before .before .before .outputs .result in
-    let o : outputs (ownPart k) (decode (ownPart k) (s .code)) (s .taken) (on (s .ran)) ≡ drives =
-    sym (b .before .before .before .outputs .ensures
-    ∙ ap (λ i. outputs (ownPart k) i (s .taken) (on (s .ran))) (b .before .before .before .before .before .decode .ensures)) in
-    let counted = not (on (s .s)) && not (on (s .held)) in
-    let both = c .before .before .before .before .before .before .if1 .taken in
+    let m : List ℕ → Lent = lent (at .args .memory .now) in
+    let shows = counting b (c .before .before .before .before .before .before .if1 .taken) in
     let asks = sym (b .before .before .before .before .before .decode .ensures) ∙ c .before .before .polls .ensures (c .before .if4 .taken) in
     let fresh = c .before .before .before .before .before .if2 .left in
-    λ i l. down-counted (ownPart k) (m i) (whole s l k) _ _ (at .pre) (b .bit .ensures) (and-left counted drives both)
-    (status-byte (ownPart k) (m i) k (whole s l k .frame) (o ∙ and-right counted drives both) _ fresh asks (c .status .ensures))
+    λ i l. down-counted (ownPart k) (m i) (whole s l k) _ _ (at .pre) (b .bit .ensures) (shows .0)
+    (status-byte (ownPart k) (m i) k (whole s l k .frame) (shows .1) _ fresh asks (c .status .ensures))
 
 returns-4 : tie.Need-returns-4
 returns-4 c = search needs
@@ -108,13 +114,10 @@ returns-5 c =
     let b = c .before in
     let at = b .before .before .before .before .before .before .before .before .before in
     let s = at .args .self in
-    let m : List ℕ → Lent = lent (at .args .memory .now) in
     let k = at .args .core in
-    let drives = b .before .before .before .outputs .result in
-    let o : outputs (ownPart k) (decode (ownPart k) (s .code)) (s .taken) (on (s .ran)) ≡ drives =
-    sym (b .before .before .before .outputs .ensures
-    ∙ ap (λ i. outputs (ownPart k) i (s .taken) (on (s .ran))) (b .before .before .before .before .before .decode .ensures)) in
-    λ i l. down (ownPart k) (m i) (whole s l k) _ (whole s l k) (at .pre) (b .bit .ensures) (still (ownPart k) (m i) k (whole s l k) drives o (c .if1 .left))
+    let m : List ℕ → Lent = lent (at .args .memory .now) in
+    λ i l. down (ownPart k) (m i) (whole s l k) _ (whole s l k) (at .pre) (b .bit .ensures)
+    (still (ownPart k) (m i) k (whole s l k) _ (drives b) (c .if1 .left))
 
 pub falling-spec : {M : Type 1} → statement M
 falling-spec =
