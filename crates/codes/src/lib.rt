@@ -25,7 +25,6 @@ pub use protect::lowest_protected;
 pub use sizes::ADDRESS_BYTES;
 pub use sizes::DENSITY;
 pub use sizes::FAMILY;
-pub use sizes::LARGE_HEAD;
 pub use sizes::LARGE_PAGE;
 pub use sizes::LARGE_SIZE;
 pub use sizes::M95M01;

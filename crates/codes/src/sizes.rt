@@ -29,12 +29,10 @@ pub const LARGE_SIZE: usize = 131072;
 
 pub const LARGE_PAGE: usize = 256;
 
-// Address bytes, which stand after the code, and the bytes before the data of a READ or a WRITE.
+// Address bytes, which stand after the code.
 pub const ADDRESS_BYTES: u8 = 2;
 
 const LARGE_ADDRESS_BYTES: u8 = 3;
-
-pub const LARGE_HEAD: usize = 1 + LARGE_ADDRESS_BYTES as usize;
 
 // The first bytes of the M95M01's identification page as delivered: ST, the SPI family, 1 Mbit.
 pub const MANUFACTURER: u8 = 0x20;

@@ -8,11 +8,9 @@ use lib.ListN.{length}
 use Rattle.codes.specs.Part.{Part}
 use Rattle.codes.specs.Status.{on, bitOf}
 use Rattle.chip.specs.Records.{ownPart, running}
-use Rattle.codes.proofs.Sound.{Sound}
 use Rattle.split.specs.Split.{count}
 use Rattle.frames.specs.Play.{Act, FrameBench, actedAll, frameBench}
 use Rattle.sequence.specs.Sequence.{sent, Ending, allDone, timedOut, Run, stopped, pagesFrom, allParts}
-use Rattle.sequence.specs.Ready.{Ready}
 use Rattle.sequence.proofs.Seen.{seen-wip}
 use Rattle.sequence.proofs.Runs.{partActs, pages-late, pages-none, Rest, rest-next}
 use Rattle.driver.specs.declared.RunReply.{RunReply}
@@ -78,10 +76,9 @@ module _ {P : Part} {i limit a : ℕ} {bytes : List ℕ} {parts before : ℕ} {d
       (omega arith) o
 
 -- what a part leaves that was written at its record's own part, which is P
-pub part-left : (P : Part) (sound : Sound P) (i limit a : ℕ) (bytes : List ℕ) (k : ℕ) (d : FrameBench) (r : Waited) (m p : List ℕ)
-    → ownPart (d .core) ≡ P → Ready P d
+pub part-left : (P : Part) (i limit a : ℕ) (bytes : List ℕ) (k : ℕ) (d : FrameBench) (r : Waited) (m p : List ℕ) → ownPart (d .core) ≡ P
     → Told (ownPart (d .core)) (partActs (ownPart (d .core)) i limit a bytes k d) d r m p
     → Left P (partActs P i limit a bytes k d) d r m p
-part-left P sound i limit a bytes k d r m p same ready t =
-    left P sound (partActs P i limit a bytes k d) d r m p same ready
+part-left P i limit a bytes k d r m p same t =
+    left P (partActs P i limit a bytes k d) d r m p same
     (subst (λ (Q : Part). Told Q (partActs Q i limit a bytes k d) d r m p) same t)

@@ -1,5 +1,6 @@
 // The driver: writes any run of bytes as page writes. WREN and WRITE go through the frame model's promise; a wait reads
-// the record's status and steps its time (docs/DECISIONS.md, Forms).
+// the record's status and steps its time (docs/DECISIONS.md, Forms). From a record inside its ranges no frame of a run
+// is refused (run-accepted of sequence), so the ranges are tested once.
 //
 // It waits until no cycle runs, reads from the status byte that ended that wait where protection starts, and refuses a
 // run that touches the block. Else it sends WREN and WRITE for each page part and waits for the end of its cycle. It
@@ -10,7 +11,6 @@ ghost use lib.ListN.{length};
 ghost use Rattle.chip.specs.Records.{ownPart};
 ghost use Rattle.frames.specs.Play.{frameBench};
 ghost use Rattle.sequence.specs.Sequence.{run};
-ghost use Rattle.sequence.specs.Ready.{Ready};
 ghost use Rattle.driver.specs.Answers.{runReplyNumber, runReplyPages, runReplyFrames, runAnswer};
 ghost use Rattle.driver.specs.Answers.{LimitFits, Drove};
 ghost use Rattle.driver.specs.Answers.{driveNumber, drivePages, driveFrames};
@@ -22,7 +22,6 @@ use codes::Refusal;
 mod answers;
 mod pages;
 mod refused;
-mod sending;
 mod status;
 mod waiting;
 
@@ -57,7 +56,6 @@ fn drive(
     interval: u32,
     limit: u32,
 ) -> Driven
-    requires { ⌜ Ready (ownPart core) (frameBench core (now memory) (now identification)) ⌝ }
     requires { ⌜ address + length (now bytes) ≤ ownPart core .size ⌝ }
     requires { ⌜ LimitFits (ownPart core) limit ⌝ }
     ensures { λ r. ⌜ Drove (ownPart core) runAnswer (run (ownPart core) interval limit address (now (bytes .entry)))

@@ -1,23 +1,19 @@
 // Page parts: WREN and WRITE for each, its wait, and what its last poll says.
-ghost use Prim.Native.Nat.{_+_, _≤_, _<_};
+ghost use Prim.Native.Nat.{_+_, _%_, _≤_, _<_};
 ghost use lib.ListN.{length};
 ghost use Rattle.chip.specs.Records.{ownPart};
 ghost use Rattle.split.specs.Split.{count};
 ghost use Rattle.frames.specs.Play.{frameBench};
 ghost use Rattle.sequence.specs.Sequence.{pageActs, partActs, allParts};
-ghost use Rattle.sequence.specs.Ready.{Ready};
 ghost use Rattle.driver.specs.Told.{ToldFrom};
 ghost use Rattle.driver.specs.Answers.{partsAnswer, LimitFits, Drove};
 use crate::Driven;
 use crate::RunReply;
 use crate::Sent;
-use crate::sending::send;
-use crate::sending::send_write;
 use crate::status::wip;
 use crate::waiting::Waited;
 use crate::waiting::page_wait;
 use chip::Core;
-use codes::WREN;
 use split::cartvesper_split_address;
 use split::cartvesper_split_length;
 use split::cartvesper_split_parts;
@@ -32,17 +28,15 @@ fn write_page(
     interval: u32,
     limit: u32,
 ) -> Waited
-    requires { ⌜ Ready (ownPart core) (frameBench core (now memory) (now identification)) ⌝ }
     requires { ⌜ address < ownPart core .size ⌝ }
-    requires { ⌜ length (now bytes) ≤ ownPart core .page ⌝ }
+    requires { ⌜ address % ownPart core .page + length (now bytes) ≤ ownPart core .page ⌝ }
     requires { ⌜ LimitFits (ownPart core) limit ⌝ }
     ensures { λ r. ⌜ ToldFrom (ownPart core) (pageActs (ownPart core) interval limit address (now (bytes .entry)))
         (frameBench core (now (memory .entry)) (now (identification .entry))) r (now (memory .exit))
         (now (identification .exit)) ⌝ }
 {
-    let wren = [WREN];
-    let enabled = send(core, memory, identification, &wren);
-    let begun = send_write(enabled, memory, identification, address, bytes);
+    let enabled = frames::wren(core);
+    let begun = frames::write(enabled, address, bytes);
     page_wait(begun, memory, identification, interval, limit).and_sent(2)
 }
 
@@ -57,7 +51,6 @@ fn write_part(
     interval: u32,
     limit: u32,
 ) -> Waited
-    requires { ⌜ Ready (ownPart core) (frameBench core (now memory) (now identification)) ⌝ }
     requires { ⌜ LimitFits (ownPart core) limit ⌝ }
     requires { ⌜ k < count (ownPart core .size) (ownPart core .page) address (length (now bytes)) ⌝ }
     ensures { λ r. ⌜ ToldFrom (ownPart core) (partActs (ownPart core) interval limit address (now (bytes .entry)) k)
@@ -90,7 +83,6 @@ pub(crate) fn write_parts(
     limit: u32,
     sent: u32,
 ) -> Driven
-    requires { ⌜ Ready (ownPart core) (frameBench core (now memory) (now identification)) ⌝ }
     requires { ⌜ LimitFits (ownPart core) limit ⌝ }
     requires { ⌜ sent ≤ ownPart core .longest + 1 ⌝ }
     ensures { λ r. ⌜ Drove (ownPart core) (partsAnswer sent)

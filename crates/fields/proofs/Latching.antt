@@ -2,7 +2,7 @@
 -- from the page's first cell.
 use mathlib.Core.Path.{_≡_, refl, ap, sym, _∙_}
 use mathlib.Core.List.{List, [], _∷_, _++_, append-assoc}
-use Prim.Native.Nat.{ℕ, suc, _+_, _-_, _*_, _/_, _%_, _<_, _≤_}
+use Prim.Native.Nat.{ℕ, suc, _+_, _-_, _*_, _/_, _%_, _<_, _≤_, min}
 use native.Mathlib.Nat.{add-zero, lt-of-lt-of-le, mod-lt, mod-eq-of-lt, mod-add-mod, mod-mod, mod-self, zero-mod}
 use native.Mathlib.Decide.{decLt}
 use native.Mathlib.Numerals.{add-one}
@@ -10,16 +10,18 @@ use native.Mathlib.Omega.{arith}
 use lib.ListN.{length, getD, take, drop, set, replicate, length-set, length-drop, length-replicate, getD-replicate}
 use lib.ListN.{take-append-drop, replicate-append-replicate}
 use lib.Seq.{sets, sets-eq, drop-set-lt, drop-drop, drop-at, take-all, length-take-le}
+use lib.Bits.{or-zero-r}
+use Rattle.laws.specs.Table.{table, from}
 use Rattle.laws.specs.Spliced.{spliced, spliced-length, spliced-before, spliced-in, spliced-after}
 use Rattle.laws.specs.Flags.{bit}
 use Rattle.laws.specs.Marks.{mark, markSet, markBytes, Wide, wide-none, wide-set}
 use Rattle.laws.specs.Marks.{mark-bytes-none, mark-bytes-set, mark-bytes-is, mark-bytes-same}
 use Rattle.codes.specs.Part.{Part, room, roomWords}
 use Rattle.latch.specs.Latches.{zeros, noLatch, latched}
-use Rattle.latch.specs.Words.{runMarks}
+use Rattle.latch.specs.Words.{runMarks, runWord}
 use Rattle.latch.specs.declared.Latch.{Latch}
 use Rattle.latch.proofs.Runs.{run-marks-length, run-marks-wide, marked-in-run, marked-in-rest, unmarked-before, unmarked-after}
-use Rattle.fields.specs.Bytes.{latchedFrom}
+use Rattle.fields.specs.Bytes.{latchedFrom, latchedUp}
 
 -- ---- the bytes and the marks, each by itself
 
@@ -283,3 +285,38 @@ module _ (P : Part) (a : ℕ) (vs : List ℕ) (i f h : ℕ) (all : i + (f + h) �
     latched-runs =
         latched-dealt P a vs noLatch
         ∙ rw (run-bytes (replicate room 0) (rw (length-replicate {A = ℕ} room 0) reach), run-words) refl
+
+-- ---- one run, up to the page's end at most
+
+module _ (P : Part) (reach : P .page ≤ room) where
+  one-run : (b : ℕ) (vs : List ℕ) → b < P .page → b + length vs ≤ P .page
+      → latchedFrom P b vs noLatch ≡ record { bytes = spliced (zeros room) vs b (length vs); marks = runMarks b (b + length vs) 0 }
+  one-run b vs below fits =
+      let n = length vs in
+      let at : (b + 0) % P .page ≡ b = ap (λ (k : ℕ). k % P .page) (add-zero b) ∙ mod-eq-of-lt below in
+      latched-runs P b vs 0 n 0 (omega arith) (rw at fits) (λ q. absurd (omega arith)) (omega arith) (λ q. absurd (omega arith)) (omega arith) reach
+      ∙ rw (at, take-all n vs (omega arith)) refl
+
+  -- as many values as the page has cells left
+  up-to : (m : ℕ) (vs : List ℕ) {n : ℕ} → n ≡ min m (length vs) → take m vs ≡ take n vs
+  up-to m vs {n} e = elim (decLt m (length vs)) [
+    | yes h ↦ let same : m ≡ n = omega arith in ap (λ (k : ℕ). take k vs) same
+    | no h ↦ take-all m vs (omega arith) ∙ sym (take-all n vs (omega arith))
+  ]
+
+  pub latched-up : (a : ℕ) (vs : List ℕ) {n : ℕ} → 0 < P .page → n ≡ min (P .page - a % P .page) (length vs)
+      → latchedUp P a vs ≡ record {
+        bytes = spliced (zeros room) (take n vs) (a % P .page) n;
+        marks = runMarks (a % P .page) (a % P .page + n) 0;
+      }
+  latched-up a vs {n} some e =
+      let below : a % P .page < P .page = mod-lt a some in
+      let long : length (take n vs) ≡ n = length-take-le n vs (omega arith) in
+      ap (λ (xs : List ℕ). latchedFrom P (a % P .page) xs noLatch) (up-to (P .page - a % P .page) vs e)
+      ∙ one-run (a % P .page) (take n vs) below (omega arith)
+      ∙ rw long refl
+
+-- its marks, a word at a time
+pub run-words-one : (s e : ℕ) → runMarks s e 0 ≡ runWord 0 s e ∷ runWord 64 s e ∷ runWord 128 s e ∷ runWord 192 s e ∷ []
+unfolding runMarks table from
+run-words-one s e = rw (or-zero-r (runWord 0 s e), or-zero-r (runWord 64 s e), or-zero-r (runWord 128 s e), or-zero-r (runWord 192 s e)) refl

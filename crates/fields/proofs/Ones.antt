@@ -11,6 +11,8 @@ use Rattle.fields.proofs.fields.address_of.Kinds as address-of
 use Rattle.fields.proofs.fields.address_of.Reads as address-of-reads
 use Rattle.fields.proofs.fields.latch_of.Kinds as latch-of
 use Rattle.fields.proofs.fields.latch_of.Reads as latch-of-reads
+use Rattle.fields.proofs.fields.latch_part.Kinds as latch-part
+use Rattle.fields.proofs.fields.latch_part.Reads as latch-part-reads
 use Rattle.fields.proofs.counts.bits_fit.Kinds as bits-fit
 use Rattle.fields.proofs.counts.bits_fit.Reads as bits-fit-reads
 use Rattle.fields.proofs.runs.at_most.Kinds as at-most
@@ -32,6 +34,9 @@ address-of-one κs a z z′ e e′ p q = same (p .0) (q .0)
 
 pub latch-of-one : OneResult latch-of.ps latch-of.r latch-of-reads.Post
 latch-of-one κs a z z′ e e′ p q = same p q
+
+pub latch-part-one : OneResult latch-part.ps latch-part.r latch-part-reads.Post
+latch-part-one κs a z z′ e e′ p q = same p q
 
 pub bits-fit-one : OneResult bits-fit.ps bits-fit.r bits-fit-reads.Post
 bits-fit-one κs a z z′ e e′ p q = same p q

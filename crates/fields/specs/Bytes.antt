@@ -1,7 +1,7 @@
 -- The bytes of a frame: the code, the address, the data. A byte that the frame lacks reads 0.
 use Prim.Native.Nat.{ℕ, zero, suc, _+_, _*_, _-_, _%_, _^_}
 use mathlib.Core.List.{List, [], _∷_}
-use lib.ListN.{getD, drop}
+use lib.ListN.{getD, take, drop}
 use Rattle.codes.specs.Part.{Part}
 use Rattle.codes.specs.Instructions.{decode}
 use Rattle.latch.specs.Latches.{latched, noLatch}
@@ -30,3 +30,7 @@ latchedFrom P i (v ∷ vs) l = latchedFrom P (suc i) vs (latched (i % P .page) v
 
 abbrev pub written : Part → List ℕ → Latch
 written P s = latchedFrom P (address P s % P .page) (payload P s) noLatch
+
+-- bytes latched from an address on, as far as its page goes
+abbrev pub latchedUp : Part → ℕ → List ℕ → Latch
+latchedUp P a vs = latchedFrom P (a % P .page) (take (P .page - a % P .page) vs) noLatch

@@ -5,7 +5,7 @@ ghost use lib.ListN.{length, getD};
 ghost use Rattle.laws.specs.Spliced.{spliced};
 ghost use Rattle.codes.specs.Part.{partOf, roomCells};
 ghost use Rattle.latch.specs.Latches.{noLatch};
-ghost use Rattle.fields.specs.Bytes.{instruction, address, latchedFrom, written};
+ghost use Rattle.fields.specs.Bytes.{instruction, address, latchedFrom, latchedUp, written};
 use crate::runs::at_most;
 use codes::ADDRESS_BYTES;
 use codes::Instruction;
@@ -15,8 +15,10 @@ use codes::page_of;
 use codes::size_of;
 use latch::Latch;
 use latch::ROOM;
+use latch::WORD;
 use latch::cell_of;
 use latch::run_marks;
+use latch::run_word;
 
 pub fn byte_at(bytes: &[u8], i: usize) -> u8
     ensures { λ r. ⌜ r ≡ getD (now (bytes .entry)) i 0 ⌝ }
@@ -80,6 +82,26 @@ fn latch_all(part: u8, address: usize, values: &[u8]) -> Latch
     Latch {
         bytes: cells,
         marks: run_marks(start, start + first, n - turn),
+    }
+}
+
+// Bytes latched from an address up to the end of its page, in one run; those past it are not.
+pub fn latch_part(part: u8, address: usize, values: &[u8]) -> Latch
+    ensures { λ r. ⌜ r ≡ latchedUp (partOf part) address (now (values .entry)) ⌝ }
+{
+    let mut cells = [0u8; ROOM];
+    let start = cell_of(part, address);
+    let n = at_most(page_of(part) - start, values.len());
+    let end = start + n;
+    latch_run(&mut cells, start, &values[0..n]);
+    Latch {
+        bytes: cells,
+        marks: [
+            run_word(0, start, end),
+            run_word(WORD, start, end),
+            run_word(2 * WORD, start, end),
+            run_word(3 * WORD, start, end),
+        ],
     }
 }
 

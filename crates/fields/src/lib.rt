@@ -11,5 +11,6 @@ pub use fields::address_of;
 pub use fields::byte_at;
 pub use fields::instruction_of;
 pub use fields::latch_of;
+pub use fields::latch_part;
 pub use runs::at_most;
 pub use runs::fill;

@@ -10,3 +10,5 @@ pub mod Unused
 pub mod CellRule
 pub mod Locks
 pub mod PartKept
+pub mod Addresses
+pub mod Sending

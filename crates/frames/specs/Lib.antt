@@ -3,3 +3,4 @@
 pub mod After
 pub mod Answers
 pub mod Play
+pub mod Sent

@@ -1,6 +1,7 @@
 // The frame model of the three parts: it takes whole frames.
 //
 // Public calls, each for every input: frame, and chip's power_up and clock_reading, whose record this model holds.
+// Inner calls, total, and exactly their definitions: wren, write.
 ghost use mathlib.Core.Path.{_≡_};
 ghost use lib.ListN.{length};
 ghost use Rattle.chip.specs.Records.{ownPart};
@@ -13,6 +14,10 @@ use codes::Refusal;
 mod answers;
 mod executed;
 mod refused;
+mod sent;
+
+pub use sent::wren;
+pub use sent::write;
 
 // How many leading bits of the count were undriven, or the refusal.
 pub enum FrameReply {

@@ -19,6 +19,8 @@ use Rattle.latch.proofs.pages.next_cell.Kinds as next-cell
 use Rattle.latch.proofs.pages.next_cell.Reads as next-cell-reads
 use Rattle.latch.proofs.words.run_marks.Kinds as run-marks
 use Rattle.latch.proofs.words.run_marks.Reads as run-marks-reads
+use Rattle.latch.proofs.words.run_word.Kinds as run-word
+use Rattle.latch.proofs.words.run_word.Reads as run-word-reads
 
 pub latch-none-one : OneResult latch-none.ps latch-none.r latch-none-reads.Post
 latch-none-one κs a z z′ e e′ p q = same p q
@@ -49,3 +51,6 @@ next-cell-one κs a z z′ e e′ p q = same (p .0) (q .0)
 
 pub run-marks-one : OneResult run-marks.ps run-marks.r run-marks-reads.Post
 run-marks-one κs a z z′ e e′ p q = same p q
+
+pub run-word-one : OneResult run-word.ps run-word.r run-word-reads.Post
+run-word-one κs a z z′ e e′ p q = same p q

@@ -11,6 +11,7 @@ pub use pages::cell_of;
 pub use pages::latch_byte;
 pub use pages::next_cell;
 pub use words::run_marks;
+pub use words::run_word;
 
 // Cells that a latch has room for: the largest page. On a part with smaller pages the cells past its page stay unmarked
 // and read 0.
@@ -20,7 +21,7 @@ pub const ROOM: usize = codes::LARGE_PAGE;
 pub const WORDS: usize = ROOM / WORD;
 
 // Cells to a word, and the word with every mark.
-pub(crate) const WORD: usize = 64;
+pub const WORD: usize = 64;
 
 pub(crate) const FULL: u64 = 0xffff_ffff_ffff_ffff;
 

@@ -48,7 +48,7 @@ fn low_ones(first: usize, end: usize) -> u64
 }
 
 // The marks of the cells from `start` up to `end`, as far as they stand in the word whose first cell is `first`.
-fn run_word(first: usize, start: usize, end: usize) -> u64
+pub fn run_word(first: usize, start: usize, end: usize) -> u64
     ensures { λ r. ⌜ r ≡ runWord first start end ⌝ }
 {
     if end <= start {

@@ -3,7 +3,7 @@
 use mathlib.Core.Path.{_≡_, refl, ap, sym, subst, _∙_}
 use mathlib.Core.Bool.{true, false}
 use mathlib.Core.List.{List, _++_}
-use Prim.Native.Nat.{ℕ, zero, suc, _+_, _-_, _*_, _/_, _%_, _^_, _<_, _≤_}
+use Prim.Native.Nat.{ℕ, zero, suc, _+_, _-_, _*_, _%_, _^_, _<_, _≤_}
 use native.Mathlib.Nat.{suc-mul, zero-mul}
 use native.Mathlib.Decide.{decLe}
 use native.Mathlib.Omega.{arith}
@@ -15,10 +15,9 @@ use Rattle.chip.specs.Questions.{lowest, protects}
 use Rattle.chip.specs.Records.{running}
 use Rattle.chip.specs.declared.Core.{Core}
 use Rattle.codes.proofs.Sound.{Sound}
-use Rattle.codes.proofs.Starts.{start-of}
 use Rattle.split.specs.Split.{count, splitAddress, splitLength}
 use Rattle.split.specs.Pieces.{piece, pieces}
-use Rattle.split.proofs.Numbers.{length-some, one-page}
+use Rattle.split.proofs.Numbers.{length-some}
 use Rattle.split.proofs.Whole.{pieces-more, before-part}
 use Rattle.frames.specs.Play.{FrameBench, actedAll}
 use Rattle.sequence.specs.Sequence.{sent, Ending, allDone, timedOut, protected, Run, pagesFrom}
@@ -67,13 +66,7 @@ module _ (P : Part) (sound : Sound P) (a : ℕ) (bytes : List ℕ) (k : ℕ) (h 
   part-some = rw piece-length (length-some (P .size) (P .page) a (length bytes) (sound .page-some) k h)
 
   part-page : at % P .page + length (piece (P .size) (P .page) a bytes k) ≤ P .page
-  part-page =
-      let some = length-some (P .size) (P .page) a (length bytes) (sound .page-some) k h in
-      let one = one-page (P .size) (P .page) a (length bytes) (sound .page-some) k h in
-      let start : at / P .page * P .page ≡ (at + long - 1) / P .page * P .page = ap (λ (q : ℕ). q * P .page) one in
-      let at-first = start-of sound at in
-      let at-last = start-of sound (at + long - 1) in
-      omega (arith, piece-length)
+  part-page = omega (arith, there .page, piece-length)
 
   before-length : length (pieces (P .size) (P .page) a bytes k) ≡ at - a
   before-length =

@@ -8,8 +8,8 @@ pub mod Parts
 pub mod Seen
 pub mod Runs
 pub mod Ways
-pub mod Addresses
 pub mod Executed
+pub mod Accepted
 pub mod Writing
 pub mod Polls
 pub mod Stored

@@ -9,7 +9,7 @@ use native.Mathlib.Decide.{decLt}
 use native.Mathlib.Omega.{arith}
 use lib.Dec.{leb}
 use borrow.Author.Tests.{lt-ltb, le-ltb, le-leb, lt-leb}
-use Rattle.laws.specs.Pick.{pick, at-yes, and-both, and-no-right}
+use Rattle.laws.specs.Pick.{pick, at-yes, and-both, and-no-left, and-no-right}
 use Rattle.codes.specs.Part.{Part}
 use Rattle.chip.specs.Records.{running, waitsStatus, waitsPage, waitsIdentification, waitsLock, withTime, withBlank}
 use Rattle.chip.specs.Time.{elapsed, ends, ended, endedCells, endedBlank, timed, timedCells, timedBlank, timedIn}
@@ -17,10 +17,11 @@ use Rattle.chip.specs.declared.Core.{Core}
 use Rattle.codes.proofs.Sound.{Sound}
 use Rattle.chip.proofs.Passing.{no-end}
 use Rattle.chip.proofs.Recounts.{timed-on}
-use Rattle.frames.specs.Play.{FrameBench, actedAll}
+use Rattle.frames.specs.Play.{FrameBench, actedAll, frameBench}
 use Rattle.sequence.specs.Sequence.{sent, latePoll, pollsOn}
 use Rattle.sequence.specs.Counts.{roundedUp}
 use Rattle.frames.proofs.Polls.{poll-leaves}
+use Rattle.sequence.proofs.Ready.{bench-of}
 use Rattle.sequence.proofs.Waits.{polls-on-free, polls-on-none, acted-all-busy, sent-busy}
 
 -- ---- a quotient, rounded up
@@ -93,47 +94,71 @@ module _ (P : Part) where
         identification = s .identification ∙ r .identification;
       }
 
-  -- ---- one poll, and a whole wait
+  -- ---- one poll
+
+  module _ (i : ℕ) (short : i < 2 ^ 32) (d : FrameBench) (low : d .core .last < 2 ^ 32) where
+    abbrev read : ℕ
+    read = (d .core .last + i) % 2 ^ 32
+
+    gone : elapsed (d .core .last) read ≡ i
+    gone = omega arith
+
+    abbrev polled : FrameBench
+    polled = actedAll P (latePoll i d) d
+
+    read-low : read < 2 ^ 32
+    read-low = omega arith
+
+    poll-over : 0 < d .core .left → d .core .left ≤ i → Over d polled
+    unfolding timed timedCells timedBlank
+    poll-over h l =
+        let over : ends read (d .core) ≡ true = and-both _ _ (lt-ltb _ _ h) (ap (leb (d .core .left)) gone ∙ le-leb _ _ l) in
+        record {
+          read = read;
+          low = read-low;
+          core = poll-leaves P (timedIn P read (d .core) (d .memory)) ∙ ap₂ withBlank (at-yes _ _ over) (at-yes _ _ over);
+          memory = at-yes _ _ over;
+          identification = at-yes _ _ over;
+        }
+
+    -- a reading that ends no cycle moves two numbers of the record
+    abbrev ticked : FrameBench
+    ticked = frameBench (withTime read (d .core .left - i) (d .core)) (d .memory) (d .identification)
+
+    goes-on : ends read (d .core) ≡ false → ticked ≡ polled
+    goes-on on =
+        let left = ap (λ (n : ℕ). withTime read (d .core .left - n) (d .core)) (sym gone) in
+        bench-of polled
+        (left ∙ sym (poll-leaves P (timedIn P read (d .core) (d .memory)) ∙ timed-on P read (d .core) (d .memory) on))
+        (sym (no-end waitsPage P read (d .core) (d .memory) on))
+        (sym (no-end waitsIdentification P read (d .core) (d .identification) on))
+
+    pub poll-still : i < d .core .left → ticked ≡ polled
+    poll-still l = goes-on (and-no-right (running (d .core)) _ (ap (leb (d .core .left)) gone ∙ lt-leb _ _ l))
+
+    pub poll-idle : running (d .core) ≡ false → ticked ≡ polled
+    poll-idle e = goes-on (and-no-left (running (d .core)) _ e)
+
+    poll-runs : i < d .core .left → Runs d polled (d .core .left - i)
+    poll-runs l =
+        let same = sym (poll-still l) in
+        record {
+          read = read;
+          low = read-low;
+          core = ap (λ (x : FrameBench). x .core) same;
+          memory = ap (λ (x : FrameBench). x .memory) same;
+          identification = ap (λ (x : FrameBench). x .identification) same;
+        }
+
+    -- after the poll that ends it no cycle runs
+    pub poll-free : 0 < d .core .left → d .core .left ≤ i → running (polled .core) ≡ false
+    poll-free h l = ap (λ (c : Core). running c) (poll-over h l .core) ∙ le-ltb 0 0 (omega arith)
+
+  -- ---- a whole wait
 
   module _ (sound : Sound P) (i : ℕ) (some : 0 < i) (small : i ≤ P .longest) where
-    module _ (d : FrameBench) (low : d .core .last < 2 ^ 32) where
-      abbrev read : ℕ
-      read = (d .core .last + i) % 2 ^ 32
-
-      gone : elapsed (d .core .last) read ≡ i
-      gone = omega (arith, sound .longest-read)
-
-      abbrev polled : FrameBench
-      polled = actedAll P (latePoll i d) d
-
-      read-low : read < 2 ^ 32
-      read-low = omega arith
-
-      poll-over : 0 < d .core .left → d .core .left ≤ i → Over d polled
-      unfolding timed timedCells timedBlank
-      poll-over h l =
-          let over : ends read (d .core) ≡ true = and-both _ _ (lt-ltb _ _ h) (ap (leb (d .core .left)) gone ∙ le-leb _ _ l) in
-          record {
-            read = read;
-            low = read-low;
-            core = poll-leaves P (timedIn P read (d .core) (d .memory)) ∙ ap₂ withBlank (at-yes _ _ over) (at-yes _ _ over);
-            memory = at-yes _ _ over;
-            identification = at-yes _ _ over;
-          }
-
-      poll-runs : i < d .core .left → Runs d polled (d .core .left - i)
-      poll-runs l =
-          let not-over : ends read (d .core) ≡ false = and-no-right (running (d .core)) _ (ap (leb (d .core .left)) gone ∙ lt-leb _ _ l) in
-          record {
-            read = read;
-            low = read-low;
-            core =
-                poll-leaves P (timedIn P read (d .core) (d .memory))
-                ∙ timed-on P read (d .core) (d .memory) not-over
-                ∙ ap (λ (n : ℕ). withTime read (d .core .left - n) (d .core)) gone;
-            memory = no-end waitsPage P read (d .core) (d .memory) not-over;
-            identification = no-end waitsIdentification P read (d .core) (d .identification) not-over;
-          }
+    short : i < 2 ^ 32
+    short = omega (arith, sound .longest-read)
 
     -- enough polls: the cycle ends
     pub record Waited (k : ℕ) (d : FrameBench) : Type 0 where
@@ -143,11 +168,11 @@ module _ (P : Part) where
     pub waited : (k : ℕ) (d : FrameBench) → d .core .last < 2 ^ 32 → 0 < d .core .left → d .core .left ≤ k * i → Waited k d
     waited zero d low h l = absurd (omega (arith, zero-mul i))
     waited (suc k) d low h l =
-        let x = polled d low in
+        let x = polled i short d low in
         let busy : running (d .core) ≡ true = lt-ltb _ _ h in
         elim (decLt i (d .core .left)) [
           | yes m ↦
-              let r = poll-runs d low m in
+              let r = poll-runs i short d low m in
               let left : x .core .left ≡ d .core .left - i = ap (λ (c : Core). c .left) (r .core) in
               let last : x .core .last ≡ r .read = ap (λ (c : Core). c .last) (r .core) in
               let w = waited k x (rw last (r .low)) (omega arith) (omega (arith, suc-mul k i)) in
@@ -160,8 +185,8 @@ module _ (P : Part) where
                     (over-after d x (actedAll P (pollsOn P i k x) x) (d .core .left - i) r (w .over));
               }
           | no m ↦
-              let o = poll-over d low h (omega arith) in
-              let free : running (x .core) ≡ false = ap (λ (c : Core). running c) (o .core) ∙ le-ltb 0 0 (omega arith) in
+              let o = poll-over i short d low h (omega arith) in
+              let free = poll-free i short d low h (omega arith) in
               record {
                 polls =
                     sent-busy P i d (suc k) k refl busy
@@ -194,11 +219,11 @@ module _ (P : Part) where
               });
         }
     late (suc k) d low l =
-        let x = polled d low in
+        let x = polled i short d low in
         let m : i < d .core .left = omega (arith, suc-mul k i) in
         let started : 0 < d .core .left = omega arith in
         let busy : running (d .core) ≡ true = lt-ltb _ _ started in
-        let r = poll-runs d low m in
+        let r = poll-runs i short d low m in
         let left : x .core .left ≡ d .core .left - i = ap (λ (c : Core). c .left) (r .core) in
         let last : x .core .last ≡ r .read = ap (λ (c : Core). c .last) (r .core) in
         let w = late k x (rw last (r .low)) (omega (arith, suc-mul k i)) in

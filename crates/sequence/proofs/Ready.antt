@@ -8,7 +8,7 @@ use Rattle.chip.specs.Records.{ownPart, waitsIdentification}
 use Rattle.chip.specs.declared.Core.{Core}
 use Rattle.chip.proofs.Within.{within, in-ranges}
 use Rattle.chip.proofs.Passing.{timed-length}
-use Rattle.codes.proofs.Sound.{Sound, sound-of}
+use Rattle.codes.proofs.Sound.{Sound}
 use Rattle.frames.specs.Play.{Act, frame, reading, FrameBench, acted, actedAll, frameBench}
 use Rattle.frames.proofs.CellRule.{acted-all-length, acted-all-within}
 use Rattle.frames.proofs.PartKept.{acted-all-part}
@@ -41,10 +41,3 @@ module _ (P : Part) (sound : Sound P) where
         page = acted-all-page P acts d ∙ r .page;
         ranges = in-ranges P _ (acted-all-within P sound acts d (within P _ (r .ranges)));
       }
-
--- whatever is played on one, it is one at the part that its record reads
-pub ready-own : (acts : List Act) (d x : FrameBench) → Ready (ownPart (d .core)) d → x ≡ actedAll (ownPart (d .core)) acts d → Ready (ownPart (x .core)) x
-ready-own acts d x r e =
-    let P = ownPart (d .core) in
-    let left = subst (Ready P) (sym e) (ready-acted-all P (sound-of (d .core .part)) acts d r) in
-    at-own (own-acted P acts d (ap (λ (y : FrameBench). y .core) e)) (λ (Q : Part). Ready Q x) left

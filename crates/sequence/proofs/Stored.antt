@@ -22,9 +22,9 @@ use Rattle.codes.proofs.Sound.{Sound}
 use Rattle.codes.proofs.Starts.{start-of, page-in-memory}
 use Rattle.latch.proofs.Fitting.{cell-word}
 use Rattle.fields.specs.Bytes.{payload, latchedFrom, written}
-use Rattle.sequence.specs.Sequence.{writeBytes}
+use Rattle.frames.specs.Sent.{writeBytes}
 use Rattle.sequence.specs.Counts.{overwritten}
-use Rattle.sequence.proofs.Addresses.{write-address, write-payload}
+use Rattle.frames.proofs.Addresses.{write-address, write-payload}
 
 -- ---- is j one of the n cells from a on
 

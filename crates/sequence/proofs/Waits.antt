@@ -1,20 +1,16 @@
 -- A turn of a wait: what is left to do after a poll.
 use mathlib.Core.Path.{_≡_, refl, ap, sym, _∙_}
-use mathlib.Core.Bool.{Bool, true, false, _&&_, true≢false}
+use mathlib.Core.Bool.{true, false, _&&_}
 use mathlib.Core.List.{List, [], _++_}
-use Prim.Native.Nat.{ℕ, zero, suc, _+_, _-_, _%_, _<_, _≤_}
+use Prim.Native.Nat.{ℕ, zero, suc, _+_, _-_, _<_, _≤_}
 use native.Mathlib.Decide.{decLt}
 use native.Mathlib.Omega.{arith}
-use lib.Bits.{bitAnd, and-mask}
-use lib.Dec.{eqb, ltb}
-use borrow.Author.Tests.{lt-ltb, eqb-true, ltb-true}
-use Rattle.laws.specs.Pick.{at-yes, at-no, pick-case, and-left, and-right}
+use lib.Dec.{ltb}
+use borrow.Author.Tests.{lt-ltb}
+use Rattle.laws.specs.Pick.{at-yes, at-no, pick-case}
 use Rattle.laws.specs.And.{and-other}
 use Rattle.codes.specs.Part.{Part}
-use Rattle.codes.specs.Status.{bit}
-use Rattle.chip.specs.Records.{running, status}
-use Rattle.chip.specs.declared.Core.{Core}
-use Rattle.chip.proofs.Cases.{wip}
+use Rattle.chip.specs.Records.{running}
 use Rattle.frames.specs.Play.{Act, FrameBench, actedAll}
 use Rattle.sequence.specs.Sequence.{sent, latePoll, pollsOn}
 use Rattle.sequence.proofs.Playing.{acted-all-append, sent-append}
@@ -24,7 +20,7 @@ module _ (P : Part) (i : ℕ) (d : FrameBench) where
   abbrev polled : FrameBench
   polled = actedAll P (latePoll i d) d
 
-  polls-on-busy : (k : ℕ) → running (d .core) ≡ true → pollsOn P i (suc k) d ≡ latePoll i d ++ pollsOn P i k polled
+  pub polls-on-busy : (k : ℕ) → running (d .core) ≡ true → pollsOn P i (suc k) d ≡ latePoll i d ++ pollsOn P i k polled
   unfolding pollsOn
   polls-on-busy k e = at-yes _ _ e
 
@@ -60,30 +56,10 @@ sent-most P i (suc k) d =
 
 -- ---- the loop that waits: n polls made of those that were left at the start
 
--- WIP in the status byte that a poll sees
-seen : (s : ℕ) (c : Core) → s ≡ status c → bitAnd s 1 ≡ bit (running c)
-seen s c e = and-mask s 1 ∙ ap (λ (v : ℕ). v % 2) e ∙ wip c
-
-one-so : (b : Bool) → bit b ≡ 1 → b ≡ true
-one-so true e = refl
-one-so false e = absurd (omega arith)
-
-other-so : (b : Bool) → eqb (bit b) 1 ≡ false → b ≡ false
-other-so true e = absurd (true≢false e)
-other-so false e = refl
-
--- it goes on where a poll is left and WIP is 1 ..
-pub goes-on : (n left s : ℕ) (c : Core) → s ≡ status c → (ltb n left && eqb (bitAnd s 1) 1) ≡ true → (n < left) × (running c ≡ true)
-goes-on n left s c e t =
-    let wip = and-right (ltb n left) (eqb (bitAnd s 1) 1) t in
-    (ltb-true n left (and-left (ltb n left) (eqb (bitAnd s 1) 1) t), one-so (running c) (sym (seen s c e) ∙ eqb-true (bitAnd s 1) 1 wip))
-
--- .. and else nothing is left to do
-pub is-over : (P : Part) (i n left s : ℕ) (d : FrameBench) → s ≡ status (d .core) → (ltb n left && eqb (bitAnd s 1) 1) ≡ false → pollsOn P i (left - n) d ≡ []
-is-over P i n left s d e t = elim (decLt n left) [
-  | yes h ↦
-      polls-on-free P i d (left - n)
-      (other-so (running (d .core)) (sym (ap (λ (v : ℕ). eqb v 1) (seen s (d .core) e)) ∙ and-other (ltb n left) (eqb (bitAnd s 1) 1) t (lt-ltb n left h)))
+-- it is over where no poll is left, or no cycle runs
+pub is-over : (P : Part) (i n left : ℕ) (d : FrameBench) → (ltb n left && running (d .core)) ≡ false → pollsOn P i (left - n) d ≡ []
+is-over P i n left d t = elim (decLt n left) [
+  | yes h ↦ polls-on-free P i d (left - n) (and-other (ltb n left) (running (d .core)) t (lt-ltb n left h))
   | no h ↦ polls-on-none P i d (left - n) (omega arith)
 ]
 

@@ -2,7 +2,7 @@
 -- takes, and what it leaves: it is done, or its wait runs out of polls.
 use mathlib.Core.Path.{_≡_, refl, ap, sym, _∙_}
 use mathlib.Core.Bool.{true, false}
-use mathlib.Core.List.{List, [], _∷_}
+use mathlib.Core.List.{List}
 use Prim.Native.Nat.{ℕ, suc, _+_, _-_, _*_, _/_, _%_, _^_, _<_, _≤_}
 use native.Mathlib.Omega.{arith}
 use lib.ListN.{length}
@@ -25,15 +25,13 @@ use Rattle.codes.proofs.Sound.{Sound}
 use Rattle.fields.specs.Bytes.{written}
 use Rattle.frames.specs.After.{judged, after}
 use Rattle.frames.specs.Play.{Act, FrameBench, actedAll}
-use Rattle.sequence.specs.Sequence.{sent, writeBytes, pollsOn, pageWait, wrenAndWrite, pageActs}
+use Rattle.sequence.specs.Sequence.{sent, pollsOn, pageWait, wrenAndWrite, pageActs}
+use Rattle.frames.specs.Sent.{wrenBytes, writeBytes}
 use Rattle.sequence.specs.Counts.{roundedUp, allExecuted}
 use Rattle.sequence.proofs.Playing.{acted-all-append, sent-append}
 use Rattle.sequence.proofs.Polls.{waited, late}
 use Rattle.sequence.proofs.Executed.{executed-append, wait-executed}
-use Rattle.sequence.proofs.Addresses.{write-length, write-address}
-
-abbrev wrenBytes : List ℕ
-wrenBytes = 0x06 ∷ []
+use Rattle.frames.proofs.Addresses.{write-length, write-address}
 
 -- where no cycle runs WREN is executed, and sets WEL
 enabling : (P : Part) (c : Core) → running c ≡ false → isExecuted (judged P (running c) true c wrenBytes 8) ≡ true

@@ -1,5 +1,6 @@
--- What the driver's theorems speak of: a quotient rounded up, the polls of each page, frames that are all executed, a
--- memory with a run of bytes written over it, and the memory and the identification page that a running cycle leaves.
+-- What the driver's theorems speak of: a quotient rounded up, the polls of each page, frames that are all executed,
+-- acts that no call refuses, a memory with a run of bytes written over it, and the memory and the identification page
+-- that a running cycle leaves.
 use Prim.Native.Nat.{ℕ, suc, _+_, _-_, _/_}
 use mathlib.Core.Bool.{Bool, true, _&&_}
 use mathlib.Core.List.{List, [], _∷_}
@@ -11,10 +12,11 @@ use Rattle.codes.specs.Part.{Part}
 use Rattle.codes.specs.Instructions.{rdsrCode, writeCode}
 use Rattle.codes.specs.Verdicts.{isExecuted}
 use Rattle.chip.specs.Records.{running, waitsPage, waitsIdentification}
-use Rattle.chip.specs.Time.{endedCells}
+use Rattle.chip.specs.Time.{endedCells, readingNumber}
 use Rattle.chip.specs.declared.Waiting.{Waiting}
 use Rattle.chip.specs.declared.Core.{Core}
 use Rattle.frames.specs.After.{judged}
+use Rattle.frames.specs.Answers.{frameNumber}
 use Rattle.frames.specs.Play.{Act, frame, reading, FrameBench, acted}
 
 -- x divided by y, rounded up
@@ -40,6 +42,15 @@ allExecuted P [] d = true
 allExecuted P (frame w s n ∷ acts) d =
     isExecuted (judged P (running (d .core)) w (d .core) s n) && allExecuted P acts (acted P (frame w s n) d)
 allExecuted P (reading t ∷ acts) d = allExecuted P acts (acted P (reading t) d)
+
+-- the frame model's public calls answer 0 to every frame and every reading of a list where it comes
+abbrev pub allAccepted : Part → List Act → FrameBench → Bool
+allAccepted P [] d = true
+allAccepted P (frame w s n ∷ acts) d =
+    eqb (frameNumber P (d .core) (length (d .memory)) (length (d .identification)) (length s) n (length s)) 0
+    && allAccepted P acts (acted P (frame w s n) d)
+allAccepted P (reading t ∷ acts) d =
+    eqb (readingNumber P (d .core) (d .memory) (d .identification)) 0 && allAccepted P acts (acted P (reading t) d)
 
 -- the given bytes in the cells from a on, every other cell as it is
 unfoldable pub overwritten : ℕ → List ℕ → List ℕ → List ℕ

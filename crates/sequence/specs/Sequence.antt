@@ -1,20 +1,21 @@
 -- What the driver sends: a list of frames and clock readings. Each wait takes its limit as the most polls that it may
 -- make; the state along the way is that of the frame definitions played over the list, and nothing here counts but
 -- `sent`, over the list itself.
-use Prim.Native.Nat.{ℕ, zero, suc, _+_, _-_, _*_, _/_, _%_, _^_}
+use Prim.Native.Nat.{ℕ, zero, suc, _+_, _-_, _*_, _%_, _^_}
 use mathlib.Core.Bool.{Bool, true}
 use mathlib.Core.List.{List, [], _∷_, _++_}
 use lib.ListN.{length}
 use lib.Dec.{eqb, ltb}
 use Rattle.laws.specs.Pick.{pick}
 use Rattle.codes.specs.Part.{Part}
-use Rattle.codes.specs.Instructions.{wrenCode, rdsrCode, writeCode}
+use Rattle.codes.specs.Instructions.{rdsrCode}
 use Rattle.codes.specs.Protect.{lowestProtected}
 use Rattle.codes.specs.Status.{on, bitOf}
 use Rattle.chip.specs.Records.{running}
 use Rattle.chip.specs.Questions.{lowest}
 use Rattle.chip.specs.declared.Core.{Core}
 use Rattle.frames.specs.Play.{Act, frame, reading, FrameBench, acted, actedAll}
+use Rattle.frames.specs.Sent.{wrenBytes, writeBytes}
 use Rattle.split.specs.Split.{count, splitAddress}
 use Rattle.split.specs.Pieces.{piece}
 
@@ -25,19 +26,11 @@ abbrev pub whole : List ℕ → Act
 whole s = frame true s (8 * length s)
 
 abbrev pub wren : Act
-wren = whole (wrenCode ∷ [])
+wren = whole wrenBytes
 
 -- the code, and a byte in which the status shows
 abbrev pub rdsr : Act
 rdsr = whole (rdsrCode ∷ 0x00 ∷ [])
-
--- the low k bytes of an address, high byte first
-abbrev pub addressBytes : ℕ → ℕ → List ℕ
-addressBytes zero a = []
-addressBytes (suc k) a = (a / 256 ^ k % 256) ∷ addressBytes k a
-
-abbrev pub writeBytes : Part → ℕ → List ℕ → List ℕ
-writeBytes P a bytes = writeCode ∷ addressBytes (P .addressBytes) a ++ bytes
 
 abbrev pub write : Part → ℕ → List ℕ → Act
 write P a bytes = whole (writeBytes P a bytes)

@@ -3,10 +3,8 @@ use mathlib.Core.Path.{refl, sym, _∙_}
 use native.Mathlib.Omega.{arith}
 use Rattle.codes.specs.Part.{Part}
 use Rattle.chip.specs.Records.{ownPart}
-use Rattle.codes.proofs.Sound.{sound-of}
 use Rattle.frames.specs.Play.{FrameBench, frameBench}
 use Rattle.sequence.specs.Sequence.{firstWait}
-use Rattle.sequence.specs.Ready.{Ready}
 use Rattle.driver.specs.Answers.{LimitFits}
 use Rattle.sequence.proofs.Ready.{at-own}
 use Rattle.driver.proofs.Left.{Left, left}
@@ -27,10 +25,7 @@ went : (w : tie.After-first-wait) → let a = w .before .before .before .before 
     let P = ownPart (a .core) in
     let d : FrameBench = frameBench (a .core) (a .memory .now) (a .identification .now) in
     Left P (firstWait P (a .interval) (a .limit) d) d (w .first-wait .result) (w .first-wait .last .1 .0) (w .first-wait .last .1 .1 .0)
-went w =
-    let start = w .before .before .before .before .before .before .before in
-    left _ (sound-of (start .args .core .part)) _ _ _ _ _ refl
-    (start .pre .0) (w .first-wait .ensures)
+went w = left _ _ _ _ _ _ refl (w .first-wait .ensures)
 
 wip-requires : tie.Need-wip-requires
 wip-requires c κs = search needs
@@ -70,12 +65,9 @@ write-parts-requires c κs =
     let d : FrameBench = frameBench (a .core) (a .memory .now) (a .identification .now) in
     let wait = w .first-wait in
     let rest = went w in
-    let most = first-most P (a .interval) (a .limit) d (start .pre .1 .1 .0) in (
-      at-own (rest .stays) (λ (Q : Part). Ready Q (frameBench (wait .result .core) (wait .last .1 .0) (wait .last .1 .1 .0))) (rest .ready),
-      (
-        at-own (rest .stays) (λ (Q : Part). LimitFits Q (a .limit)) (start .pre .1 .1),
-        at-own (rest .stays) (λ (Q : Part). wait .result .frames ≤ Q .longest + 1) (omega (arith, wait .ensures .1 .1 .0, start .pre .1 .1 .1)),
-      ),
+    let most = first-most P (a .interval) (a .limit) d (start .pre .1 .0) in (
+      at-own (rest .stays) (λ (Q : Part). LimitFits Q (a .limit)) (start .pre .1),
+      at-own (rest .stays) (λ (Q : Part). wait .result .frames ≤ Q .longest + 1) (omega (arith, wait .ensures .1 .1 .0, start .pre .1 .1)),
     )
 
 same-length-5 : tie.Need-same-length-5

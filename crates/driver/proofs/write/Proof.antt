@@ -17,7 +17,7 @@ drive-requires c κs =
     let t =
     taken (ownPart (a .core)) (a .core) (a .memory .now) (a .identification .now) (a .address) (length (a .bytes .now)) (a .interval) (a .limit)
     (c .before .before .before .before .outcome .ensures) (c .before .before .enum-told .given .1) in
-    (t .ready, (t .inside, t .limits))
+    (t .inside, t .limits)
 
 enum-known-r : tie.Need-enum-known-r
 enum-known-r c = search needs

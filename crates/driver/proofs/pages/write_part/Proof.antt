@@ -23,7 +23,7 @@ sub-from c =
     let a = start .args in
     let at = c .cartvesper-split-address in
     let l =
-    lies (ownPart (a .core)) (sound-of (a .core .part)) (a .address) (a .bytes .now) (a .k) (at .result) _ (start .pre .1 .1) (at .ensures) refl in
+    lies (ownPart (a .core)) (sound-of (a .core .part)) (a .address) (a .bytes .now) (a .k) (at .result) _ (start .pre .1) (at .ensures) refl in
     l .from
 
 cartvesper-split-length-requires : tie.Need-cartvesper-split-length-requires
@@ -38,7 +38,7 @@ lying w =
     let at = w .before .cartvesper-split-address in
     let long = w .cartvesper-split-length in
     lies (ownPart (a .core)) (sound-of (a .core .part)) (a .address) (a .bytes .now) (a .k) (at .result) (long .result)
-    (start .pre .1 .1) (at .ensures) (long .ensures)
+    (start .pre .1) (at .ensures) (long .ensures)
 
 add-end : tie.Need-add-end
 add-end c =
@@ -61,7 +61,7 @@ write-page-requires : tie.Need-write-page-requires
 write-page-requires c κs =
     let start = c .before .before .before .before .before .before .before .before in
     let l = lying (c .before .before .before) in
-    (start .pre .0, (l .memory, (simp (length-take, length-drop) (omega (arith, l .from, l .to, l .page)), start .pre .1 .0)))
+    (l .memory, (simp (length-take, length-drop) (omega (arith, l .from, l .to, l .page)), start .pre .0))
 
 same-length : tie.Need-same-length
 same-length c = search needs
@@ -79,7 +79,7 @@ returns c =
     let page = c .before .before .before .before .write-page in
     let d : FrameBench = frameBench (a .core) (a .memory .now) (a .identification .now) in
     let bytes =
-    part-bytes P (sound-of (a .core .part)) (a .address) (a .bytes .now) (a .k) (at .result) (long .result) (start .pre .1 .1) (at .ensures)
+    part-bytes P (sound-of (a .core .part)) (a .address) (a .bytes .now) (a .k) (at .result) (long .result) (start .pre .1) (at .ensures)
     (long .ensures) (at .result - a .address + long .result - (at .result - a .address)) (omega arith) in
     let Wrote : ℕ → List ℕ → Type 0 =
     λ s l. Told P (pageActs P (a .interval) (a .limit) s l d) d (page .result) (page .last .1 .0) (page .last .1 .1 .0) in

@@ -10,7 +10,6 @@ use Rattle.split.specs.Split.{count, splitAddress}
 use Rattle.split.specs.Pieces.{piece}
 use Rattle.split.proofs.Numbers.{parts-asked}
 use Rattle.frames.specs.Play.{FrameBench, frameBench}
-use Rattle.sequence.specs.Ready.{Ready}
 use Rattle.sequence.proofs.Ready.{at-own}
 use Rattle.driver.specs.Answers.{LimitFits}
 use Rattle.driver.proofs.Left.{Left}
@@ -26,7 +25,7 @@ Inv-loop memory₀ identification₀ address bytes interval limit sent parts nex
     × ((frames ≤ 5001 + 5003 * k)
     × ((parts ≡ count (ownPart next₀ .size) (ownPart next₀ .page) address (length bytes))
     × ((ownPart next ≡ ownPart next₀)
-    × (Ready (ownPart next₀) (frameBench next memory identification)
+    × (((length memory ≡ length memory₀) × (length identification ≡ length identification₀))
     × Rest (ownPart next₀) interval limit address bytes parts sent (frameBench next₀ memory₀ identification₀) k frames
     (frameBench next memory identification)))))
 
@@ -43,8 +42,8 @@ loop-holds c =
     ∙ parts-asked (ownPart (start .args .core) .size) (ownPart (start .args .core) .page) (start .args .address) (length (start .args .bytes .now)) in (
       omega arith,
       (
-        omega (arith, start .pre .1 .1, longest-most (start .args .core .part)),
-        (parts, (refl, (start .pre .0, rest-first (ownPart (start .args .core)) _ _ _ _ _ _ _))),
+        omega (arith, start .pre .1, longest-most (start .args .core .part)),
+        (parts, (refl, ((refl, refl), rest-first (ownPart (start .args .core)) _ _ _ _ _ _ _))),
       ),
     )
 
@@ -55,11 +54,8 @@ write-part-requires c κs =
     let l = c .before .before .before .loop in
     let below = subst (λ (n : ℕ). l .k < n) (l .inv .1 .1 .0) (c .before .before .loop-test .taken) in
     let same = l .inv .1 .1 .1 .0 in (
-      at-own same (λ (Q : Part). Ready Q (frameBench (l .next) (l .memory) (l .identification))) (l .inv .1 .1 .1 .1 .0),
-      (
-        at-own same (λ (Q : Part). LimitFits Q (a .limit)) (start .pre .1 .0),
-        at-own same (λ (Q : Part). l .k < count (Q .size) (Q .page) (a .address) (length (a .bytes .now))) below,
-      ),
+      at-own same (λ (Q : Part). LimitFits Q (a .limit)) (start .pre .0),
+      at-own same (λ (Q : Part). l .k < count (Q .size) (Q .page) (a .address) (length (a .bytes .now))) below,
     )
 
 -- after part k: what it left
@@ -72,8 +68,7 @@ went : (w : tie.After-write-part Inv-loop μ-loop) → let a = w .before .before
 went w =
     let a = w .before .before .before .before .before .before .before .before .before .args in
     let inv = w .before .before .before .before .loop .inv in
-    part-left (ownPart (a .core)) (sound-of (a .core .part)) (a .interval) (a .limit) (a .address) (a .bytes .now) _ _ _ _ _ (inv .1 .1 .1 .0)
-    (inv .1 .1 .1 .1 .0) (w .write-part .ensures)
+    part-left (ownPart (a .core)) (a .interval) (a .limit) (a .address) (a .bytes .now) _ _ _ _ _ (inv .1 .1 .1 .0) (w .write-part .ensures)
 
 -- and that it sent few frames
 few-frames : (w : tie.After-write-part Inv-loop μ-loop)
@@ -85,7 +80,7 @@ few-frames w =
     acts-most (ownPart (a .core)) (a .interval) (a .limit)
     (splitAddress (ownPart (a .core) .size) (ownPart (a .core) .page) (a .address) (length (a .bytes .now)) (l .k))
     (piece (ownPart (a .core) .size) (ownPart (a .core) .page) (a .address) (a .bytes .now) (l .k)) (frameBench (l .next) (l .memory) (l .identification))
-    (w .before .before .before .before .before .before .before .before .before .pre .1 .0 .0) in
+    (w .before .before .before .before .before .before .before .before .before .pre .0 .0) in
     omega (arith, went w .told .1 .1 .0)
 
 -- a run has at most 512 parts
@@ -101,7 +96,7 @@ add-frames c =
     let most = few-frames w in
     let few = few-parts (a .core .part) (a .address) (length (a .bytes .now)) (l .inv .1 .1 .0) in
     let below = w .before .before .before .loop-test .taken in
-    omega (arith, l .inv .1 .0, start .pre .1 .0 .1, longest-most (a .core .part))
+    omega (arith, l .inv .1 .0, start .pre .0 .1, longest-most (a .core .part))
 
 wip-requires : tie.Need-wip-requires Inv-loop μ-loop
 wip-requires c κs = tt
@@ -116,12 +111,12 @@ cast-t22 c =
 same-length : tie.Need-same-length Inv-loop μ-loop
 same-length c =
     let w = c .before .before .before .before .before .before .before .before in
-    went w .ready .whole ∙ sym (w .before .before .before .before .before .before .before .before .before .pre .0 .whole)
+    went w .whole ∙ w .before .before .before .before .loop .inv .1 .1 .1 .1 .0 .0
 
 same-length-2 : tie.Need-same-length-2 Inv-loop μ-loop
 same-length-2 c =
     let w = c .before .before .before .before .before .before .before .before in
-    went w .ready .page ∙ sym (w .before .before .before .before .before .before .before .before .before .pre .0 .page)
+    went w .page ∙ w .before .before .before .before .loop .inv .1 .1 .1 .1 .0 .1
 
 returns : tie.Need-returns Inv-loop μ-loop
 returns c =
@@ -149,11 +144,12 @@ loop-again c =
     let l = w .before .before .before .before .loop in
     let below = w .before .before .before .loop-test .taken in
     let most = few-frames w in
+    let lengths = l .inv .1 .1 .1 .1 .0 in
     let rest = rest-on (l .inv .1 .1 .1 .1 .1) below (went w) (sym (c .before .wip .ensures) ∙ c .if1 .left) in (
       omega arith,
       (
-        omega (arith, l .inv .1 .0, start .pre .1 .0 .1, longest-most (start .args .core .part)),
-        (l .inv .1 .1 .0, (went w .stays, (went w .ready, rest))),
+        omega (arith, l .inv .1 .0, start .pre .0 .1, longest-most (start .args .core .part)),
+        (l .inv .1 .1 .0, (went w .stays, ((went w .whole ∙ lengths .0, went w .page ∙ lengths .1), rest))),
       ),
     )
 
@@ -164,10 +160,10 @@ cast-t25 c =
     omega (arith, c .before .loop .inv .0)
 
 same-length-3 : tie.Need-same-length-3 Inv-loop μ-loop
-same-length-3 c = c .before .loop .inv .1 .1 .1 .1 .0 .whole ∙ sym (c .before .before .before .before .before .before .pre .0 .whole)
+same-length-3 c = c .before .loop .inv .1 .1 .1 .1 .0 .0
 
 same-length-4 : tie.Need-same-length-4 Inv-loop μ-loop
-same-length-4 c = c .before .loop .inv .1 .1 .1 .1 .0 .page ∙ sym (c .before .before .before .before .before .before .pre .0 .page)
+same-length-4 c = c .before .loop .inv .1 .1 .1 .1 .0 .1
 
 returns-2 : tie.Need-returns-2 Inv-loop μ-loop
 returns-2 c = rest-done (c .before .loop .inv .1 .1 .1 .1 .1) (c .loop-test .left) (c .before .loop .inv .1 .1 .0)

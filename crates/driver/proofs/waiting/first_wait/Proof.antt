@@ -11,9 +11,6 @@ use borrow.Author.Needs.{needs}
 use Rattle.driver.proofs.waiting.first_wait.Statement.{statement}
 use Rattle.driver.proofs.waiting.first_wait.Tie as tie
 
-poll-requires : tie.Need-poll-requires
-poll-requires c κs = search needs
-
 sub-poll-on : tie.Need-sub-poll-on
 sub-poll-on c = search needs
 
@@ -22,10 +19,10 @@ poll-on-requires c κs = search needs
 
 and-sent-requires : tie.Need-and-sent-requires
 and-sent-requires c κs =
-    let a = c .before .before .before .before .before .before .before .before .before .before .args in
+    let a = c .before .before .before .before .before .before .before .before .before .args in
     let wait = c .before .before .before .before .poll-on in
     let d : FrameBench = frameBench (a .core) (a .memory .now) (a .identification .now) in
-    let most = c .before .before .before .before .before .before .before .before .before .before .pre .1 in
+    let most = c .before .before .before .before .before .before .before .before .before .pre in
     omega (arith, wait .ensures .1 .1 .0, sent-most (ownPart (a .core)) (a .interval) (a .limit - 1) d, longest-most (a .core .part))
 
 same-length : tie.Need-same-length
@@ -36,14 +33,14 @@ same-length-2 c = search needs
 
 returns : tie.Need-returns
 returns c =
-    let a = c .before .before .before .before .before .before .before .before .before .before .before .args in
+    let a = c .before .before .before .before .before .before .before .before .before .before .args in
     let P = ownPart (a .core) in
     let wait = c .before .before .before .before .before .poll-on in
     let d : FrameBench = frameBench (a .core) (a .memory .now) (a .identification .now) in
     told P _ d _ d 1 (first-wait P (a .interval) (a .limit) d d refl) (wait .result) (c .and-sent .result)
-    (wait .last .1 .1 .0) (wait .last .1 .1 .1 .0) (wait .ensures) (c .and-sent .ensures)
+    (wait .last .1 .0) (wait .last .1 .1 .0) (wait .ensures) (c .and-sent .ensures)
 
 pub first-wait-spec : {M : Type 1} → statement M
 first-wait-spec =
     tie.close
-    (tie.spec poll-requires sub-poll-on poll-on-requires and-sent-requires same-length same-length-2 returns)
+    (tie.spec sub-poll-on poll-on-requires and-sent-requires same-length same-length-2 returns)

@@ -1,46 +1,25 @@
--- It is a first wait on the device that the moved clock leaves.
-use mathlib.Core.Path.{refl}
-use mathlib.Core.List.{[], _∷_}
-use Prim.Native.Nat.{_-_}
+-- While a cycle runs its first poll is like any other; with none it is the only one.
+use mathlib.Core.Path.{_≡_, refl, ap, ap₂, sym, subst, _∙_}
+use mathlib.Core.List.{List}
+use Prim.Native.Nat.{ℕ, _-_, _^_, _<_}
 use native.Mathlib.Omega.{arith}
-use Rattle.codes.proofs.Parts.{longest-most}
-use Rattle.chip.specs.Records.{ownPart}
-use Rattle.frames.specs.Play.{FrameBench, frameBench}
-use Rattle.sequence.specs.Sequence.{moved}
-use Rattle.sequence.proofs.Ready.{ready-own}
-use Rattle.sequence.proofs.Waits.{sent-most}
-use Rattle.sequence.proofs.Joined.{first-wait}
-use Rattle.driver.proofs.Told.{told, told-late}
+use borrow.Author.Tests.{le-ltb, ltb-false}
+use Rattle.chip.specs.Records.{ownPart, running, withTime}
+use Rattle.chip.specs.declared.Core.{Core}
+use Rattle.frames.specs.Play.{Act, FrameBench, actedAll, frameBench}
+use Rattle.sequence.specs.Sequence.{latePoll}
+use Rattle.sequence.proofs.Joined.{page-busy, page-idle}
+use Rattle.sequence.proofs.Polls.{poll-idle}
+use Rattle.driver.specs.Told.{Told}
 use borrow.Author.Needs.{needs}
 use Rattle.driver.proofs.waiting.page_wait.Statement.{statement}
 use Rattle.driver.proofs.waiting.page_wait.Tie as tie
 
-moved-requires : tie.Need-moved-requires
-moved-requires c κs = search needs
-
-poll-requires : tie.Need-poll-requires
-poll-requires c κs = search needs
-
-sub-poll-on : tie.Need-sub-poll-on
-sub-poll-on c = search needs
+running-requires : tie.Need-running-requires
+running-requires c κs = search needs
 
 poll-on-requires : tie.Need-poll-on-requires
-poll-on-requires c κs =
-    let next = c .before .before .before .before .before .before .before .moved in
-    let start = c .before .before .before .before .before .before .before .before .before .before .before .before in
-    let a = start .args in
-    let d : FrameBench = frameBench (a .core) (a .memory .now) (a .identification .now) in
-    (ready-own (moved (a .interval) d ∷ []) d _ (start .pre .0) (next .ensures), c .before .before .poll .ensures)
-
-and-sent-requires : tie.Need-and-sent-requires
-and-sent-requires c κs =
-    let wait = c .before .before .before .before .poll-on in
-    let next = c .before .before .before .before .before .before .before .before .before .before .before .before .moved in
-    let start = c .before .before .before .before .before .before .before .before .before .before .before .before .before .before .before .before .before in
-    let a = start .args in
-    let x : FrameBench = frameBench (next .result) (next .last .1 .0) (next .last .1 .1 .0) in
-    let most = start .pre .1 in
-    omega (arith, wait .ensures .1 .1 .0, sent-most (ownPart (next .result)) (a .interval) (a .limit - 1) x, longest-most (a .core .part))
+poll-on-requires c κs = search needs
 
 same-length : tie.Need-same-length
 same-length c = search needs
@@ -50,26 +29,64 @@ same-length-2 c = search needs
 
 returns : tie.Need-returns
 returns c =
-    let wait = c .before .before .before .before .before .poll-on in
-    let late = c .before .before .before .before .before .before .before .before .before .before .before .before .before in
-    let next = late .moved in
-    let a = late .before .before .before .before .before .args in
-    let Q = ownPart (next .result) in
-    let x : FrameBench = frameBench (next .result) (next .last .1 .0) (next .last .1 .1 .0) in
-    let first =
-    told Q _ x _ x 1 (first-wait Q (a .interval) (a .limit) x x refl) (wait .result) (c .and-sent .result)
-    (wait .last .1 .1 .0) (wait .last .1 .1 .1 .0) (wait .ensures) (c .and-sent .ensures) in
-    told-late (a .interval) (a .limit) (frameBench (a .core) (a .memory .now) (a .identification .now)) x _ _ _ (next .ensures) first
+    let wait = c .before .before .before .before .poll-on in
+    let busy = c .before .before .before .before .before .before .before in
+    let start = busy .before .before .before .before in
+    let a = start .args in
+    let P = ownPart (a .core) in
+    let d : FrameBench = frameBench (a .core) (a .memory .now) (a .identification .now) in
+    let same = page-busy P (a .interval) (a .limit) d d (start .pre .0) (sym (busy .before .running .ensures) ∙ busy .if1 .taken) in
+    subst (λ (acts : List Act). Told P acts d (wait .result) (wait .last .1 .0) (wait .last .1 .1 .0)) (sym same) (wait .ensures)
+
+wrapping-add-u32-requires : tie.Need-wrapping-add-u32-requires
+wrapping-add-u32-requires c κs = search needs
+
+with-time-requires : tie.Need-with-time-requires
+with-time-requires c κs = search needs
+
+status-requires : tie.Need-status-requires
+status-requires c κs = search needs
+
+-- the last reading is a number of 32 bits
+read-low : (s : tie.Start) → s .args .core .last < 2 ^ 32
+read-low s =
+    let good = s .good in
+    omega arith
+
+returns-2 : tie.Need-returns-2
+returns-2 c =
+    let idle = c .before .before .before in
+    let start = idle .before .before .before .before in
+    let a = start .args in
+    let P = ownPart (a .core) in
+    let good = start .good in
+    let d : FrameBench = frameBench (a .core) (a .memory .now) (a .identification .now) in
+    let x : FrameBench = frameBench (c .before .with-time .result) (a .memory .now) (a .identification .now) in
+    let free : running (a .core) ≡ _ = sym (idle .before .running .ensures) ∙ idle .if1 .left in
+    let none : 0 ≡ a .core .left - a .interval = omega (arith, ltb-false 0 (a .core .left) free) in
+    let e : x ≡ actedAll P (latePoll (a .interval) d) d =
+    ap (λ (y : Core). frameBench y (a .memory .now) (a .identification .now)) (c .before .with-time .ensures)
+    ∙ ap₂ (λ (t n : ℕ). frameBench (withTime t n (a .core)) (a .memory .now) (a .identification .now)) (c .before .before .wrapping-add-u32 .ensures) none
+    ∙ poll-idle P (a .interval) (omega arith) d (read-low start) free in
+    let after : running (actedAll P (latePoll (a .interval) d) d .core) ≡ _ =
+    sym (ap (λ (y : FrameBench). running (y .core)) e) ∙ ap (λ (y : Core). running y) (c .before .with-time .ensures) ∙ le-ltb 0 0 (omega arith) in
+    let same = page-idle P (a .interval) (a .limit) d d after in
+    subst (λ (acts : List Act). Told P acts d (record { status = c .status .result; core = x .core; frames = 1 }) (a .memory .now) (a .identification .now))
+    (sym same) (
+      ap (λ (y : FrameBench). y .core) e,
+      (c .status .ensures, (refl, (ap (λ (y : FrameBench). y .memory) e, ap (λ (y : FrameBench). y .identification) e))),
+    )
 
 pub page-wait-spec : {M : Type 1} → statement M
 page-wait-spec =
     tie.close
     (tie.spec
-    moved-requires
-    poll-requires
-    sub-poll-on
+    running-requires
     poll-on-requires
-    and-sent-requires
     same-length
     same-length-2
-    returns)
+    returns
+    wrapping-add-u32-requires
+    with-time-requires
+    status-requires
+    returns-2)

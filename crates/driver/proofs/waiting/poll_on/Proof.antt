@@ -1,120 +1,158 @@
-use mathlib.Core.Path.{_≡_, refl, ap, ap₂, sym, subst, _∙_}
+use mathlib.Core.Path.{_≡_, ap, ap₂, _∙_}
 use mathlib.Core.Bool.{true}
-use mathlib.Core.Logic.{⊎-elim}
-use mathlib.Core.List.{[], _∷_}
-use Prim.Native.Nat.{ℕ, _-_, _<_, _≤_}
+use Prim.Native.Nat.{ℕ, _+_, _-_, _^_, _<_, _≤_}
 use native.Mathlib.Omega.{arith}
-use Rattle.codes.specs.Part.{Part}
-use Rattle.chip.specs.Records.{ownPart, status, running, withTime}
-use Rattle.codes.proofs.Sound.{sound-of}
+use lib.Dec.{ltb}
+use borrow.Author.Tests.{lt-ltb, ltb-true, ltb-false}
+use Rattle.laws.specs.Pick.{and-left, and-right}
+use Rattle.laws.specs.And.{and-other}
+use Rattle.chip.specs.Records.{ownPart, withTime}
+use Rattle.chip.specs.declared.Core.{Core}
 use Rattle.frames.specs.Play.{FrameBench, reading, acted, frameBench}
-use Rattle.sequence.specs.Sequence.{moved}
-use Rattle.sequence.specs.Ready.{Ready}
-use Rattle.sequence.proofs.Ready.{bench-of, ready-acted-all, own-acted}
+use Rattle.sequence.proofs.Ready.{bench-of}
 use Rattle.sequence.proofs.Joined.{late-poll-leaves}
-use Rattle.sequence.proofs.Waits.{goes-on, is-over, Onward, onward-first, onward-next, onward-last}
-use Rattle.driver.proofs.Moved.{moved-on}
+use Rattle.sequence.proofs.Polls.{poll-still, poll-free}
+use Rattle.sequence.proofs.Waits.{polls-on-free, is-over, Onward, onward-first, onward-next, onward-last}
 use borrow.Author.Needs.{needs}
 use Rattle.driver.proofs.waiting.poll_on.Statement.{statement}
 use Rattle.driver.proofs.waiting.poll_on.Tie as tie
 
+-- the bench with two numbers of its record moved
 abbrev Inv-loop : tie.InvT-loop
-Inv-loop seen memory₀ identification₀ interval left core₀ status₀ polls₀ memory identification core seen-now polls =
+Inv-loop start memory identification interval left last₀ rest₀ polls₀ last rest polls =
     (polls ≤ left)
-    × ((seen-now ≡ status core)
-    × ((ownPart core ≡ ownPart core₀)
-    × (Ready (ownPart core₀) (frameBench core memory identification)
-    × Onward (ownPart core₀) interval left (frameBench core₀ memory₀ identification₀) polls (frameBench core memory identification))))
+    × ((last < 2 ^ 32)
+    × Onward (ownPart start) interval left (frameBench start memory identification) polls
+    (frameBench (withTime last rest start) memory identification))
 
 abbrev μ-loop : tie.MeasureT-loop
-μ-loop seen memory₀ identification₀ interval left core₀ status₀ polls₀ memory identification core seen-now polls = left - polls
+μ-loop start memory identification interval left last₀ rest₀ polls₀ last rest polls = left - polls
 
 loop-holds : tie.Need-loop-holds Inv-loop μ-loop
 loop-holds c =
-    let start = c .before .before in
-    let P = ownPart (start .args .start) in
-    (omega arith, (start .pre .1, (refl, (start .pre .0, onward-first P _ _ _))))
+    let low = c .before .before .good in
+    (omega arith, (omega arith, onward-first (ownPart (c .before .before .args .start)) _ _ _))
 
 wrapping-add-u32-requires : tie.Need-wrapping-add-u32-requires Inv-loop μ-loop
 wrapping-add-u32-requires c κs = search needs
 
-elapsed-requires : tie.Need-elapsed-requires Inv-loop μ-loop
-elapsed-requires c κs = search needs
+-- in the loop a poll is left, and the cycle outlasts the interval
+on : (w : tie.After-wrapping-add-u32 Inv-loop μ-loop) → let l = w .before .before .loop in
+    let a = w .before .before .before .before .before .args in
+    (l .polls < a .left) × (a .interval < l .rest)
+on w =
+    let l = w .before .before .loop in
+    let a = w .before .before .before .before .before .args in
+    let test = w .before .loop-test .taken in
+    let more = ltb (l .polls) (a .left) in
+    let lasts = ltb (a .interval) (l .rest) in
+    (ltb-true _ _ (and-left more lasts test), ltb-true _ _ (and-right more lasts test))
 
-ends-requires : tie.Need-ends-requires Inv-loop μ-loop
-ends-requires c κs = search needs
+sub-rest : tie.Need-sub-rest Inv-loop μ-loop
+sub-rest c = omega (arith, on c .1)
+
+add-polls : tie.Need-add-polls Inv-loop μ-loop
+add-polls c =
+    let most = c .before .before .before .before .before .good in
+    omega (arith, on c .0)
+
+loop-less : tie.Need-loop-less Inv-loop μ-loop
+loop-less c = omega (arith, on c .0)
+
+loop-again : tie.Need-loop-again Inv-loop μ-loop
+loop-again c =
+    let l = c .before .before .loop in
+    let start = c .before .before .before .before .before in
+    let a = start .args in
+    let P = ownPart (a .start) in
+    let most = start .good in
+    let d : FrameBench = frameBench (withTime (l .last) (l .rest) (a .start)) (a .memory .now) (a .identification .now) in
+    let clock = c .wrapping-add-u32 .ensures in
+    let e = ap (λ (t : ℕ). frameBench (withTime t (l .rest - a .interval) (a .start)) (a .memory .now) (a .identification .now)) clock
+    ∙ poll-still P (a .interval) (omega arith) d (l .inv .1 .0) (on c .1) in
+    let runs : 0 < l .rest = omega (arith, on c .1) in (
+      omega (arith, on c .0),
+      (omega (arith, clock), onward-next P (a .interval) (a .left) _ (l .polls) d _ e (on c .0) (lt-ltb _ _ runs) (l .inv .1 .1)),
+    )
+
+with-time-requires : tie.Need-with-time-requires Inv-loop μ-loop
+with-time-requires c κs = search needs
+
+wrapping-add-u32-requires-2 : tie.Need-wrapping-add-u32-requires-2 Inv-loop μ-loop
+wrapping-add-u32-requires-2 c κs = search needs
 
 timed-requires : tie.Need-timed-requires Inv-loop μ-loop
 timed-requires c κs = search needs
 
-left-after-requires : tie.Need-left-after-requires Inv-loop μ-loop
-left-after-requires c κs = search needs
+-- the poll that ends the cycle: it is left, and the cycle runs, but not for longer than the interval
+ending : (t : tie.Then1 Inv-loop μ-loop) → let l = t .before .before .before .loop in
+    let a = t .before .before .before .before .before .before .args in
+    (l .polls < a .left) × ((0 < l .rest) × (l .rest ≤ a .interval))
+ending t =
+    let l = t .before .before .before .loop in
+    let a = t .before .before .before .before .before .before .args in
+    let more = ltb (l .polls) (a .left) in
+    let left : more ≡ true = and-left more (ltb 0 (l .rest)) (t .if1 .taken) in
+    let short = and-other more (ltb (a .interval) (l .rest)) (t .before .before .loop-test .left) left in
+    (ltb-true _ _ left, (ltb-true _ _ (and-right more (ltb 0 (l .rest)) (t .if1 .taken)), ltb-false _ _ short))
 
-poll-requires : tie.Need-poll-requires Inv-loop μ-loop
-poll-requires c κs = search needs
+status-requires : tie.Need-status-requires Inv-loop μ-loop
+status-requires c κs = search needs
 
--- in the loop: polls are left, and a cycle runs
-on : (w : tie.After-wrapping-add-u32 Inv-loop μ-loop) → let l = w .before .before .loop in
-    (l .polls < w .before .before .before .before .before .args .left) × (running (l .core) ≡ true)
-on w =
-    let l = w .before .before .loop in
-    goes-on (l .polls) (w .before .before .before .before .before .args .left) (l .status) (l .core) (l .inv .1 .0) (w .before .loop-test .taken)
-
-add-polls : tie.Need-add-polls Inv-loop μ-loop
-add-polls c =
-    let w = c .before .before .before .before in
-    let most = w .before .before .before .before .before .good in
-    omega (arith, on w .0)
-
-loop-less : tie.Need-loop-less Inv-loop μ-loop
-loop-less c = omega (arith, on (c .before .before .before .before) .0)
-
-loop-again : tie.Need-loop-again Inv-loop μ-loop
-loop-again c =
-    let w = c .before .before .before .before in
-    let l = w .before .before .loop in
-    let a = w .before .before .before .before .before .args in
-    let P = ownPart (a .start) in
-    let d : FrameBench = frameBench (l .core) (l .memory) (l .identification) in
-    let x : FrameBench = frameBench (c .before .if1 .core) (c .before .if1 .memory) (c .before .if1 .identification) in
-    let t = w .wrapping-add-u32 .result in
-    let clock = w .wrapping-add-u32 .ensures in
-    let same = l .inv .1 .1 .0 in
-    let e : x ≡ acted P (moved (a .interval) d) d =
-    ⊎-elim
-    (λ y.
-    let step = y .3 .ensures in
-    bench-of (acted (ownPart (l .core)) (reading t) d) (y .10 ∙ step .0) (y .8 ∙ step .1 .0) (y .9 ∙ step .1 .1)
-    ∙ ap₂ (λ (Q : Part) (n : ℕ). acted Q (reading n) d) same clock)
-    (λ y.
-    bench-of (frameBench (withTime t (y .1 .result) (l .core)) (l .memory) (l .identification)) (y .4) (y .2) (y .3)
-    ∙ moved-on P (a .interval) d clock (c .before .before .before .elapsed .ensures) (c .before .before .ends .ensures) (y .0 .left) (y .1 .ensures))
-    (c .before .if1 .came) in
-    let acts = moved (a .interval) d ∷ [] in
-    let ready : Ready P x = subst (Ready P) (sym e) (ready-acted-all P (sound-of (a .start .part)) acts d (l .inv .1 .1 .1 .0)) in
-    let rest =
-    onward-next P (a .interval) (a .left) _ (l .polls) d x (e ∙ late-poll-leaves P (a .interval) d) (on w .0) (on w .1) (l .inv .1 .1 .1 .1) in
-    let stays = own-acted P acts d (ap (λ (y : FrameBench). y .core) e) ∙ same in
-    (omega (arith, on w .0), (c .poll .ensures, (stays, (ready, rest))))
+add-t23 : tie.Need-add-t23 Inv-loop μ-loop
+add-t23 c =
+    let t = c .before .before .before .before .before .before .before .before .before in
+    let most = t .before .before .before .before .before .before .good in
+    omega (arith, ending t .0)
 
 same-length : tie.Need-same-length Inv-loop μ-loop
-same-length c = c .before .loop .inv .1 .1 .1 .0 .whole ∙ sym (c .before .before .before .before .pre .0 .whole)
+same-length c = search needs
 
 same-length-2 : tie.Need-same-length-2 Inv-loop μ-loop
-same-length-2 c = c .before .loop .inv .1 .1 .1 .0 .page ∙ sym (c .before .before .before .before .pre .0 .page)
+same-length-2 c = search needs
 
 returns : tie.Need-returns Inv-loop μ-loop
 returns c =
-    let l = c .before .loop in
-    let a = c .before .before .before .before .args in
+    let t = c .before .before .before .before .before .before .before .before .before in
+    let l = t .before .before .before .loop in
+    let start = t .before .before .before .before .before .before in
+    let a = start .args in
     let P = ownPart (a .start) in
-    let d : FrameBench = frameBench (l .core) (l .memory) (l .identification) in
-    let none = is-over P (a .interval) (l .polls) (a .left) (l .status) d (l .inv .1 .0) (c .loop-test .left) in
-    let last = onward-last P (a .interval) (a .left) _ (l .polls) d none (l .inv .1 .1 .1 .1) in
-    let core = ap (λ (x : FrameBench). x .core) (last .0) in
+    let most = start .good in
+    let d : FrameBench = frameBench (withTime (l .last) (l .rest) (a .start)) (a .memory .now) (a .identification .now) in
+    let core = t .before .with-time in
+    let given : FrameBench = frameBench (core .result) (a .memory .now) (a .identification .now) in
+    let clock = c .before .before .before .before .before .before .before .before .wrapping-add-u322 in
+    let step = c .before .before .before .before .before .timed in
+    let x : FrameBench = frameBench (step .result) (step .last .1 .1 .0) (step .last .1 .1 .1 .0) in
+    let e =
+    bench-of (acted (ownPart (core .result)) (reading (clock .result)) given) (step .ensures .0) (step .ensures .1 .0) (step .ensures .1 .1)
+    ∙ ap₂ (λ (y : Core) (n : ℕ). acted (ownPart y) (reading n) (frameBench y (a .memory .now) (a .identification .now))) (core .ensures) (clock .ensures)
+    ∙ late-poll-leaves P (a .interval) d in
+    let running = lt-ltb _ _ (ending t .1 .0) in
+    let free = ap (λ (y : FrameBench). ltb 0 (y .core .left)) e ∙ poll-free P (a .interval) (omega arith) d (l .inv .1 .0) (ending t .1 .0) (ending t .1 .1) in
+    let onward = onward-next P (a .interval) (a .left) _ (l .polls) d x e (ending t .0) running (l .inv .1 .1) in
+    let last = onward-last P (a .interval) (a .left) _ (l .polls + 1) x (polls-on-free P (a .interval) x (a .left - (l .polls + 1)) free) onward in
+    let memory = ap (λ (y : FrameBench). y .memory) (last .0) in
+    let page = ap (λ (y : FrameBench). y .identification) (last .0) in
+    (ap (λ (y : FrameBench). y .core) (last .0), (c .status .ensures, (last .1, (memory, page))))
+
+status-requires-2 : tie.Need-status-requires-2 Inv-loop μ-loop
+status-requires-2 c κs = search needs
+
+returns-2 : tie.Need-returns-2 Inv-loop μ-loop
+returns-2 c =
+    let after = c .before .before in
+    let l = after .before .before .loop in
+    let a = after .before .before .before .before .before .args in
+    let P = ownPart (a .start) in
+    let d : FrameBench = frameBench (withTime (l .last) (l .rest) (a .start)) (a .memory .now) (a .identification .now) in
+    let none = is-over P (a .interval) (l .polls) (a .left) d (c .before .if1 .left) in
+    let last = onward-last P (a .interval) (a .left) _ (l .polls) d none (l .inv .1 .1) in
+    let core = after .with-time .ensures ∙ ap (λ (x : FrameBench). x .core) (last .0) in
     let memory = ap (λ (x : FrameBench). x .memory) (last .0) in
     let page = ap (λ (x : FrameBench). x .identification) (last .0) in
-    (core, (l .inv .1 .0, (last .1, (memory, page))))
+    (core, (c .status2 .ensures, (last .1, (memory, page))))
 
 pub poll-on-spec : {M : Type 1} → statement M
 poll-on-spec =
@@ -124,14 +162,17 @@ poll-on-spec =
     μ-loop
     loop-holds
     wrapping-add-u32-requires
-    elapsed-requires
-    ends-requires
-    timed-requires
-    left-after-requires
-    poll-requires
+    sub-rest
     add-polls
     loop-less
     loop-again
+    with-time-requires
+    wrapping-add-u32-requires-2
+    timed-requires
+    status-requires
+    add-t23
     same-length
     same-length-2
-    returns)
+    returns
+    status-requires-2
+    returns-2)

@@ -10,7 +10,7 @@ use lib.Seq.{drop-at}
 use Rattle.codes.specs.Part.{Part}
 use Rattle.codes.proofs.Sound.{Sound}
 use Rattle.fields.specs.Bytes.{addressTo, address, payload}
-use Rattle.sequence.specs.Sequence.{addressBytes, writeBytes}
+use Rattle.frames.specs.Sent.{addressBytes, writeBytes}
 
 -- ---- an address as bytes
 
