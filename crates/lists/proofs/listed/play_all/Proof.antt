@@ -180,65 +180,53 @@ lents-same : (e : Event) (w : Way) (b : PinBench) {m d : List ℕ} → isWhole w
     → Lents e w b m d
 lents-same e w b h p r = (cells-same waitsPage e w (b .device) h p, cells-same waitsIdentification e w (b .device) h r)
 
--- by each arm: the device and what is lent are those after the way, and Q is what the device shows
-gone : (c : tie.At-match-came Inv-loop μ-loop) → let e = c .before .before .before .event-of .result in let w = c .before .way-for .result in
+-- what is shown of an arm: the device and what is lent are those after the way, and Q is what the device shows
+abbrev Gone : tie.At-match-came Inv-loop μ-loop → Type 0
+Gone c =
+    let e = c .before .before .before .event-of .result in
+    let w = c .before .way-for .result in
     (Moved c ≡ afterWay (devicePart (Head c .device)) (lentTo (Head c)) e w (Head c .device))
     × (c .match .q ≡ levelNumber (q (Moved c))) × Lents e w (Head c) (c .match .memory) (c .match .identification)
+
+-- of one that hands on what is lent: w is its way, and f, b, k and x are what it leaves of the device
+handed-on : (c : tie.At-match-came Inv-loop μ-loop) {w : Way} {f : Front} {b k : List ℕ} {x : Core} → c .before .way-for .result ≡ w
+    → isWhole w ≡ false → c .match .memory ≡ Head c .memory → c .match .identification ≡ Head c .identification → c .match .front ≡ f
+    → c .match .bytes ≡ b → c .match .marks ≡ k → c .match .core ≡ x
+    → joined f b k x ≡ afterWay (devicePart (Head c .device)) (lentTo (Head c)) (c .before .before .before .event-of .result) w (Head c .device)
+    → c .match .q ≡ levelNumber (q (joined f b k x)) → Gone c
+handed-on c way part m d front bytes marks core after shows =
+    let event = c .before .before .before .event-of .result in
+    let lents = lents-same event (c .before .way-for .result) (Head c) (ap isWhole way ∙ part) m d in
+    (rw (front, bytes, marks, core, way) after, rw (front, bytes, marks, core) shows, lents)
+
+-- by each arm
+gone : (c : tie.At-match-came Inv-loop μ-loop) → Gone c
 unfolding q zeros
 gone c =
-    let event = c .before .before .before .event-of .result in
-    let way = c .before .way-for .result in
     let l = c .before .before .before .before .before .before .loop in
     let a : Latch = record { bytes = l .bytes; marks = l .marks } in
     ⊎-elim
     -- Data
-    (λ w. (
-      rw (w .5, w .6, w .7, w .8, w .1 .given .1) refl,
-      rw (w .9, w .5) (l .inv .5),
-      lents-same event way (Head c) (ap isWhole (w .1 .given .1)) (w .3) (w .4),
-    ))
+    (λ w. handed-on c (w .1 .given .1) refl (w .3) (w .4) (w .5) (w .6) (w .7) (w .8) refl (w .9 ∙ l .inv .5))
     (⊎-elim
     -- Set
-    (λ w. (
-      rw (w .6, w .7, w .8, w .9, w .1 .given .1) refl,
-      rw (w .10, w .6) (w .3 .ensures a (l .core)),
-      lents-same event way (Head c) (ap isWhole (w .1 .given .1)) (w .4) (w .5),
-    ))
+    (λ w. handed-on c (w .1 .given .1) refl (w .4) (w .5) (w .6) (w .7) (w .8) (w .9) refl (w .10 ∙ w .3 .ensures a (l .core)))
     (⊎-elim
     -- Rise
-    (λ w. (
-      rw (w .5, w .6, w .7, w .8, w .1 .given .1) refl,
-      rw (w .9, w .5) (l .inv .5),
-      lents-same event way (Head c) (ap isWhole (w .1 .given .1)) (w .3) (w .4),
-    ))
+    (λ w. handed-on c (w .1 .given .1) refl (w .3) (w .4) (w .5) (w .6) (w .7) (w .8) refl (w .9 ∙ l .inv .5))
     (⊎-elim
     -- Latched
-    (λ w. (
-      rw (w .9, w .10, w .11, w .12, w .6 .ensures .0, w .6 .ensures .1, w .1 .given .1) refl,
-      rw (w .13, w .9) (l .inv .5),
-      lents-same event way (Head c) (ap isWhole (w .1 .given .1)) (w .7) (w .8),
-    ))
+    (λ w. handed-on c (w .1 .given .1) refl (w .7) (w .8) (w .9) (w .10 ∙ w .6 .ensures .0) (w .11 ∙ w .6 .ensures .1) (w .12) refl (w .13 ∙ l .inv .5))
     (⊎-elim
     -- Fall
-    (λ w. (
-      rw (w .6, w .7, w .8, w .9, w .1 .given .1) refl,
-      rw (w .10, w .6) (w .3 .ensures a (l .core)),
-      lents-same event way (Head c) (ap isWhole (w .1 .given .1)) (w .4) (w .5),
-    ))
+    (λ w. handed-on c (w .1 .given .1) refl (w .4) (w .5) (w .6) (w .7) (w .8) (w .9) refl (w .10 ∙ w .3 .ensures a (l .core)))
     (⊎-elim
     -- Clear
-    (λ w. (
-      rw (w .6, w .7, w .8, w .9, w .1 .given .1) (w .3 .ensures _),
-      rw (w .10, w .6) (no-q (devicePart (Head c .device)) (Head c .device) (w .3 .ensures (l .core))),
-      lents-same event way (Head c) (ap isWhole (w .1 .given .1)) (w .4) (w .5),
-    ))
+    (λ w. handed-on c (w .1 .given .1) refl (w .4) (w .5) (w .6) (w .7) (w .8) (w .9) (w .3 .ensures _)
+    (w .10 ∙ no-q (devicePart (Head c .device)) (Head c .device) (w .3 .ensures (l .core))))
     (⊎-elim
     -- Pass
-    (λ w. (
-      rw (w .5, w .6, w .7, w .8, w .1 .given .1) refl,
-      rw (w .9, w .5) (l .inv .5),
-      lents-same event way (Head c) (ap isWhole (w .1 .given .1)) (w .3) (w .4),
-    ))
+    (λ w. handed-on c (w .1 .given .1) refl (w .3) (w .4) (w .5) (w .6) (w .7) (w .8) refl (w .9 ∙ l .inv .5))
     -- Whole
     (λ w. (
       rw (w .19, w .20, w .21, w .22, w .12 .ensures, w .5 .ensures .0, w .2 .ensures, w .1 .given .1) refl,

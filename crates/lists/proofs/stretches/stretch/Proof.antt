@@ -13,6 +13,8 @@ use Rattle.pins.specs.declared.Device.{Device}
 use Rattle.pins.specs.Devices.{q}
 use Rattle.pins.specs.Answers.{pinBench}
 use Rattle.lists.specs.Ways.{whole}
+use Rattle.lists.specs.declared.Front.{Front}
+use Rattle.lists.specs.declared.Move.{Move}
 use Rattle.lists.specs.Stretches.{Steady, counted, moving, isOther, afterMove, Leads, Shows}
 use Rattle.lists.proofs.Moves.{reached-more}
 use borrow.Author.Needs.{needs}
@@ -65,44 +67,37 @@ returns c =
     let inv = c .before .before .before .before .before .loop .inv in
     ((inv .0, inv .1), (inv .6, inv .7))
 
--- by each arm: the device is that after the move, which counts and moves Q as before, and Q is what it shows
-gone : (c : tie.At-match-came Inv-loop μ-loop) → let l = c .before .before .before .before .loop in let s = c .before .move-for .result in
+-- what is shown of an arm: the device is that after the move, which counts and moves Q as before, and Q is what it shows
+abbrev Gone : tie.At-match-came Inv-loop μ-loop → Type 0
+Gone c =
+    let l = c .before .before .before .before .loop in
+    let s = c .before .move-for .result in
     (isOther s ≡ false) × Steady (c .match .front) × (counted (c .match .front) ≡ counted (l .front))
     × ((P : Part) → moving P (c .match .front) ≡ moving P (l .front))
     × ((a : Latch) (k : Core) → whole (c .match .front) a k ≡ afterMove s (whole (l .front) a k))
     × Shows (c .match .front) (c .match .q)
+
+-- of one that leaves front f: s is its move
+moved-to : (c : tie.At-match-came Inv-loop μ-loop) {s : Move} {f : Front} → let l = c .before .before .before .before .loop in
+    c .before .move-for .result ≡ s → isOther s ≡ false → c .match .front ≡ f → Steady f → counted f ≡ counted (l .front)
+    → ((P : Part) → moving P f ≡ moving P (l .front)) → ((a : Latch) (k : Core) → whole f a k ≡ afterMove s (whole (l .front) a k))
+    → Shows f (c .match .q) → Gone c
+moved-to c move own front steady counts moves after shows =
+    (ap isOther move ∙ own, rw front steady, rw front counts, λ P. rw front (moves P), λ a k. rw (front, move) (after a k), rw front shows)
+
+-- by each arm
+gone : (c : tie.At-match-came Inv-loop μ-loop) → Gone c
 unfolding q
 gone c =
     let l = c .before .before .before .before .loop in
     ⊎-elim
     -- Data
-    (λ w. (
-      ap isOther (w .1 .given .1),
-      rw (w .3) (l .inv .3),
-      rw (w .3) refl,
-      λ P. rw (w .3) refl,
-      λ a k. rw (w .3, w .1 .given .1) refl,
-      λ a k. rw (w .4, w .3) (l .inv .6 a k),
-    ))
+    (λ w. moved-to c (w .1 .given .1) refl (w .3) (l .inv .3) refl (λ P. refl) (λ a k. refl) (λ a k. w .4 ∙ l .inv .6 a k))
     (⊎-elim
     -- Bit
-    (λ w. (
-      ap isOther (w .1 .given .1),
-      rw (w .3) (l .inv .3),
-      rw (w .3) refl,
-      λ P. rw (w .3) refl,
-      λ a k. rw (w .3, w .1 .given .1) refl,
-      λ a k. rw (w .4, w .3) (l .inv .6 a k),
-    ))
+    (λ w. moved-to c (w .1 .given .1) refl (w .3) (l .inv .3) refl (λ P. refl) (λ a k. refl) (λ a k. w .4 ∙ l .inv .6 a k))
     -- Shown
-    (λ w. (
-      ap isOther (w .1 .given .1),
-      rw (w .4) (l .inv .3),
-      rw (w .4) refl,
-      λ P. rw (w .4) refl,
-      λ a k. rw (w .4, w .1 .given .1) refl,
-      λ a k. rw (w .5, w .4) (w .3 .ensures a k),
-    )))
+    (λ w. moved-to c (w .1 .given .1) refl (w .4) (l .inv .3) refl (λ P. refl) (λ a k. refl) (λ a k. w .5 ∙ w .3 .ensures a k)))
     (c .match .came)
 
 slice-write-out : tie.Need-slice-write-out Inv-loop μ-loop
