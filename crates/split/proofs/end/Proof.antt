@@ -1,10 +1,10 @@
 -- The edge as the code has it is the definition's, and an atom to omega.
-use Prim.Native.Nat.{_+_, _*_}
-use mathlib.Core.Path.{_≡_}
+use Prim.Native.Nat.{_+_}
 use native.Mathlib.Nat.{div-le-self, mul-le-mul-left}
 use native.Mathlib.Omega.{arith}
 use Rattle.codes.specs.Part.{partOf}
-use Rattle.split.specs.Split.{edge, end}
+use Rattle.split.specs.Split.{end}
+use Rattle.split.proofs.Edges.{edge-as}
 use borrow.Author.Needs.{needs}
 use Rattle.split.proofs.end.Statement.{statement}
 use Rattle.split.proofs.end.Tie as tie
@@ -38,22 +38,16 @@ mul-edge c =
     )
 
 returns : tie.Need-returns
-unfolding end edge
+unfolding end
 returns c =
     let a = c .before .before .before .args in
-    let n = c .before .before .page-number in
-    let p = c .before .page in
-    let e : (n .result + (a .part + 1)) * p .result ≡ edge (partOf (a .chip) .page) (a .address) (a .part + 1) = rw (n .ensures, p .ensures .0) in
-    omega (arith, e)
+    omega (arith, edge-as (partOf (a .chip) .page) (a .address) (a .part + 1) (c .before .before .page-number .ensures) (c .before .page .ensures .0))
 
 returns-2 : tie.Need-returns-2
-unfolding end edge
+unfolding end
 returns-2 c =
     let a = c .before .before .before .args in
-    let n = c .before .before .page-number in
-    let p = c .before .page in
-    let e : (n .result + (a .part + 1)) * p .result ≡ edge (partOf (a .chip) .page) (a .address) (a .part + 1) = rw (n .ensures, p .ensures .0) in
-    omega (arith, e)
+    omega (arith, edge-as (partOf (a .chip) .page) (a .address) (a .part + 1) (c .before .before .page-number .ensures) (c .before .page .ensures .0))
 
 pub end-spec : {M : Type 1} → statement M
 end-spec =

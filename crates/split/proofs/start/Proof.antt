@@ -4,7 +4,8 @@ use native.Mathlib.Nat.{div-le-self, mul-le-mul-left}
 use native.Mathlib.Omega.{arith}
 use Rattle.laws.specs.Pick.{arms, ne-so}
 use Rattle.codes.specs.Part.{partOf}
-use Rattle.split.specs.Split.{edge, start}
+use Rattle.split.specs.Split.{start}
+use Rattle.split.proofs.Edges.{edge-as}
 use borrow.Author.Needs.{needs}
 use Rattle.split.proofs.start.Statement.{statement}
 use Rattle.split.proofs.start.Tie as tie
@@ -32,8 +33,11 @@ mul-result c =
     (arith, n .ensures, div-le-self (a .address) (partOf (a .chip) .page), mul-le-mul-left (n .result + a .part) (c .page .ensures .1))
 
 returns-2 : tie.Need-returns-2
-unfolding start edge
-returns-2 c = ne-so _ (c .before .before .if1 .left) (rw (c .before .page-number .ensures, c .page .ensures .0))
+unfolding start
+returns-2 c =
+    let a = c .before .before .before .args in
+    ne-so _ (c .before .before .if1 .left)
+    (edge-as (partOf (a .chip) .page) (a .address) (a .part) (c .before .page-number .ensures) (c .page .ensures .0))
 
 pub start-spec : {M : Type 1} → statement M
 start-spec =
