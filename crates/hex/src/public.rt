@@ -38,6 +38,13 @@ impl HexReply {
     }
 }
 
+// The memory has its part's cells.
+fn memory_fits(part: u8, cells: usize) -> bool
+    ensures { λ r. ⌜ r ≡ eqb cells (partOf part .size) ⌝ }
+{
+    cells == size_of(part)
+}
+
 // The part's memory has an image's cells.
 fn imaged(part: u8) -> bool
     ensures { λ r. ⌜ r ≡ eqb (partOf part .size) (m95512 .size) ⌝ }
@@ -53,7 +60,7 @@ pub fn export(core: Core, memory: &[u8], out: &mut [u8]) -> HexReply
     ensures { λ r. ⌜ hexNumber r ≡ exportNumber m95512 core (now (memory .entry)) (length (now (out .entry))) ⌝ }
     ensures { λ _. ⌜ now (out .exit) ≡ exportOutput m95512 core (now (memory .entry)) (now (out .entry)) ⌝ }
 {
-    if memory.len() == size_of(core.part) {
+    if memory_fits(core.part, memory.len()) {
         if core.in_ranges() {
             if imaged(core.part) {
                 if out.len() == TEXT_SIZE {
@@ -115,7 +122,7 @@ pub fn import(core: Core, memory: &mut [u8], text: &[u8]) -> Imported
     ensures { λ r. ⌜ hexNumber (r .answer) ≡ importNumber m95512 core (now (memory .entry)) (now (text .entry)) ⌝ }
     ensures { λ _. ⌜ now (memory .exit) ≡ importMemory m95512 core (now (memory .entry)) (now (text .entry)) ⌝ }
 {
-    if memory.len() == size_of(core.part) {
+    if memory_fits(core.part, memory.len()) {
         if core.in_ranges() {
             if imaged(core.part) {
                 let taken = take_text(core.running(), memory, text);

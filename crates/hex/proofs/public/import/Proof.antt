@@ -27,8 +27,8 @@ answered P c true m left given e size =
     ap (importedTo Done) (at-yes _ _ (eq-eqb _ _ size) ∙ ap (λ (s : List ℕ). withBlank (blanks s) c) e)
 answered P c false m left given e size = refl
 
-size-of-requires : tie.Need-size-of-requires
-size-of-requires c κs = search needs
+memory-fits-requires : tie.Need-memory-fits-requires
+memory-fits-requires c κs = search needs
 
 in-ranges-requires : tie.Need-in-ranges-requires
 in-ranges-requires c κs = search needs
@@ -41,10 +41,9 @@ running-requires c κs = search needs
 
 take-text-requires : tie.Need-take-text-requires
 take-text-requires c κs =
-    let long = c .before .before .before .before .before .before .if1 .taken in
-    let own = c .before .before .before .before .before .before .before .size-of .ensures .0 in
-    let image = eqb-true _ _ (sym (c .before .before .before .imaged .ensures) ∙ c .before .before .if3 .taken) in
-    long ∙ own ∙ image
+    let long = eqb-true _ _
+    (sym (c .before .before .before .before .before .before .before .memory-fits .ensures) ∙ c .before .before .before .before .before .before .if1 .taken) in
+    long ∙ eqb-true _ _ (sym (c .before .before .before .imaged .ensures) ∙ c .before .before .if3 .taken)
 
 imported-requires : tie.Need-imported-requires
 imported-requires c κs = search needs
@@ -56,8 +55,8 @@ returns : tie.Need-returns
 returns c =
     let c8 = c .before .before .before .before .before .before .before .before in
     let a = c8 .before .before .before .before .before .before .before .args in
-    let long : length (a .memory .now) ≡ ownPart (a .core) .size = c8 .before .before .before .if1 .taken
-    ∙ c8 .before .before .before .before .size-of .ensures .0 in
+    let long : length (a .memory .now) ≡ ownPart (a .core) .size = eqb-true _ _ (sym (c8 .before .before .before .before .memory-fits .ensures)
+    ∙ c8 .before .before .before .if1 .taken) in
     let fits = sym (c8 .before .before .in-ranges .ensures) ∙ c8 .before .if2 .taken in
     let image = sym (c8 .imaged .ensures) ∙ c .before .before .before .before .before .before .before .if3 .taken in
     let x = c .before .before .before .before .take-text in
@@ -83,28 +82,20 @@ returns-2 : tie.Need-returns-2
 returns-2 c =
     let c8 = c .before .before .before .before .before .before .before .before in
     let a = c8 .args in
-    let long : length (a .memory .now) ≡ ownPart (a .core) .size = c .before .before .before .before .if1 .taken
-    ∙ c .before .before .before .before .before .size-of .ensures .0 in
     let no : takes m95512 (a .core) (a .text .now) ≡ false = and-no-left (imaged m95512 (a .core)) _ (sym (c .before .imaged .ensures) ∙ c .if3 .left) in
     (search arms, (search arms, search arms))
 
 returns-3 : tie.Need-returns-3
-returns-3 c =
-    let a = c .before .before .before .before .before .before .args in
-    let long : length (a .memory .now) ≡ ownPart (a .core) .size = c .before .before .if1 .taken ∙ c .before .before .before .size-of .ensures .0 in
-    (search arms, (search arms, search arms))
+returns-3 c = (search arms, (search arms, search arms))
 
 returns-4 : tie.Need-returns-4
-returns-4 c =
-    let a = c .before .before .before .before .args in
-    let other : length (a .memory .now) ≡ ownPart (a .core) .size → ⊥ = λ e. c .if1 .left (e ∙ sym (c .before .size-of .ensures .0)) in
-    (search arms, (search arms, search arms))
+returns-4 c = (search arms, (search arms, search arms))
 
 pub import-spec : {M : Type 1} → statement M
 import-spec =
     tie.close
     (tie.spec
-    size-of-requires
+    memory-fits-requires
     in-ranges-requires
     imaged-requires
     running-requires
