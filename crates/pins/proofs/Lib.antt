@@ -2,5 +2,6 @@
 -- `pins_theorems`.
 pub mod Answering
 pub mod Stills
+pub mod Turns
 pub mod Ones
 pub mod Kept
