@@ -21,7 +21,6 @@ use frames::Framed;
 mod polled;
 mod walk;
 
-use polled::quiet_frame;
 use polled::ran_frame;
 use walk::Walk;
 use walk::places_fit;
@@ -70,37 +69,6 @@ pub fn timed_frame(
     if (positions.len() == 0) & (readings.len() == 0) {
         return frames::frame(core, memory, identification, w, bytes, bits, out);
     }
-    scheduled(
-        core,
-        memory,
-        identification,
-        w,
-        mode,
-        bytes,
-        bits,
-        positions,
-        readings,
-        out,
-    )
-}
-
-// A frame by its lists: refused as they or the frame are, or carried out.
-fn scheduled(
-    core: Core,
-    memory: &mut [u8],
-    identification: &mut [u8],
-    w: bool,
-    mode: Mode,
-    bytes: &[u8],
-    bits: usize,
-    positions: &[usize],
-    readings: &[u32],
-    out: &mut [u8],
-) -> Framed
-    ensures { λ r. ⌜ AnsweredInTime (ownPart core) core (lent (now (memory .entry)) (now (identification .entry)))
-        w mode (now (bytes .entry)) bits (now (positions .entry)) (now (readings .entry)) (now (out .entry))
-        r (now (memory .exit)) (now (identification .exit)) (now (out .exit)) ⌝ }
-{
     if !places_fit(bits, positions, readings) {
         return frames::frame(core, memory, identification, w, bytes, NO_COUNT, out);
     }
@@ -129,6 +97,7 @@ fn scheduled(
 }
 
 // A frame that is not refused: the readings at 0 come, and then it is one at whose eighth edge a cycle ran or none did.
+// Where none did, no reading inside it changes a cell or the status, so that it is the plain frame after all of them.
 fn carried_out(
     core: Core,
     memory: &mut [u8],
@@ -154,10 +123,10 @@ fn carried_out(
     };
     let first = start.to(1, positions, readings, memory, identification);
     let opened = first.core;
-    let next = first.next;
-    let rest = &positions[next..];
-    let times = &readings[next..];
     if opened.running() {
+        let next = first.next;
+        let rest = &positions[next..];
+        let times = &readings[next..];
         return ran_frame(
             opened,
             memory,
@@ -171,17 +140,8 @@ fn carried_out(
             out,
         );
     }
-    quiet_frame(
-        opened,
-        memory,
-        identification,
-        w,
-        bytes,
-        bits,
-        rest,
-        times,
-        out,
-    )
+    let last = first.to(bits / 8 + 1, positions, readings, memory, identification);
+    frames::frame(last.core, memory, identification, w, bytes, bits, out)
 }
 
 // Lengths, record and bit count are those of a frame.

@@ -1,7 +1,7 @@
 // A frame at whose eighth edge a cycle ran: RDSR shows the status byte by byte, nothing else is shown, and of the other
 // instructions only WRDI may be executed.
 ghost use mathlib.Core.Path.{_≡_};
-ghost use mathlib.Core.Bool.{Bool, true, false};
+ghost use mathlib.Core.Bool.{Bool, true};
 ghost use Prim.Native.Nat.{_+_, _*_, _-_, _<_, _≤_};
 ghost use lib.ListN.{length};
 ghost use Rattle.codes.specs.Part.{roomCells};
@@ -14,7 +14,6 @@ ghost use Rattle.frames.specs.Play.{frameBench};
 ghost use Rattle.frames.specs.Answers.{frameOutcome};
 ghost use Rattle.frames.specs.declared.FrameReply.the-variants.{Shown};
 ghost use Rattle.timed_frames.specs.Schedules.{due};
-ghost use Rattle.timed_frames.specs.declared.Mode.{Mode};
 ghost use Rattle.timed_frames.specs.InTime.{isWrdi, isRdsr, leftBy, loadedAt, sightsIn};
 ghost use Rattle.timed_frames.specs.Walked.{Walked, statusesOver};
 use crate::Mode;
@@ -185,38 +184,4 @@ pub(crate) fn ran_frame(
         answer: answer,
         core: after_ran(last.core, bytes, bits),
     }
-}
-
-// A frame at whose eighth edge no cycle ran, no reading of position 0 left. No reading inside it changes a cell or the
-// status, so that it is the plain frame after all of them.
-pub(crate) fn quiet_frame(
-    core: Core,
-    memory: &mut [u8],
-    identification: &mut [u8],
-    w: bool,
-    bytes: &[u8],
-    bits: usize,
-    positions: &[usize],
-    readings: &[u32],
-    out: &mut [u8],
-) -> Framed
-    requires { ⌜ frameOutcome (ownPart core) core (length (now memory)) (length (now identification))
-        (length (now bytes)) bits (length (now out)) ≡ Done ⌝ }
-    requires { ⌜ (length (now positions) ≡ length (now readings)) × (due 1 (now positions) ≡ 0) ⌝ }
-    requires { ⌜ running core ≡ false ⌝ }
-    ensures { λ r. ⌜ r .answer ≡ Shown (undriven (ownPart core) (instruction (ownPart core) (now (bytes .entry)))
-        (running core) bits) ⌝ }
-    ensures { λ r. ⌜ frameBench (r .core) (now (memory .exit)) (now (identification .exit))
-        ≡ leftBy (ownPart core) (now (positions .entry)) (now (readings .entry))
-        (frameBench core (now (memory .entry)) (now (identification .entry))) w (now (bytes .entry)) bits ⌝ }
-    ensures { λ _. ⌜ ((o : Mode) → now (out .exit) ≡ output (ownPart core) (running core)
-        (sightsIn (ownPart core) (now (positions .entry)) (now (readings .entry))
-        (frameBench core (now (memory .entry)) (now (identification .entry))) o) (now (bytes .entry)) bits) ⌝ }
-{
-    let start = Walk {
-        core: core,
-        next: 0,
-    };
-    let last = start.to(bits / 8 + 1, positions, readings, memory, identification);
-    frames::frame(last.core, memory, identification, w, bytes, bits, out)
 }

@@ -1,11 +1,15 @@
--- With empty lists it is the plain call; else the lists decide.
+-- With empty lists it is the plain call. Refused calls are the plain call's refusals, with this bit count or one that no frame has; the rest is carried out.
+use mathlib.Core.Path.{ap, sym, _∙_}
 use lib.Dec.{eqb}
 use lib.ListN.{length}
-use borrow.Author.Tests.{eqb-true}
+use borrow.Author.Tests.{eqb-true, not-true, not-false}
 use Rattle.laws.specs.Pick.{and-left, and-right}
+use Rattle.codes.specs.Refusals.{isDone}
+use Rattle.codes.proofs.Parts.{size-most}
 use Rattle.chip.specs.Lents.{lent}
 use Rattle.chip.specs.Records.{ownPart}
 use Rattle.timed_frames.proofs.Untimed.{plain-answered}
+use Rattle.timed_frames.proofs.Whole.{placed, misplaced, misplaced-not, turned-away}
 use borrow.Author.Needs.{needs}
 use Rattle.timed_frames.proofs.timed_frame.Statement.{statement}
 use Rattle.timed_frames.proofs.timed_frame.Tie as tie
@@ -25,17 +29,19 @@ same-length-3 c = search needs
 returns : tie.Need-returns
 returns c =
     let a = c .before .before .before .before .before .before .before .before .before .before .before .before .before .args in
-    let P = ownPart (a .core) in
-    let m = lent (a .memory .now) (a .identification .now) in
     let none = c .before .before .before .before .before .before .if1 .taken in
     let no-place = eqb (length (a .positions .now)) 0 in
     let f = c .before .before .frame .ensures in
-    plain-answered P (a .core) m (a .bytes .now) (a .bits) (a .w) (a .mode) (a .positions .now) (a .readings .now) (a .out .now)
+    plain-answered (ownPart (a .core)) (a .core) (lent (a .memory .now) (a .identification .now)) (a .bytes .now) (a .bits) (a .w) (a .mode)
+    (a .positions .now) (a .readings .now) (a .out .now)
     (eqb-true (length (a .positions .now)) 0 (and-left no-place (eqb (length (a .readings .now)) 0) none))
     (eqb-true (length (a .readings .now)) 0 (and-right no-place (eqb (length (a .readings .now)) 0) none)) (f .0) (f .1 .1 .1)
 
-scheduled-requires : tie.Need-scheduled-requires
-scheduled-requires c κs = search needs
+places-fit-requires : tie.Need-places-fit-requires
+places-fit-requires c κs = search needs
+
+frame-requires-2 : tie.Need-frame-requires-2
+frame-requires-2 c κs = search needs
 
 same-length-4 : tie.Need-same-length-4
 same-length-4 c = search needs
@@ -47,7 +53,66 @@ same-length-6 : tie.Need-same-length-6
 same-length-6 c = search needs
 
 returns-2 : tie.Need-returns-2
-returns-2 c = search needs
+returns-2 c =
+    let c8 = c .before .before .before .before .before .before .before .before in
+    let a = c8 .before .before .before .before .before .before .before .args in
+    let P = ownPart (a .core) in
+    let m = lent (a .memory .now) (a .identification .now) in
+    let places = c .before .before .before .before .before .before .before .places-fit in
+    let e = sym (places .ensures) ∙ not-true (places .result) (c .before .before .before .before .before .before .if2 .taken) in
+    let f = c .before .before .frame2 .ensures in
+    turned-away P (a .core) m (a .w) (a .mode) (a .bytes .now) (a .bits) (a .positions .now) (a .readings .now) (a .out .now) 18446744073709551615
+    (misplaced P (a .core) m (a .bytes .now) (a .bits) (a .positions .now) (a .readings .now) (length (a .out .now)) e (size-most (a .core .part)))
+    (misplaced-not P (a .core) m (a .bytes .now) (a .bits) (a .positions .now) (a .readings .now) (length (a .out .now)) e) (f .0) (f .1 .1 .1)
+
+frame-fits-requires : tie.Need-frame-fits-requires
+frame-fits-requires c κs = search needs
+
+frame-requires-3 : tie.Need-frame-requires-3
+frame-requires-3 c κs = search needs
+
+same-length-7 : tie.Need-same-length-7
+same-length-7 c = search needs
+
+same-length-8 : tie.Need-same-length-8
+same-length-8 c = search needs
+
+same-length-9 : tie.Need-same-length-9
+same-length-9 c = search needs
+
+returns-3 : tie.Need-returns-3
+returns-3 c =
+    let c8 = c .before .before .before .before .before .before .before .before in
+    let a = c8 .before .before .before .before .before .before .before .before .before .args in
+    let P = ownPart (a .core) in
+    let m = lent (a .memory .now) (a .identification .now) in
+    let fits = c .before .before .before .before .before .before .before .frame-fits in
+    let places = c8 .before .places-fit in
+    let e = sym (places .ensures) ∙ not-false (places .result) (c8 .if2 .left) in
+    let f = c .before .before .frame3 .ensures in
+    let plain = placed P (a .core) m (a .bytes .now) (a .bits) (a .positions .now) (a .readings .now) (length (a .out .now)) e in
+    let away = fits .ensures .1 (not-true (fits .result) (c .before .before .before .before .before .before .if3 .taken)) in
+    turned-away P (a .core) m (a .w) (a .mode) (a .bytes .now) (a .bits) (a .positions .now) (a .readings .now) (a .out .now) (a .bits)
+    (sym plain) (ap isDone plain ∙ away) (f .0) (f .1 .1 .1)
+
+carried-out-requires : tie.Need-carried-out-requires
+carried-out-requires c κs =
+    let fits = c .before .before .before .before .frame-fits in
+    let places = c .before .before .before .before .before .before .places-fit in
+    let listed = sym (places .ensures) ∙ not-false (places .result) (c .before .before .before .before .before .if2 .left) in
+    (listed, fits .ensures .0 (not-false (fits .result) (c .before .before .before .if3 .left)))
+
+same-length-10 : tie.Need-same-length-10
+same-length-10 c = search needs
+
+same-length-11 : tie.Need-same-length-11
+same-length-11 c = search needs
+
+same-length-12 : tie.Need-same-length-12
+same-length-12 c = search needs
+
+returns-4 : tie.Need-returns-4
+returns-4 c = search needs
 
 pub timed-frame-spec : {M : Type 1} → statement M
 timed-frame-spec =
@@ -58,8 +123,20 @@ timed-frame-spec =
     same-length-2
     same-length-3
     returns
-    scheduled-requires
+    places-fit-requires
+    frame-requires-2
     same-length-4
     same-length-5
     same-length-6
-    returns-2)
+    returns-2
+    frame-fits-requires
+    frame-requires-3
+    same-length-7
+    same-length-8
+    same-length-9
+    returns-3
+    carried-out-requires
+    same-length-10
+    same-length-11
+    same-length-12
+    returns-4)
