@@ -11,6 +11,7 @@ use Rattle.codes.specs.declared.Refusal.{Refusal}
 use Rattle.codes.specs.declared.Refusal.the-variants.{MemoryLength, RecordRange, OutputLength}
 use Rattle.chip.specs.Lents.{Lent}
 use Rattle.chip.specs.Time.{lentFits}
+use Rattle.pins.specs.declared.Device.{Device}
 use Rattle.pins.specs.Devices.{devicePart}
 use Rattle.pins.specs.Answers.{PinBench, lentTo, played}
 use Rattle.lists.specs.Answers.{benchWith, playedQ}
@@ -103,6 +104,10 @@ fedTo a p n = record { answer = a; player = p; written = n }
 
 abbrev pub refusedTo : Refusal → Player → Fed
 refusedTo r p = fedTo (Refused r) p 0
+
+-- of the line and the device in hand, the header out
+abbrev pub fedBy : Line → Device → ℕ → Fed
+fedBy l x n = let p : Player = record { headed = 1; line = l; device = x } in fedTo (answerOf p) p n
 
 -- what a chunk x that is taken hands back
 abbrev pub takenBy : Player → Lent → List ℕ → Fed

@@ -2,4 +2,5 @@
 pub mod Lines
 pub mod Texts
 pub mod Chunks
+pub mod Pieces
 pub mod Takes

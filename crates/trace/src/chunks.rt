@@ -9,13 +9,13 @@ ghost use Rattle.chip.specs.Lents.{lent};
 ghost use Rattle.pins.specs.Devices.{devicePart};
 ghost use Rattle.pins.specs.Answers.{played, pinBench};
 ghost use Rattle.events.specs.Events.{areEvents};
-ghost use Rattle.lists.specs.Answers.{playedQ};
 ghost use Rattle.pins.specs.Ranges.{deviceFits};
-ghost use Rattle.lines.specs.Reading.{read, lineFits};
+ghost use Rattle.lines.specs.Reading.{lineFits};
 ghost use Rattle.printing.specs.Put.{put};
 ghost use Rattle.player.specs.Players.{playerFits};
-ghost use Rattle.trace.specs.Chunks.{headedBy, badLineBetween, playedLines, shownEvents, shownLines, chunkBench};
-ghost use Rattle.trace.specs.Chunks.{chunkOutput, endOutput, answerOf, room, takenBy, endedBy, refusedTo};
+ghost use Rattle.trace.specs.Chunks.{headedBy, badLineBetween, shownEvents, chunkBench, chunkOutput, endOutput};
+ghost use Rattle.trace.specs.Chunks.{answerOf, room, fedBy, takenBy, endedBy, refusedTo};
+ghost use Rattle.trace.specs.Pieces.{Shows, Took};
 use crate::Fed;
 use crate::FeedReply;
 use crate::parsing::parse;
@@ -33,32 +33,6 @@ fn marked(device: Device) -> bool
     ensures { λ _. ⌜ length (device .frame .latch .marks) ≡ roomWords ⌝ }
 {
     true
-}
-
-// What playing some events leaves: the pin model's promise for a list, where nothing is refused.
-fn play_some(
-    device: Device,
-    memory: &mut [u8],
-    identification: &mut [u8],
-    events: &[u64],
-    qs: &mut [u8],
-) -> Device
-    requires { ⌜ (length (now memory) ≡ devicePart device .size)
-        × (length (now identification) ≡ devicePart device .page) × (deviceFits (devicePart device) device ≡ true)
-        × (areEvents (now events) ≡ true) × (length (now qs) ≡ length (now events)) ⌝ }
-    ensures { λ r. ⌜ r ≡ played (devicePart device) (now (events .entry))
-        (pinBench device (now (memory .entry)) (now (identification .entry))) .device ⌝ }
-    ensures { λ _. ⌜ now (memory .exit) ≡ played (devicePart device) (now (events .entry))
-        (pinBench device (now (memory .entry)) (now (identification .entry))) .memory ⌝ }
-    ensures { λ _. ⌜ now (identification .exit) ≡ played (devicePart device) (now (events .entry))
-        (pinBench device (now (memory .entry)) (now (identification .entry))) .identification ⌝ }
-    ensures { λ _. ⌜ now (qs .exit) ≡ playedQ (devicePart device) (now (events .entry))
-        (pinBench device (now (memory .entry)) (now (identification .entry))) ⌝ }
-    ensures { λ r. ⌜ deviceFits (devicePart r) r ≡ true ⌝ }
-{
-    marked(device);
-    let stepped = play(device, memory, identification, events, qs);
-    stepped.device
 }
 
 // The device after some events, and the index after their lines.
@@ -82,20 +56,15 @@ fn show(
         × (length (now identification) ≡ devicePart device .page) × (deviceFits (devicePart device) device ≡ true)
         × (areEvents (now events) ≡ true) × (length (now qs) ≡ length (now events))
         × (at + 10 * length (now events) ≤ length (now out)) ⌝ }
-    ensures { λ r. ⌜ (r .device ≡ played (devicePart device) (now (events .entry))
-        (pinBench device (now (memory .entry)) (now (identification .entry))) .device)
-        × (deviceFits (devicePart (r .device)) (r .device) ≡ true) ⌝ }
-    ensures { λ _. ⌜ now (memory .exit) ≡ played (devicePart device) (now (events .entry))
-        (pinBench device (now (memory .entry)) (now (identification .entry))) .memory ⌝ }
-    ensures { λ _. ⌜ now (identification .exit) ≡ played (devicePart device) (now (events .entry))
-        (pinBench device (now (memory .entry)) (now (identification .entry))) .identification ⌝ }
-    ensures { λ _. ⌜ now (out .exit) ≡ put (now (out .entry)) at (shownEvents n
-        (pinBench device (now (memory .entry)) (now (identification .entry))) (now (events .entry))) ⌝ }
-    ensures { λ r. ⌜ (r .at ≡ at + length (shownEvents n
-        (pinBench device (now (memory .entry)) (now (identification .entry))) (now (events .entry))))
-        × (r .at ≤ at + 10 * length (now (events .entry))) ⌝ }
+    ensures { λ r. ⌜ Shows (played (devicePart device) (now (events .entry))
+        (pinBench device (now (memory .entry)) (now (identification .entry))))
+        (shownEvents n (pinBench device (now (memory .entry)) (now (identification .entry))) (now (events .entry)))
+        (now (out .entry)) at (length (now (events .entry)))
+        (r .device) (now (memory .exit)) (now (identification .exit)) (now (out .exit)) (r .at) ⌝ }
 {
-    let next = play_some(device, memory, identification, events, qs);
+    marked(device);
+    let stepped = play(device, memory, identification, events, qs);
+    let next = stepped.device;
     let end = print(out, at, n, qs);
     Shown {
         device: next,
@@ -127,19 +96,9 @@ fn piece(
         × (lineFits line ≡ true) ⌝ }
     requires { ⌜ (length (now text) ≤ length (now events)) × (length (now text) ≤ length (now qs))
         × (at + 10 * length (now text) ≤ length (now out)) ⌝ }
-    ensures { λ r. ⌜ (r .line ≡ read line (now (text .entry))) × (lineFits (r .line) ≡ true) ⌝ }
-    ensures { λ r. ⌜ (r .device ≡ playedLines line
-        (pinBench device (now (memory .entry)) (now (identification .entry))) (now (text .entry)) .device)
-        × (deviceFits (devicePart (r .device)) (r .device) ≡ true) ⌝ }
-    ensures { λ _. ⌜ now (memory .exit) ≡ playedLines line
-        (pinBench device (now (memory .entry)) (now (identification .entry))) (now (text .entry)) .memory ⌝ }
-    ensures { λ _. ⌜ now (identification .exit) ≡ playedLines line
-        (pinBench device (now (memory .entry)) (now (identification .entry))) (now (text .entry)) .identification ⌝ }
-    ensures { λ _. ⌜ now (out .exit) ≡ put (now (out .entry)) at (shownLines line
-        (pinBench device (now (memory .entry)) (now (identification .entry))) (now (text .entry))) ⌝ }
-    ensures { λ r. ⌜ (r .at ≡ at + length (shownLines line
-        (pinBench device (now (memory .entry)) (now (identification .entry))) (now (text .entry))))
-        × (r .at ≤ at + 10 * length (now (text .entry))) ⌝ }
+    ensures { λ r. ⌜ Took line (pinBench device (now (memory .entry)) (now (identification .entry)))
+        (now (text .entry)) (now (out .entry)) at r (now (memory .exit)) (now (identification .exit))
+        (now (out .exit)) ⌝ }
 {
     let parsed = parse(line, text, events);
     let count = parsed.count;
@@ -200,18 +159,9 @@ fn pieces(
         × (length (now identification) ≡ devicePart device .page) × (deviceFits (devicePart device) device ≡ true)
         × (lineFits line ≡ true)
         × (at + 10 * length (now text) ≤ length (now out)) ⌝ }
-    ensures { λ r. ⌜ (r .line ≡ read line (now (text .entry))) × (lineFits (r .line) ≡ true) ⌝ }
-    ensures { λ r. ⌜ r .device ≡ playedLines line
-        (pinBench device (now (memory .entry)) (now (identification .entry))) (now (text .entry)) .device ⌝ }
-    ensures { λ _. ⌜ now (memory .exit) ≡ playedLines line
-        (pinBench device (now (memory .entry)) (now (identification .entry))) (now (text .entry)) .memory ⌝ }
-    ensures { λ _. ⌜ now (identification .exit) ≡ playedLines line
-        (pinBench device (now (memory .entry)) (now (identification .entry))) (now (text .entry)) .identification ⌝ }
-    ensures { λ _. ⌜ now (out .exit) ≡ put (now (out .entry)) at (shownLines line
-        (pinBench device (now (memory .entry)) (now (identification .entry))) (now (text .entry))) ⌝ }
-    ensures { λ r. ⌜ (r .at ≡ at + length (shownLines line
-        (pinBench device (now (memory .entry)) (now (identification .entry))) (now (text .entry))))
-        × (r .at ≤ at + 10 * length (now (text .entry))) ⌝ }
+    ensures { λ r. ⌜ Took line (pinBench device (now (memory .entry)) (now (identification .entry)))
+        (now (text .entry)) (now (out .entry)) at r (now (memory .exit)) (now (identification .exit))
+        (now (out .exit)) ⌝ }
 {
     let mut events = event_room();
     let mut qs = level_room();
@@ -303,6 +253,22 @@ pub(crate) fn refused(player: Player, refusal: Refusal) -> Fed
     }
 }
 
+// What is handed back, with the line and the device in hand: the header is out.
+fn fed(line: Line, device: Device, written: usize) -> Fed
+    ensures { λ r. ⌜ r ≡ fedBy line device written ⌝ }
+{
+    let after = Player {
+        headed: 1,
+        line: line,
+        device: device,
+    };
+    Fed {
+        answer: answer_of(after),
+        player: after,
+        written: written,
+    }
+}
+
 // A chunk that is taken.
 pub(crate) fn take_chunk(
     player: Player,
@@ -331,16 +297,7 @@ pub(crate) fn take_chunk(
     let hand = placed.line;
     let next = placed.device;
     let end = put_bad_between(out, placed.at, line, hand);
-    let after = Player {
-        headed: 1,
-        line: hand,
-        device: next,
-    };
-    Fed {
-        answer: answer_of(after),
-        player: after,
-        written: end,
-    }
+    fed(hand, next, end)
 }
 
 // The end of a text that is taken.
@@ -355,14 +312,5 @@ pub(crate) fn take_end(player: Player, out: &mut [u8]) -> Fed
     let hand = line.ended();
     let at = put_head(player.headed, out);
     let end = put_bad_between(out, at, line, hand);
-    let after = Player {
-        headed: 1,
-        line: hand,
-        device: device,
-    };
-    Fed {
-        answer: answer_of(after),
-        player: after,
-        written: end,
-    }
+    fed(hand, device, end)
 }

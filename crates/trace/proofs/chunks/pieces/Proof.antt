@@ -163,7 +163,7 @@ returns c =
     let played = l .inv .10 ∙ ap (playedLines (a .line) (pinBench (a .device) (a .memory .now) (a .identification .now))) all in (
       (rw all at (l .inv .9), l .inv .6),
       (
-        ap (λ (w : PinBench). w .device) played,
+        (ap (λ (w : PinBench). w .device) played, l .inv .7),
         (
           ap (λ (w : PinBench). w .memory) played,
           (

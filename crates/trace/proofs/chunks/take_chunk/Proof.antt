@@ -32,8 +32,8 @@ put-bad-between-requires c κs =
     let as-given = c8 .before .before .before .before .before .before .out .given in
     (omega (arith, same, as-given, x .ensures .1 .1 .1 .1 .1 .1, head .ensures .1 .1, at .pre .3), x .ensures .0 .1)
 
-answer-of-requires : tie.Need-answer-of-requires
-answer-of-requires c κs = search needs
+fed-requires : tie.Need-fed-requires
+fed-requires c κs = search needs
 
 same-length : tie.Need-same-length
 same-length c = search needs
@@ -42,7 +42,9 @@ same-length-2 : tie.Need-same-length-2
 same-length-2 c = search needs
 
 same-length-3 : tie.Need-same-length-3
-same-length-3 c = search needs
+same-length-3 c =
+    let c8 = c .before .before .before .before .before .before .before .before in
+    c .before .before .out3 .given ∙ c8 .out2 .given ∙ c8 .before .before .before .before .before .before .before .before .before .before .out .given
 
 returns : tie.Need-returns
 returns c =
@@ -68,7 +70,7 @@ returns c =
     let small : head .result ≤ 7 = head .ensures .1 .1 in
     let fits : length h + length s + length f ≤ length (a .out .now) = omega (arith, at, end, few, last, head-is, small, pre .3) in
     let whole : bad .result ≡ length (chunkOutput (a .player) m t) = rw (length-append, length-append) (omega (arith, at, end, head-is)) in (
-      rw (c .answer-of .ensures, x .ensures .0 .0, x .ensures .1 .0, whole) refl,
+      rw (c .fed .ensures, x .ensures .0 .0, x .ensures .1 .0 .0, whole) refl,
       (
         x .ensures .1 .1 .0,
         (
@@ -77,7 +79,7 @@ returns c =
             bad .ensures .0 ∙ ap (λ (l : List ℕ). put (x .last .1 .1 .1 .1 .1 .0) (x .result .at) l) bad-is ∙ ap (λ (l : List ℕ). put l (x .result .at) f)
                 (x .ensures .1 .1 .1 .1 .0 ∙ ap (λ (l : List ℕ). put l (head .result) s) (head .ensures .0))
                 ∙ three-puts (a .out .now) h (head .result) head-is s f (x .result .at) at fits,
-            omega (arith, few, last, small, pre .3),
+            rw (c .fed .ensures) (omega (arith, few, last, small, pre .3)),
           ),
         ),
       ),
@@ -90,7 +92,7 @@ take-chunk-spec =
     put-head-requires
     pieces-requires
     put-bad-between-requires
-    answer-of-requires
+    fed-requires
     same-length
     same-length-2
     same-length-3

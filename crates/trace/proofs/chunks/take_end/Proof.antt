@@ -28,8 +28,8 @@ put-bad-between-requires c κs =
           (ended-fits (c .before .before .before .before .before .before .before .before .before .args .player .line) (fits .1 .0)),
     )
 
-answer-of-requires : tie.Need-answer-of-requires
-answer-of-requires c κs = search needs
+fed-requires : tie.Need-fed-requires
+fed-requires c κs = search needs
 
 same-length : tie.Need-same-length
 same-length c = search needs
@@ -50,11 +50,11 @@ returns c =
     let small : head .result ≤ 7 = head .ensures .1 .1 in
     let fits : length h + length f ≤ length (a .out .now) = omega (arith, end, last, head-is, small, pre .1) in
     let whole : bad .result ≡ length (endOutput (a .player)) = rw length-append (omega (arith, end, head-is)) in (
-      rw (c .answer-of .ensures, c .before .before .before .before .before .before .before .before .before .ended .ensures, whole) refl,
+      rw (c .fed .ensures, c .before .before .before .before .before .before .before .before .before .ended .ensures, whole) refl,
       (
         bad .ensures .0 ∙ ap (λ (l : List ℕ). put (head .last .1 .0) (head .result) l) bad-is ∙ ap (λ (l : List ℕ). put l (head .result) f) (head .ensures .0)
             ∙ two-puts (a .out .now) h (head .result) head-is f fits,
-        omega (arith, last, small, pre .1),
+        rw (c .fed .ensures) (omega (arith, last, small, pre .1)),
       ),
     )
 
@@ -65,6 +65,6 @@ take-end-spec =
     ended-requires
     put-head-requires
     put-bad-between-requires
-    answer-of-requires
+    fed-requires
     same-length
     returns)
