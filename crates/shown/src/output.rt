@@ -2,7 +2,7 @@
 ghost use mathlib.Core.Path.{_≡_};
 ghost use Prim.Native.Nat.{_+_, _*_, _-_, _%_, _<_, _≤_};
 ghost use lib.Dec.{eqb, leb};
-ghost use mathlib.Core.Bool.{true, not, _&&_};
+ghost use mathlib.Core.Bool.{not, _&&_};
 ghost use mathlib.Core.List.{_++_};
 ghost use lib.ListN.{length, getD, drop, replicate};
 ghost use Rattle.laws.specs.Pick.{pick};
@@ -11,8 +11,8 @@ ghost use Rattle.codes.specs.Part.{partOf};
 ghost use Rattle.codes.specs.Output.{outputs};
 ghost use Rattle.codes.specs.declared.Instruction.the-variants.{Read, Rdid};
 ghost use Rattle.latch.specs.Identification.{identificationAt};
-ghost use Rattle.fields.specs.Counts.{bitsFit, longestFrame};
-ghost use Rattle.shown.specs.Shown.{sights, byteOut, padded, output};
+ghost use Rattle.fields.specs.Counts.{longestFrame};
+ghost use Rattle.shown.specs.Shown.{sights, byteOut, padded};
 ghost use Rattle.shown.specs.Lengths.{lengthsFit, shownIn};
 use codes::Instruction;
 use codes::head_of;
@@ -199,40 +199,6 @@ fn pad(out: &mut [u8], unused: u8)
     out[last] = pad_byte(out[last], unused);
 }
 
-// The whole output of a frame whose lengths go together.
-fn show_taken(
-    part: u8,
-    ran: bool,
-    status: u8,
-    lock: u8,
-    memory: &[u8],
-    identification: &[u8],
-    bytes: &[u8],
-    bits: usize,
-    out: &mut [u8],
-)
-    requires { ⌜ (length (now memory) ≡ partOf part .size) × (length (now identification) ≡ partOf part .page) ⌝ }
-    requires { ⌜ length (now bytes) ≤ longestFrame (partOf part) ⌝ }
-    requires { ⌜ bitsFit (length (now bytes)) bits ≡ true ⌝ }
-    requires { ⌜ length (now out) ≡ length (now bytes) ⌝ }
-    ensures { λ _. ⌜ now (out .exit)
-        ≡ output (partOf part) ran (sights status lock (now (memory .entry)) (now (identification .entry)))
-        (now (bytes .entry)) bits ⌝ }
-{
-    show_bytes(
-        part,
-        instruction_of(part, bytes),
-        ran,
-        status,
-        lock,
-        memory,
-        identification,
-        address_of(part, bytes),
-        out,
-    );
-    pad(out, (8 * bytes.len() - bits) as u8);
-}
-
 // Whether the lengths go together: of the memory, of the identification page, of a frame's bytes and bits, of the
 // output.
 fn lengths_fit(part: u8, size: usize, cells: usize, len: usize, bits: usize, room: usize) -> bool
@@ -269,16 +235,17 @@ pub fn show(
         bits,
         out.len(),
     ) {
-        show_taken(
+        show_bytes(
             part,
+            instruction_of(part, bytes),
             ran,
             status,
             lock,
             memory,
             identification,
-            bytes,
-            bits,
+            address_of(part, bytes),
             out,
         );
+        pad(out, (8 * bytes.len() - bits) as u8);
     }
 }
