@@ -13,6 +13,8 @@ use crate::places::less;
 use crate::places::place;
 use codes::Instruction;
 use codes::head_of;
+use codes::is_wrid;
+use codes::is_write;
 use codes::most_of;
 use codes::picks_lock;
 use codes::size_of;
@@ -83,20 +85,11 @@ fn valued(part: u8, i: Instruction, address: u32, taken: u8) -> bool
     }
 }
 
+// A WRITE or a WRID that picks no lock, once its data has begun.
 fn latches(part: u8, i: Instruction, address: u32, taken: u8) -> bool
     ensures { λ r. ⌜ r ≡ latches (partOf part) i address taken ⌝ }
 {
-    match i {
-        Instruction::Wren => false,
-        Instruction::Wrdi => false,
-        Instruction::Rdsr => false,
-        Instruction::Wrsr => false,
-        Instruction::Read => false,
-        Instruction::Write => head_of(part) < taken,
-        Instruction::Rdid => false,
-        Instruction::Wrid => !picks_lock(address) & (head_of(part) < taken),
-        Instruction::Silence => false,
-    }
+    (is_write(i) | is_wrid(i) & !picks_lock(address)) & (head_of(part) < taken)
 }
 
 impl Frame {

@@ -1,104 +1,54 @@
--- Each arm is the clause of its instruction, by its call where it has one.
-use Rattle.codes.specs.Part.{partOf}
+-- By the instruction: the two tests are the two clauses that are not false.
+use Prim.Native.Nat.{ℕ, _+_}
+use mathlib.Core.Bool.{not, _&&_, _||_}
+use mathlib.Core.Path.{_≡_, refl}
+use lib.Dec.{leb}
+use Rattle.codes.specs.Part.{Part, partOf}
+use Rattle.codes.specs.Instructions.{isWrite, isWrid, picksLock}
+use Rattle.codes.specs.declared.Instruction.{Instruction}
+use Rattle.codes.specs.declared.Instruction.the-variants.{Wren, Wrdi, Rdsr, Wrsr, Read, Write, Rdid, Wrid, Silence}
+use Rattle.edges.specs.Ranges.{latches}
 use Rattle.edges.proofs.Nexts.{past-head}
 use borrow.Author.Needs.{needs}
 use Rattle.edges.proofs.ranges.latches.Statement.{statement}
 use Rattle.edges.proofs.ranges.latches.Tie as tie
 
-enum-told : tie.Need-enum-told
-enum-told c = search needs
+by-tests : (P : Part) (i : Instruction) (a n : ℕ) → ((isWrite i || isWrid i && not (picksLock a)) && leb (P .addressBytes + 2) n) ≡ latches P i a n
+by-tests P Wren a n = refl
+by-tests P Wrdi a n = refl
+by-tests P Rdsr a n = refl
+by-tests P Wrsr a n = refl
+by-tests P Read a n = refl
+by-tests P Write a n = refl
+by-tests P Rdid a n = refl
+by-tests P Wrid a n = refl
+by-tests P Silence a n = refl
 
-enum-told-2 : tie.Need-enum-told-2
-enum-told-2 c = search needs
+is-write-requires : tie.Need-is-write-requires
+is-write-requires c κs = search needs
 
-enum-told-3 : tie.Need-enum-told-3
-enum-told-3 c = search needs
-
-enum-told-4 : tie.Need-enum-told-4
-enum-told-4 c = search needs
-
-enum-told-5 : tie.Need-enum-told-5
-enum-told-5 c = search needs
-
-enum-told-6 : tie.Need-enum-told-6
-enum-told-6 c = search needs
-
-head-of-requires : tie.Need-head-of-requires
-head-of-requires c κs = search needs
-
-enum-told-7 : tie.Need-enum-told-7
-enum-told-7 c = search needs
-
-enum-told-8 : tie.Need-enum-told-8
-enum-told-8 c = search needs
+is-wrid-requires : tie.Need-is-wrid-requires
+is-wrid-requires c κs = search needs
 
 picks-lock-requires : tie.Need-picks-lock-requires
 picks-lock-requires c κs = search needs
 
-head-of-requires-2 : tie.Need-head-of-requires-2
-head-of-requires-2 c κs = search needs
-
-enum-told-9 : tie.Need-enum-told-9
-enum-told-9 c = search needs
+head-of-requires : tie.Need-head-of-requires
+head-of-requires c κs = search needs
 
 returns : tie.Need-returns
-returns c = search needs
-
-returns-2 : tie.Need-returns-2
-returns-2 c = search needs
-
-returns-3 : tie.Need-returns-3
-returns-3 c = search needs
-
-returns-4 : tie.Need-returns-4
-returns-4 c = search needs
-
-returns-5 : tie.Need-returns-5
-returns-5 c = search needs
-
-returns-6 : tie.Need-returns-6
-returns-6 c =
-    let a = c .before .before .before .args in
-    rw (c .before .enum-told6 .given .1, c .head-of .ensures .0, past-head (partOf (a .part) .addressBytes) (a .taken))
-
-returns-7 : tie.Need-returns-7
-returns-7 c = search needs
-
-returns-8 : tie.Need-returns-8
-returns-8 c =
+returns c =
     let a = c .before .before .before .before .args in
+    let P = partOf (a .part) in
     rw (
-      c .before .before .enum-told8 .given .1,
+      c .before .before .before .is-write .ensures,
+      c .before .before .is-wrid .ensures,
       c .before .picks-lock .ensures,
-      c .head-of2 .ensures .0,
-      past-head (partOf (a .part) .addressBytes) (a .taken),
-    )
-
-returns-9 : tie.Need-returns-9
-returns-9 c = search needs
+      c .head-of .ensures .0,
+      past-head (P .addressBytes) (a .taken),
+    ) (by-tests P (a .i) (a .address) (a .taken))
 
 pub latches-spec : {M : Type 1} → statement M
 latches-spec =
     tie.close
-    (tie.spec
-    enum-told
-    enum-told-2
-    enum-told-3
-    enum-told-4
-    enum-told-5
-    enum-told-6
-    head-of-requires
-    enum-told-7
-    enum-told-8
-    picks-lock-requires
-    head-of-requires-2
-    enum-told-9
-    returns
-    returns-2
-    returns-3
-    returns-4
-    returns-5
-    returns-6
-    returns-7
-    returns-8
-    returns-9)
+    (tie.spec is-write-requires is-wrid-requires picks-lock-requires head-of-requires returns)
