@@ -1,7 +1,7 @@
 use mathlib.Core.Path.{refl, _∙_}
-use Rattle.laws.specs.Pick.{eq-so, yes-so, no-so}
+use Rattle.laws.specs.Pick.{eq-so}
 use Rattle.pins.specs.Events.{onC}
-use Rattle.pins.proofs.Turns.{turned}
+use Rattle.pins.proofs.Turns.{turned-up, turned-down}
 use borrow.Author.Needs.{needs}
 use Rattle.pins.proofs.Device.on_c.Statement.{statement}
 use Rattle.pins.proofs.Device.on_c.Tie as tie
@@ -18,14 +18,14 @@ raising-requires c κs = search needs
 
 returns-2 : tie.Need-returns-2
 unfolding onC
-returns-2 c = turned _ (c .before .before .if1 .left) (c .before .before .before .before .bit .ensures) (yes-so _ (c .before .if2 .taken) (c .raising .ensures))
+returns-2 c = turned-up _ _ (c .before .before .if1 .left) (c .before .before .before .before .bit .ensures) (c .before .if2 .taken) (c .raising .ensures)
 
 lowering-requires : tie.Need-lowering-requires
 lowering-requires c κs = search needs
 
 returns-3 : tie.Need-returns-3
 unfolding onC
-returns-3 c = turned _ (c .before .before .if1 .left) (c .before .before .before .before .bit .ensures) (no-so _ (c .before .if2 .left) (c .lowering .ensures))
+returns-3 c = turned-down _ _ (c .before .before .if1 .left) (c .before .before .before .before .bit .ensures) (c .before .if2 .left) (c .lowering .ensures)
 
 pub on-c-spec : {M : Type 1} → statement M
 on-c-spec =

@@ -1,7 +1,7 @@
 use mathlib.Core.Path.{refl, _∙_}
-use Rattle.laws.specs.Pick.{eq-so, yes-so, no-so}
+use Rattle.laws.specs.Pick.{eq-so}
 use Rattle.pins.specs.Events.{onS}
-use Rattle.pins.proofs.Turns.{turned}
+use Rattle.pins.proofs.Turns.{turned-up, turned-down}
 use borrow.Author.Needs.{needs}
 use Rattle.pins.proofs.Device.on_s.Statement.{statement}
 use Rattle.pins.proofs.Device.on_s.Tie as tie
@@ -18,14 +18,14 @@ deselecting-requires c κs = search needs
 
 returns-2 : tie.Need-returns-2
 unfolding onS
-returns-2 c = turned _ (c .before .before .if1 .left) (c .before .before .before .before .bit .ensures) (yes-so _ (c .before .if2 .taken) (c .deselecting .ensures))
+returns-2 c = turned-up _ _ (c .before .before .if1 .left) (c .before .before .before .before .bit .ensures) (c .before .if2 .taken) (c .deselecting .ensures)
 
 selecting-requires : tie.Need-selecting-requires
 selecting-requires c κs = search needs
 
 returns-3 : tie.Need-returns-3
 unfolding onS
-returns-3 c = turned _ (c .before .before .if1 .left) (c .before .before .before .before .bit .ensures) (no-so _ (c .before .if2 .left) (c .selecting .ensures))
+returns-3 c = turned-down _ _ (c .before .before .if1 .left) (c .before .before .before .before .bit .ensures) (c .before .if2 .left) (c .selecting .ensures)
 
 pub on-s-spec : {M : Type 1} → statement M
 on-s-spec =
