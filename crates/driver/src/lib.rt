@@ -71,7 +71,8 @@ fn drive(
             core: core,
         };
     }
-    let first = waiting::first_wait(core, memory, identification, interval, limit);
+    // the first poll is made without moving the clock
+    let first = waiting::poll_on(core, memory, identification, interval, limit - 1).and_sent(1);
     let next = first.core;
     let frames = first.frames;
     if status::wip(first.status) {

@@ -4,7 +4,7 @@ ghost use mathlib.Core.Path.{_≡_};
 ghost use Prim.Native.Nat.{_+_, _≤_};
 ghost use Rattle.chip.specs.Records.{ownPart};
 ghost use Rattle.frames.specs.Play.{frameBench};
-ghost use Rattle.sequence.specs.Sequence.{pollsOn, firstWait, pageWait};
+ghost use Rattle.sequence.specs.Sequence.{pollsOn, pageWait};
 ghost use Rattle.driver.specs.Told.{ToldFrom};
 ghost use Rattle.driver.specs.Answers.{LimitFits};
 use chip::Core;
@@ -29,7 +29,7 @@ impl Waited {
 
 // Polls while WIP is 1 and some are left, each after moving the clock. One that finds the cycle still running moves two
 // numbers; the one that ends it takes the record's own step.
-fn poll_on(
+pub(crate) fn poll_on(
     start: Core,
     memory: &mut [u8],
     identification: &mut [u8],
@@ -63,22 +63,6 @@ fn poll_on(
         core: core,
         frames: polls,
     }
-}
-
-// The first wait: its first poll is made without moving the clock.
-pub(crate) fn first_wait(
-    core: Core,
-    memory: &mut [u8],
-    identification: &mut [u8],
-    interval: u32,
-    limit: u32,
-) -> Waited
-    requires { ⌜ LimitFits (ownPart core) limit ⌝ }
-    ensures { λ r. ⌜ ToldFrom (ownPart core) (firstWait (ownPart core) interval limit)
-        (frameBench core (now (memory .entry)) (now (identification .entry))) r (now (memory .exit))
-        (now (identification .exit)) ⌝ }
-{
-    poll_on(core, memory, identification, interval, limit - 1).and_sent(1)
 }
 
 // The wait of a page: the clock is moved before its first poll too. That poll is made even where no cycle runs.

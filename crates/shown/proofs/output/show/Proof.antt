@@ -46,7 +46,8 @@ mul-pad c =
     omega (arith, fits w .1 .0, size-most (w .before .before .before .before .before .before .args .part))
 
 -- the bits past the count
-unused : (c : tie.After-pad-arg) → let a = c .before .before .before .before .before .before .before .before .before .before .before .before .before .args in (a .bits ≤ 8 * length (a .bytes .now)) × (8 * length (a .bytes .now) - a .bits < 8)
+unused : (c : tie.After-pad-arg) → let a = c .before .before .before .before .before .before .before .before .before .before .before .before .before .args in
+    (a .bits ≤ 8 * length (a .bytes .now)) × (8 * length (a .bytes .now) - a .bits < 8)
 unused c =
     let w = c .before .before .before .before .before .before .before in
     let a = w .before .before .before .before .before .before .args in
