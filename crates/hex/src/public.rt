@@ -96,6 +96,16 @@ fn take_text(running: bool, memory: &mut [u8], text: &[u8]) -> bool
     false
 }
 
+// A reply, and the record that goes back with it.
+fn imported_to(answer: HexReply, core: Core) -> Imported
+    ensures { λ r. ⌜ r ≡ importedTo answer core ⌝ }
+{
+    Imported {
+        answer: answer,
+        core: core,
+    }
+}
+
 // What is handed back over a memory that a text was or was not taken into: where it was, the blank cells are counted
 // afresh.
 fn imported(core: Core, taken: bool, memory: &[u8]) -> Imported
@@ -103,15 +113,9 @@ fn imported(core: Core, taken: bool, memory: &[u8]) -> Imported
         (pick taken (counted (ownPart core) (now (memory .entry)) core) core) ⌝ }
 {
     if taken {
-        return Imported {
-            answer: HexReply::Done,
-            core: core.counted(memory),
-        };
+        return imported_to(HexReply::Done, core.counted(memory));
     }
-    Imported {
-        answer: HexReply::NotTaken,
-        core: core,
-    }
+    imported_to(HexReply::NotTaken, core)
 }
 
 // The cells that a text names, a later record over an earlier one; the blank cells are then counted afresh. Refusals 1
@@ -128,20 +132,11 @@ pub fn import(core: Core, memory: &mut [u8], text: &[u8]) -> Imported
                 let taken = take_text(core.running(), memory, text);
                 return imported(core, taken, memory);
             }
-            return Imported {
-                answer: HexReply::NotTaken,
-                core: core,
-            };
+            return imported_to(HexReply::NotTaken, core);
         }
-        return Imported {
-            answer: HexReply::Refused(Refusal::RecordRange),
-            core: core,
-        };
+        return imported_to(HexReply::Refused(Refusal::RecordRange), core);
     }
-    Imported {
-        answer: HexReply::Refused(Refusal::MemoryLength),
-        core: core,
-    }
+    imported_to(HexReply::Refused(Refusal::MemoryLength), core)
 }
 
 // How many lines after the records the first bad line is: 2 where the first is the closing one and more follows it.

@@ -78,18 +78,27 @@ returns c =
       ),
     )
 
+imported-to-requires : tie.Need-imported-to-requires
+imported-to-requires c κs = search needs
+
 returns-2 : tie.Need-returns-2
 returns-2 c =
-    let c8 = c .before .before .before .before .before .before .before .before in
-    let a = c8 .args in
-    let no : takes m95512 (a .core) (a .text .now) ≡ false = and-no-left (imaged m95512 (a .core)) _ (sym (c .before .imaged .ensures) ∙ c .if3 .left) in
-    (search arms, (search arms, search arms))
+    let a = c .before .before .before .before .before .before .before .before .before .args in
+    let image = sym (c .before .before .imaged .ensures) ∙ c .before .if3 .left in
+    let no : takes m95512 (a .core) (a .text .now) ≡ false = and-no-left (imaged m95512 (a .core)) _ image in
+    rw (c .imported-to .ensures) (search arms, (search arms, search arms))
+
+imported-to-requires-2 : tie.Need-imported-to-requires-2
+imported-to-requires-2 c κs = search needs
 
 returns-3 : tie.Need-returns-3
-returns-3 c = (search arms, (search arms, search arms))
+returns-3 c = rw (c .imported-to2 .ensures) (search arms, (search arms, search arms))
+
+imported-to-requires-3 : tie.Need-imported-to-requires-3
+imported-to-requires-3 c κs = search needs
 
 returns-4 : tie.Need-returns-4
-returns-4 c = (search arms, (search arms, search arms))
+returns-4 c = rw (c .imported-to3 .ensures) (search arms, (search arms, search arms))
 
 pub import-spec : {M : Type 1} → statement M
 import-spec =
@@ -103,6 +112,9 @@ import-spec =
     imported-requires
     same-length
     returns
+    imported-to-requires
     returns-2
+    imported-to-requires-2
     returns-3
+    imported-to-requires-3
     returns-4)
