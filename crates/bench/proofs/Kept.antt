@@ -70,25 +70,15 @@ refusal-range CycleLength = (omega arith, omega arith)
 refusal-range AddressRange = (omega arith, omega arith)
 refusal-range PollRange = (omega arith, omega arith)
 
--- a refusal is told from what is done (0) and from the endings of a run (9 and 13)
+-- a refusal is told from what is done (0), and from the endings that are past every refusal
 not-done : (r : Refusal) → eqb (refusalNumber r) 0 ≡ false
 not-done r =
     let other : refusalNumber r ≡ 0 → ⊥ = λ e. omega (arith, refusal-range r .0) in
     ne-eqb _ _ other
 
-not-late : (r : Refusal) → eqb (refusalNumber r) 9 ≡ false
-not-late r =
-    let other : refusalNumber r ≡ 9 → ⊥ = λ e. omega (arith, refusal-range r .1) in
-    ne-eqb _ _ other
-
-not-touched : (r : Refusal) → eqb (refusalNumber r) 13 ≡ false
-not-touched r =
-    let other : refusalNumber r ≡ 13 → ⊥ = λ e. omega (arith, refusal-range r .1) in
-    ne-eqb _ _ other
-
-not-unimported : (r : Refusal) → eqb (refusalNumber r) 12 ≡ false
-not-unimported r =
-    let other : refusalNumber r ≡ 12 → ⊥ = λ e. omega (arith, refusal-range r .1) in
+not-past : (n : ℕ) (r : Refusal) → 9 ≤ n → eqb (refusalNumber r) n ≡ false
+not-past n r past =
+    let other : refusalNumber r ≡ n → ⊥ = λ e. omega (arith, refusal-range r .1) in
     ne-eqb _ _ other
 
 -- ---- each kind of answer, from its number and its values
@@ -176,7 +166,8 @@ pub run-kept : (x : driver-answer.RunReply) → runOf (driver.runReplyNumber x) 
 run-kept (driven.Done s) = at-yes _ _ refl
 run-kept (driven.TimedOut s) = at-no _ _ refl ∙ at-yes _ _ refl
 run-kept (driven.Protected s) = at-no _ _ refl ∙ at-no _ _ refl ∙ at-yes _ _ refl
-run-kept (driven.Refused r) = at-no _ _ (not-done r) ∙ at-no _ _ (not-late r) ∙ at-no _ _ (not-touched r) ∙ ap driven.Refused (refusal-kept r)
+run-kept (driven.Refused r) =
+    at-no _ _ (not-done r) ∙ at-no _ _ (not-past 9 r (omega arith)) ∙ at-no _ _ (not-past 13 r (omega arith)) ∙ ap driven.Refused (refusal-kept r)
 
 abbrev pub hexOf : ℕ → HexReply
 hexOf n = pick (eqb n 0) hex.Done (pick (eqb n 12) hex.NotTaken (hex.Refused (refusalOf n)))
@@ -184,4 +175,4 @@ hexOf n = pick (eqb n 0) hex.Done (pick (eqb n 12) hex.NotTaken (hex.Refused (re
 pub hex-kept : (x : HexReply) → hexOf (hexNumber x) ≡ x
 hex-kept hex.Done = at-yes _ _ refl
 hex-kept hex.NotTaken = at-no _ _ refl ∙ at-yes _ _ refl
-hex-kept (hex.Refused r) = at-no _ _ (not-done r) ∙ at-no _ _ (not-unimported r) ∙ ap hex.Refused (refusal-kept r)
+hex-kept (hex.Refused r) = at-no _ _ (not-done r) ∙ at-no _ _ (not-past 12 r (omega arith)) ∙ ap hex.Refused (refusal-kept r)
