@@ -14,54 +14,22 @@ ghost use Rattle.frames.specs.Play.{frameBench};
 ghost use Rattle.frames.specs.Answers.{frameOutcome};
 ghost use Rattle.frames.specs.declared.FrameReply.the-variants.{Shown};
 ghost use Rattle.timed_frames.specs.Schedules.{due};
-ghost use Rattle.timed_frames.specs.InTime.{isWrdi, isRdsr, leftBy, loadedAt, sightsIn};
+ghost use Rattle.timed_frames.specs.InTime.{leftBy, loadedAt, sightsIn};
 ghost use Rattle.timed_frames.specs.Walked.{Walked, statusesOver};
 use crate::Mode;
 use crate::walk::Walk;
 use chip::Core;
-use codes::Instruction;
+use codes::RDSR;
+use codes::WRDI;
 use codes::wrdi_in_cycle;
-use fields::instruction_of;
+use fields::byte_at;
 use frames::Framed;
-
-fn is_wrdi(i: Instruction) -> bool
-    ensures { λ r. ⌜ r ≡ isWrdi i ⌝ }
-{
-    match i {
-        Instruction::Wren => false,
-        Instruction::Wrdi => true,
-        Instruction::Rdsr => false,
-        Instruction::Wrsr => false,
-        Instruction::Read => false,
-        Instruction::Write => false,
-        Instruction::Rdid => false,
-        Instruction::Wrid => false,
-        Instruction::Silence => false,
-    }
-}
-
-fn is_rdsr(i: Instruction) -> bool
-    ensures { λ r. ⌜ r ≡ isRdsr i ⌝ }
-{
-    match i {
-        Instruction::Wren => false,
-        Instruction::Wrdi => false,
-        Instruction::Rdsr => true,
-        Instruction::Wrsr => false,
-        Instruction::Read => false,
-        Instruction::Write => false,
-        Instruction::Rdid => false,
-        Instruction::Wrid => false,
-        Instruction::Silence => false,
-    }
-}
 
 // What the frame leaves, where a cycle ran at its eighth edge, whatever W is.
 fn after_ran(core: Core, bytes: &[u8], bits: usize) -> Core
     ensures { λ r. ⌜ ((w : Bool) → r ≡ after (ownPart core) true w core (now (bytes .entry)) bits) ⌝ }
 {
-    let i = instruction_of(core.part, bytes);
-    if wrdi_in_cycle(core.part) & is_wrdi(i) & (bits == 8) {
+    if wrdi_in_cycle(core.part) & (byte_at(bytes, 0) == WRDI) & (bits == 8) {
         return core.with_wel(0);
     }
     core
@@ -158,7 +126,7 @@ pub(crate) fn ran_frame(
 {
     let shown = frames::frame(core, memory, identification, w, bytes, bits, out);
     let answer = shown.answer;
-    if is_rdsr(instruction_of(core.part, bytes)) {
+    if byte_at(bytes, 0) == RDSR {
         let polled = show_statuses(
             core,
             mode,

@@ -198,7 +198,9 @@ returns-4 c =
     gone (c16 .before .before) .carried (f .0) (f .1 .0) (f .1 .1)
 
 add-to : tie.Need-add-to
-add-to c = omega (arith, c .before .before .before .before .before .before .before .before .before .before .before .before .before .before .before .before .before .before .before .before .good)
+add-to c =
+    let w = c .before .before .before .before .before .before in
+    omega (arith, w .before .before .before .before .before .before .before .before .before .before .before .before .before .before .good)
 
 to-requires-2 : tie.Need-to-requires-2
 to-requires-2 c κs =

@@ -3,7 +3,10 @@ use Prim.Native.Nat.{ℕ, suc, _+_, _/_, _≤_}
 use mathlib.Core.Bool.{Bool, true}
 use mathlib.Core.Path.{_≡_, refl, ap, sym, _∙_}
 use native.Mathlib.Omega.{arith}
-use lib.ListN.{length, take, drop}
+use lib.ListN.{length, getD, take, drop}
+use mathlib.Core.List.{List}
+use borrow.Author.Tests.{eq-eqb, ne-eqb}
+use Rattle.codes.specs.Instructions.{rdsrCode}
 use Rattle.laws.specs.Table.{table-length}
 use Rattle.codes.specs.Part.{Part}
 use Rattle.codes.proofs.Parts.{size-most}
@@ -20,6 +23,7 @@ use Rattle.timed_frames.specs.InTime.{isRdsr, lastOf, sightsIn}
 use Rattle.timed_frames.specs.Walked.{statusesOver}
 use Rattle.timed_frames.proofs.Walks.{bench-part, due-most}
 use Rattle.timed_frames.proofs.Calm.{is-rdsr, polled-some}
+use Rattle.timed_frames.proofs.Coded.{rdsr-code}
 use Rattle.timed_frames.proofs.Opened.{plain-answer, plain-output, plain-length, walked-last, ran-leaves, shown-other, shown-polled}
 use borrow.Author.Needs.{needs}
 use Rattle.timed_frames.proofs.polled.ran_frame.Statement.{statement}
@@ -27,6 +31,10 @@ use Rattle.timed_frames.proofs.polled.ran_frame.Tie as tie
 
 frame-requires : tie.Need-frame-requires
 frame-requires c κs = search needs
+
+-- the code is RDSR's
+polls : (P : Part) (s : List ℕ) {k : ℕ} → k ≡ getD s 0 0 → k ≡ rdsrCode → isRdsr (instruction P s) ≡ true
+polls P s e h = rdsr-code P (getD s 0 0) ∙ eq-eqb _ _ (sym e ∙ h)
 
 -- the answer is the plain call's, and so is the output but for a status that changes
 plain : (w : tie.After-frame) → let a = w .before .before .before .before .before .before .before .before .before .before .args in
@@ -50,42 +58,38 @@ plain w =
       ap length (f .1 .1 .1) ∙ plain-length P (a .core) m i s (a .bits) (length (a .out .now)) (p .0) (a .out .now) refl,
     )
 
-instruction-of-requires : tie.Need-instruction-of-requires
-instruction-of-requires c κs = search needs
-
-is-rdsr-requires : tie.Need-is-rdsr-requires
-is-rdsr-requires c κs = search needs
+byte-at-requires : tie.Need-byte-at-requires
+byte-at-requires c κs = search needs
 
 show-statuses-requires : tie.Need-show-statuses-requires
 show-statuses-requires c κs =
-    let c8 = c .before .before .before .before .before .before .before .before in
-    let c16 = c8 .before .before .before .before .before .before .before .before in
-    let a = c16 .before .before .args in
-    let p = c16 .before .before .pre in
+    let w = c .before .before .before .before .before .before .before in
+    let a = w .before .before .before .before .before .before .before .before .before .before .args in
+    let p = w .before .before .before .before .before .before .before .before .before .before .pre in
     let P = ownPart (a .core) in
     let t = taken P (a .core) (length (a .memory .now)) (length (a .identification .now)) (length (a .bytes .now)) (a .bits) (length (a .out .now)) refl
     (p .0) in
     let few = few-unused (length (a .bytes .now)) (a .bits) (t .counted) in
-    let rdsr = is-rdsr P (instruction P (a .bytes .now)) (sym (c .before .before .before .before .is-rdsr .ensures
-    ∙ ap isRdsr (c .before .before .before .before .before .instruction-of .ensures)) ∙ c .before .before .before .if1 .taken) in
+    let rdsr = is-rdsr P (instruction P (a .bytes .now)) (polls P (a .bytes .now) (c .before .before .before .before .byte-at .ensures)
+    (c .before .before .before .if1 .taken)) in
     let some = polled-some P (a .bytes .now) rdsr in
-    (p .1 .0 .0, rw (plain c8 .2, t .roomy) (few .0, few .1, some, omega (arith, t .short, size-most (a .core .part))))
+    (p .1 .0 .0, rw (plain w .2, t .roomy) (few .0, few .1, some, omega (arith, t .short, size-most (a .core .part))))
 
 add-to : tie.Need-add-to
 add-to c =
     let c8 = c .before .before .before .before .before .before .before .before in
     let c16 = c8 .before .before .before .before .before .before .before .before in
     let c24 = c16 .before .before .before .before .before .before .before .before in
-    omega (arith, c24 .before .good)
+    omega (arith, c24 .good)
 
 to-requires : tie.Need-to-requires
 to-requires c κs =
     let c8 = c .before .before .before .before .before .before .before .before in
     let c16 = c8 .before .before .before .before .before .before .before .before in
     let c24 = c16 .before .before .before .before .before .before .before .before in
-    let a = c24 .before .before .before .args in
+    let a = c24 .before .before .args in
     let w = c8 .show-statuses .ensures .0 in
-    (c24 .before .before .before .pre .1 .0 .0, omega (arith, w .came, due-most (w .place) (a .positions .now)))
+    (c24 .before .before .pre .1 .0 .0, omega (arith, w .came, due-most (w .place) (a .positions .now)))
 
 after-ran-requires : tie.Need-after-ran-requires
 after-ran-requires c κs = search needs
@@ -101,7 +105,7 @@ same-length-3 c =
     let c8 = c .before .before .before .before .before .before .before .before in
     let c16 = c8 .before .before .before .before .before .before .before .before in
     ap length (c8 .before .before .before .before .before .before .show-statuses .ensures .1) ∙ table-length _ _
-    ∙ plain (c16 .before .before .before .before .before .before .before) .2
+    ∙ plain (c16 .before .before .before .before .before .before) .2
 
 returns : tie.Need-returns
 returns c =
@@ -109,20 +113,19 @@ returns c =
     let c16 = c8 .before .before .before .before .before .before .before .before in
     let c24 = c16 .before .before .before .before .before .before .before .before in
     let c32 = c24 .before .before .before .before .before .before .before .before in
-    let a = c32 .before .args in
-    let p = c32 .before .pre in
+    let a = c32 .args in
+    let p = c32 .pre in
     let P = ownPart (a .core) in
     let ps = a .positions .now in
     let ts = a .readings .now in
     let s = a .bytes .now in
     let n = a .bits in
     let b = frameBench (a .core) (a .memory .now) (a .identification .now) in
-    let given = plain (c16 .before .before .before .before .before .before .before) in
+    let given = plain (c16 .before .before .before .before .before .before) in
     let sh = c8 .before .before .before .before .before .before .show-statuses in
     let to = c .before .before .before .before .before .to in
     let t = taken P (a .core) (length (a .memory .now)) (length (a .identification .now)) (length s) n (length (a .out .now)) refl (p .0) in
-    let rdsr = is-rdsr P (instruction P s) (sym (c16 .before .before .before .is-rdsr .ensures
-    ∙ ap isRdsr (c16 .before .before .before .before .instruction-of .ensures)) ∙ c16 .before .before .if1 .taken) in
+    let rdsr = is-rdsr P (instruction P s) (polls P s (c16 .before .before .before .byte-at .ensures) (c16 .before .before .if1 .taken)) in
     let v = sights (status (a .core)) (lockByte (a .core)) (a .memory .now) (a .identification .now) in
     let w = sh .ensures .0 in
     let few = few-unused (length s) n (t .counted) in
@@ -165,14 +168,14 @@ returns-2 : tie.Need-returns-2
 returns-2 c =
     let c8 = c .before .before .before .before .before .before .before .before in
     let c16 = c8 .before .before .before .before .before .before .before .before in
-    let a = c16 .before .before .before .before .before .before .before .args in
-    let none = c16 .before .before .before .before .before .before .before .pre .1 .0 .1 in
-    let ran = c16 .before .before .before .before .before .before .before .pre .1 .1 in
+    let a = c16 .before .before .before .before .before .before .args in
+    let none = c16 .before .before .before .before .before .before .pre .1 .0 .1 in
+    let ran = c16 .before .before .before .before .before .before .pre .1 .1 in
     let P = ownPart (a .core) in
     let b = frameBench (a .core) (a .memory .now) (a .identification .now) in
-    let given = plain (c8 .before .before .before .before .before) in
+    let given = plain (c8 .before .before .before .before) in
     let to = c .before .before .before .before .before .to2 in
-    let other = sym (c8 .before .is-rdsr .ensures ∙ ap isRdsr (c8 .before .before .instruction-of .ensures)) ∙ c8 .if1 .left in
+    let other = rdsr-code P (getD (a .bytes .now) 0 0) ∙ ne-eqb _ _ (λ q. c8 .if1 .left (c8 .before .byte-at .ensures ∙ q)) in
     let next : a .bits / 8 + 1 ≡ suc (a .bits / 8) = omega arith in
     let last : frameBench (to .result .core) (to .last .1 .1 .1 .1 .0) (to .last .1 .1 .1 .1 .1 .0)
     ≡ lastOf P (a .positions .now) (a .readings .now) b (a .bits) =
@@ -191,8 +194,7 @@ ran-frame-spec =
     tie.close
     (tie.spec
     frame-requires
-    instruction-of-requires
-    is-rdsr-requires
+    byte-at-requires
     show-statuses-requires
     add-to
     to-requires
