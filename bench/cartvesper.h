@@ -8,8 +8,8 @@
  * their page and the page's lock with 83h. With 82h they write the page or set the lock.
  *
  * The record keeps the number of blank cells, those of the memory that are FFh. Power-up and HEX import count them, and
- * the end of a page's cycle adds the cells gained and takes off those lost. So the number stays right as long as a
- * memory is changed by calls alone, each with the record that the last one gave.
+ * the end of a page's cycle, by time or by a supply cut, adds the cells gained and takes off those lost. So the number
+ * stays right as long as a memory is changed by calls alone, each with the record that the last one gave.
  *
  * Every call answers every input. A caller must guarantee only that a pointer and the length beside it name bytes that
  * are there (a null pointer with length 0 is an empty slice), and that what is lent to be written overlaps nothing else
@@ -208,6 +208,13 @@ typedef struct {
     cartvesper_core core;
 } cartvesper_device;
 
+/* Which of what waits had been taken when the supply fell: mark i, bit i % 64 of word i / 64, says it for cell i of the
+ * page that waits, for bit i of a waiting status value (7, 3 and 2 count), and mark 0 for a waiting lock. Any words are
+ * a choice: the mark of a cell or a bit that does not wait is not looked at. */
+typedef struct {
+    uint64_t words[CARTVESPER_LARGEST_PAGE / 64];
+} cartvesper_choice;
+
 /* The layout that the archive goes by. */
 CARTVESPER_ASSERT(sizeof(cartvesper_latch) == 288 && offsetof(cartvesper_latch, marks) == 256);
 CARTVESPER_ASSERT(sizeof(cartvesper_waiting) == 296 && offsetof(cartvesper_waiting, latch) == 8);
@@ -221,6 +228,7 @@ CARTVESPER_ASSERT(sizeof(cartvesper_frame_part) == 304 && offsetof(cartvesper_fr
 CARTVESPER_ASSERT(offsetof(cartvesper_frame_part, address) == 8);
 CARTVESPER_ASSERT(sizeof(cartvesper_device) == 632 && offsetof(cartvesper_device, frame) == 8);
 CARTVESPER_ASSERT(offsetof(cartvesper_device, core) == 312);
+CARTVESPER_ASSERT(sizeof(cartvesper_choice) == 32);
 
 typedef struct {
     uint32_t number;
@@ -278,6 +286,16 @@ cartvesper_core_answer cartvesper_power_up(uint8_t part, uint8_t lock, uint32_t 
  * page's cells do not count. */
 cartvesper_core_answer cartvesper_clock_reading(cartvesper_core core, uint32_t reading, uint8_t *memory, size_t size,
                                                 uint8_t *identification, size_t cells);
+/* A supply cut and return. Where a cycle runs, the choice says what of it had been taken:
+ *   a page: the marked cells that are chosen have their new bytes, all other cells stay. The number of blank cells
+ *   moves as at a cycle's end, by the cells that have their new bytes
+ *   the identification page: the same, but that the number of blank cells stays
+ *   a status value: SRWD, BP1 and BP0 are each the new one where bit 7, 3 or 2 is chosen, else the old one
+ *   the lock: set where mark 0 is chosen, else as it was
+ * Then, in a cycle or not, it is power-up with what survives: WEL 0, no time left, nothing waits. Part, lock, SRWD,
+ * BP1, BP0, cycle length and last reading are kept. */
+cartvesper_core_answer cartvesper_cut(cartvesper_core core, cartvesper_choice choice, uint8_t *memory, size_t size,
+                                      uint8_t *identification, size_t cells);
 /* A whole frame of `bits` bits, with W at level w; out has the slice's length and gets Q as it stands just before each
  * counted clock, undriven bits and bits past the count as 1. */
 cartvesper_frame_answer cartvesper_frame(cartvesper_core core, const uint8_t *memory, size_t size,
@@ -331,6 +349,10 @@ cartvesper_device_answer cartvesper_device_set_hold(cartvesper_device device, ui
  * the frame model. */
 cartvesper_device_answer cartvesper_device_read_clock(cartvesper_device device, uint32_t reading, uint8_t *memory,
                                                       size_t size, uint8_t *identification, size_t cells);
+/* A supply cut and return, selected or not, as in the frame model; after it the pins are at rest, as at power-up. A cut
+ * inside a frame drops the frame, whatever it is. */
+cartvesper_device_answer cartvesper_device_cut(cartvesper_device device, cartvesper_choice choice, uint8_t *memory,
+                                               size_t size, uint8_t *identification, size_t cells);
 /* Q: value 0, 1, or CARTVESPER_Z */
 cartvesper_value cartvesper_device_q(cartvesper_device device);
 /* the status byte */
@@ -375,7 +397,8 @@ cartvesper_latch_answer cartvesper_lay(cartvesper_latch earlier, cartvesper_latc
  *     the last of them, WEL as it is there, and no cell has changed but by a cycle that was already running
  * The identification page changes only by a cycle that was already running: the first wait may end it. A poll that ends
  * a page's cycle moves the number of blank cells as a clock reading does. The same run sent twice, both with 0, leaves
- * the memory that the first left. */
+ * the memory that the first left. A run that starts with no cycle running and would end with 0, but is cut between or
+ * inside its frames, and is then sent again with 0, leaves the memory that it would have left uncut. */
 cartvesper_driver_answer cartvesper_write(cartvesper_core core, uint8_t *memory, size_t size, uint8_t *identification,
                                           size_t cells, uint64_t address, const uint8_t *bytes, size_t length,
                                           uint32_t interval, uint32_t limit);

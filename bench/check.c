@@ -21,6 +21,7 @@ static uint8_t part; /* of the devices at work */
 static uint8_t *areas[ROLES];
 static uint64_t state, seen, calls;
 static uint64_t timed, ended; /* timed frames done, cycles that ended inside one */
+static uint64_t cuts, cut;    /* cuts done, those in a cycle */
 
 static uint32_t random32(void)
 {
@@ -233,6 +234,22 @@ static void check_reading(slices lent)
     device = cartvesper_device_set_c(device, (uint8_t)below(2), LENT(lent)).device;
 }
 
+/* none, all, or any words, where they just fit */
+static void check_cut(slices lent)
+{
+    cartvesper_choice *choice = lend(1, 1, sizeof *choice);
+    uint32_t kind = below(4);
+    for (size_t k = 0; k < WORDS; k++)
+        choice->words[k] = kind == 0 ? 0 : kind == 1 ? UINT64_MAX : (uint64_t)random32() << 32 | random32();
+    cartvesper_core_answer one = cartvesper_cut(core, *choice, LENT(lent));
+    cartvesper_device_answer other = cartvesper_device_cut(device, *choice, LENT(lent));
+    cuts += (one.number == 0) + (other.number == 0);
+    cut += (one.number == 0 && core.left > 0) + (other.number == 0 && device.core.left > 0);
+    core = one.core;
+    device = other.device;
+    give_back(choice);
+}
+
 /* a frame of whole bytes drawn in mode 0, from a deselect on: 5 events, and 3 for each bit */
 static void draw(uint64_t *events, size_t length)
 {
@@ -397,6 +414,10 @@ static void check_call(void)
             begin_cycle(&device.core);
         check_frame(lent);
         check_timed(lent);
+        if (below(4) == 0) { /* seldom, as it leaves no cycle and no frame */
+            check_cut(lent);
+            calls += 2;
+        }
         check_reading(lent);
         check_play(lent);
         check_write(lent);
@@ -444,7 +465,8 @@ int main(int argc, char **argv)
         check_call();
     }
     printf("check %s: nothing beside the lent bytes was touched in %llu calls; of %llu timed frames %llu saw a cycle "
-           "end\n",
-           argv[1], (unsigned long long)calls, (unsigned long long)timed, (unsigned long long)ended);
+           "end, of %llu cuts %llu fell in one\n",
+           argv[1], (unsigned long long)calls, (unsigned long long)timed, (unsigned long long)ended,
+           (unsigned long long)cuts, (unsigned long long)cut);
     return 0;
 }

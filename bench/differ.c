@@ -54,6 +54,25 @@ static void random_bytes(void *to, size_t length)
         bytes[i] = (uint8_t)random32();
 }
 
+/* none, all, one, all but one, a few, or any */
+static uint64_t random_word(void)
+{
+    switch (below(6)) {
+    case 0:
+        return 0;
+    case 1:
+        return UINT64_MAX;
+    case 2:
+        return 1ULL << below(WORD);
+    case 3:
+        return ~(1ULL << below(WORD));
+    case 4:
+        return next64() & next64() & next64() & next64();
+    default:
+        return next64();
+    }
+}
+
 /* some of the bytes become FFh, so that cells are blank, and are written blank */
 static void sprinkle_blank(void *to, size_t length)
 {
@@ -108,13 +127,18 @@ static struct {
     uint64_t page_shown, lock_shown, unshown; /* their 83h past the address; those that drove nothing */
     uint64_t unknown, fields_swept;           /* 82h and 83h of the M95512; frames in hand made field by field */
     uint64_t disabled, stayed, unlatched;     /* WRDI in a cycle: WEL became 0, stayed; readings in a cycle at WEL 0 */
-    uint64_t gained, lost, rewritten;         /* marked cells at a page cycle's end: became FFh, were FFh, stayed FFh */
-    uint64_t at_zero, at_size;                /* page cycles' ends whose sum was held at 0, at the memory's size */
+    uint64_t gained, lost, rewritten;         /* cells that a page's cycle stored: became FFh, were FFh, stayed FFh */
+    uint64_t at_zero, at_size;                /* page cycles' ends and cuts: sums held at 0, at the memory's size */
     uint64_t scanned, twins;                  /* numbers of blank cells seen to be right; calls with two numbers */
     uint64_t timed, inside, wraps, unfit;     /* timed frames; their readings, wraps between them; lists that got 4 */
     uint64_t ended_at[3];                     /* cycles that ended inside one: at position 0, between, at the last */
     uint64_t seen;                            /* RDSR frames that showed WIP 1, and at their end 0 */
     uint64_t timed_drawn[2], drawn_ends[2];   /* drawn at the pins, in mode 0 and 3; in which a cycle ended */
+    uint64_t cuts, at_pins, dropped;          /* supply cuts done; those at the pins, those inside a frame */
+    uint64_t cut_in[5];                       /* by what waited: nothing, a status value, a page, and so on */
+    uint64_t taken, untaken;                  /* marked cells at a cut: have their new bytes, stayed */
+    uint64_t cut_laws, cut_models;            /* laws of a cut; cuts of both models compared */
+    uint64_t cut_runs, in_run, in_frame;      /* runs cut and sent again; in a page's cycle, inside a frame */
     uint64_t of_part[PLAIN_PARTS];            /* frames ended, by the part: those of the frame model and at the pins */
     uint64_t numbers[14];                     /* answers by their number */
 } counts;
@@ -184,9 +208,11 @@ typedef struct {
     char call[256];
     int has_core, has_device; /* the record given, one of the two or none */
     int has_latches;          /* or two page writes */
+    int has_choice;           /* a cut's */
     cartvesper_core core;
     cartvesper_device device;
     cartvesper_latch earlier, later;
+    cartvesper_choice choice;
     const uint8_t *bytes;
     size_t length;
     const uint64_t *events;
@@ -217,6 +243,7 @@ static void begin_call(const cartvesper_core *core, const cartvesper_device *dev
     if (device)
         hand.device = *device;
     hand.has_latches = 0;
+    hand.has_choice = 0;
     hand.bytes = NULL;
     hand.events = NULL;
     hand.timed = 0;
@@ -237,6 +264,14 @@ static void print_schedule(void)
     printf("\n");
 }
 
+static void print_choice(void)
+{
+    printf("  choice:");
+    for (int k = 0; k < WORDS; k++)
+        printf(" %016" PRIX64, hand.choice.words[k]);
+    printf("\n");
+}
+
 static void print_hand(const char *what)
 {
     printf("DIFFERENCE: %s\n  seed %" PRIu64 ", round %" PRIu64 ", call %" PRIu64 "\n  call: %s\n", what, seed,
@@ -247,6 +282,8 @@ static void print_hand(const char *what)
         printf("  record given:\n"), print_device(&hand.device);
     if (hand.has_latches)
         printf("  earlier:\n"), print_latch(&hand.earlier), printf("  later:\n"), print_latch(&hand.later);
+    if (hand.has_choice)
+        print_choice();
     if (hand.bytes)
         printf("  bytes:\n      "), print_bytes(hand.bytes, hand.length);
     if (hand.timed)
@@ -674,6 +711,118 @@ static uint32_t try_reading(cartvesper_core *core, uint32_t reading, lengths len
     }
     *core = lib.core;
     try_core_touched(core);
+    return lib.number;
+}
+
+/* what waits with the chosen part of it alone: fewer marks, or a status value that keeps the old bits */
+static cartvesper_waiting chosen_part(const cartvesper_core *core, const cartvesper_choice *choice)
+{
+    cartvesper_waiting part = core->waits;
+    uint8_t bits = choice->words[0] & 0x8C;
+    if (part.kind == 1)
+        part.status = (uint8_t)((part.status & bits) | (plain_status(core) & 0x8C & ~bits));
+    for (int k = 0; k < WORDS; k++)
+        part.latch.marks[k] &= choice->words[k];
+    for (size_t i = 0; i < CELLS; i++)
+        part.latch.bytes[i] = cartvesper_marked(&part.latch, i) ? part.latch.bytes[i] : 0;
+    return part;
+}
+
+static void count_cut(const cartvesper_core *before, const cartvesper_choice *choice)
+{
+    counts.cuts++;
+    counts.cut_in[before->waits.kind]++;
+    for (size_t i = 0; i < CELLS; i++) {
+        int marked = cartvesper_marked(&before->waits.latch, i), chosen = choice->words[i / WORD] >> i % WORD & 1;
+        counts.taken += marked && chosen;
+        counts.untaken += marked && !chosen;
+    }
+}
+
+/* a cut: of what waited the chosen part is stored, and all else of the page is as it was; no cycle runs and WEL is 0 */
+static void check_cut(const cartvesper_core *before, const cartvesper_core *after, const cartvesper_choice *choice,
+                      const uint8_t *old_page)
+{
+    const size_t cells = whole(before->part).cells;
+    uint8_t page[CELLS];
+    cartvesper_core narrow = *before, wanted = *before;
+    narrow.waits = chosen_part(before, choice);
+    for (size_t i = 0; i < cells; i++)
+        page[i] = cartvesper_marked(&narrow.waits.latch, i) ? narrow.waits.latch.bytes[i] : old_page[i];
+    compare_bytes("the page after a cut (second: wanted)", waiting_cells(before), page, cells, 0);
+    wanted.wel = 0;
+    wanted.left = 0;
+    memset(&wanted.waits, 0, sizeof wanted.waits);
+    if (before->waits.kind == 1) {
+        wanted.srwd = narrow.waits.status >> 7 & 1;
+        wanted.bp1 = narrow.waits.status >> 3 & 1;
+        wanted.bp0 = narrow.waits.status >> 2 & 1;
+    }
+    if (before->waits.kind == 2)
+        wanted.blank = blank_after(&narrow, old_page);
+    if (before->waits.kind == 4 && (choice->words[0] & 1))
+        wanted.lock = 1;
+    compare_cores("the record after a cut (second: wanted)", after, &wanted);
+    count_cut(before, choice);
+}
+
+static void begin_cut(const cartvesper_core *core, const cartvesper_device *device, cartvesper_choice choice,
+                      lengths lent)
+{
+    begin_call(core, device, "%s, memory %zu, page %zu", device ? "device_cut" : "cut", lent.size, lent.cells);
+    hand.has_choice = 1;
+    hand.choice = choice;
+}
+
+static uint32_t try_cut(cartvesper_core *core, cartvesper_choice choice, lengths lent)
+{
+    uint8_t page[CELLS];
+    cartvesper_core given = *core;
+    begin_cut(&given, NULL, choice, lent);
+    keep_page(page, &given);
+    cartvesper_core_answer lib = cartvesper_cut(given, choice, LENT(lib_memory, lent));
+    cartvesper_core_answer plain = plain_cut_call(given, choice, LENT(plain_memory, lent));
+    compare_numbers("the number", lib.number, plain.number);
+    compare_cores("the record", &lib.core, &plain.core);
+    compare_memory();
+    check_core(lib.number, &given, &lib.core);
+    if (lib.number == 0)
+        check_cut(&given, &lib.core, &choice, page);
+    *core = lib.core;
+    try_core_touched(core);
+    return lib.number;
+}
+
+/* as at power-up: S, W and HOLD high, C and D low, no frame in hand */
+static void check_rest(const cartvesper_device *device)
+{
+    cartvesper_device rest;
+    memset(&rest, 0, sizeof rest);
+    rest.pins.s = rest.pins.w = rest.pins.hold = 1;
+    rest.core = device->core;
+    compare_devices("pins and frame after a cut (second: wanted)", device, &rest);
+}
+
+static uint32_t try_device_cut(cartvesper_device *device, cartvesper_choice choice, lengths lent)
+{
+    uint8_t page[CELLS];
+    cartvesper_device given = *device;
+    begin_cut(NULL, &given, choice, lent);
+    keep_page(page, &given.core);
+    cartvesper_device_answer lib = cartvesper_device_cut(given, choice, LENT(lib_memory, lent));
+    cartvesper_device_answer plain = plain_device_cut_call(given, choice, LENT(plain_memory, lent));
+    compare_numbers("the number", lib.number, plain.number);
+    compare_devices("the record", &lib.device, &plain.device);
+    compare_memory();
+    check_device(lib.number, &given, &lib.device);
+    if (lib.number == 0) {
+        check_cut(&given.core, &lib.device.core, &choice, page);
+        check_rest(&lib.device);
+        counts.at_pins++;
+        counts.dropped += given.frame.taken > 0 || given.frame.bits > 0;
+    }
+    *device = lib.device;
+    try_device_touched(device);
     return lib.number;
 }
 
@@ -1105,6 +1254,16 @@ static lengths random_lengths(uint8_t part, uint32_t damage)
     return lent;
 }
 
+/* of a cut: none, all, or each word by itself */
+static cartvesper_choice random_choice(void)
+{
+    cartvesper_choice choice;
+    uint32_t kind = below(5);
+    for (int k = 0; k < WORDS; k++)
+        choice.words[k] = kind == 0 ? 0 : kind == 1 ? UINT64_MAX : kind == 2 ? random_word() : next64();
+    return choice;
+}
+
 /* a part and a lock, now and then outside their ranges */
 static which random_which(uint32_t damage)
 {
@@ -1235,6 +1394,12 @@ static void frame_step(cartvesper_core *core)
     try_frame(core, random_lengths(core->part, 2), w, length, percent(1) ? random32() : count, off_by_one(length, 2));
 }
 
+/* a cut between frames: what follows starts from power-up */
+static void cut_step(cartvesper_core *core)
+{
+    try_cut(core, random_choice(), random_lengths(core->part, 10));
+}
+
 /* ---- timed frames */
 
 /* for a frame of so many bits: positions that rise or stay, and readings that aim at the cycle's end as it stands after
@@ -1356,6 +1521,8 @@ static void frame_session(int steps)
             frame_step(&core);
         else
             try_reading(&core, random_reading(&core), random_lengths(core.part, 2));
+        if (percent(5))
+            cut_step(&core);
         if (percent(10))
             try_core_queries(&core, random_question(core.part));
         if (percent(5))
@@ -1749,25 +1916,6 @@ static void run_script(cartvesper_device *device)
 
 /* ---- records inside the ranges, also those that no events reach, field by field */
 
-/* none, all, one, all but one, a few, or any */
-static uint64_t random_word(void)
-{
-    switch (below(6)) {
-    case 0:
-        return 0;
-    case 1:
-        return UINT64_MAX;
-    case 2:
-        return 1ULL << below(WORD);
-    case 3:
-        return ~(1ULL << below(WORD));
-    case 4:
-        return next64() & next64() & next64() & next64();
-    default:
-        return next64();
-    }
-}
-
 /* bytes for the cells that are marked, 0 for the others */
 static void fill_marked(cartvesper_latch *latch)
 {
@@ -1928,6 +2076,12 @@ static void begin_idle_cycle(cartvesper_device *device)
         begin_cycle(&device->core);
 }
 
+/* a cut, in a frame or not: what follows starts from pins at rest */
+static void device_cut_step(cartvesper_device *device)
+{
+    try_device_cut(device, random_choice(), random_lengths(device->core.part, 10));
+}
+
 static void pin_session(int scripts)
 {
     cartvesper_device device;
@@ -1944,8 +2098,14 @@ static void pin_session(int scripts)
         if (percent(30))
             device.core.lock = (uint8_t)percent(30);
         new_script(&device);
+        if (percent(50)) /* ends anywhere, so that a cut falls inside a frame */
+            script_count = below((uint32_t)script_count + 1);
         run_script(&device);
         check_right(&device.core);
+        if (percent(50)) {
+            device_cut_step(&device);
+            check_right(&device.core);
+        }
     }
 }
 
@@ -1961,7 +2121,9 @@ static void step_unreached(void)
         int kind = (int)(percent(25) ? SET_S : percent(40) ? SET_C : below(6));
         const cartvesper_pins *pins = &device.pins;
         const uint8_t levels[] = {pins->s, pins->c, pins->d, pins->w, pins->hold};
-        if (kind == CLOCK)
+        if (percent(10))
+            device_cut_step(&device);
+        else if (kind == CLOCK)
             whole_event(&device, kind, random_reading(&device.core));
         else
             whole_event(&device, kind, percent(90) ? !levels[kind] : levels[kind]);
@@ -1969,7 +2131,7 @@ static void step_unreached(void)
     } while (percent(60));
 }
 
-/* the same for the frame model: one frame and one reading */
+/* the same for the frame model: one frame, now and then a cut, and one reading */
 static void step_unreached_core(void)
 {
     cartvesper_core core = random_core();
@@ -1979,6 +2141,8 @@ static void step_unreached_core(void)
         fail("a record built inside the ranges is refused");
     counts.unreached++;
     try_frame(&core, whole(core.part), percent(50), length, bits, length);
+    if (percent(30))
+        cut_step(&core);
     whole_reading(&core, random_reading(&core));
     try_core_queries(&core, random_question(core.part));
 }
@@ -2016,6 +2180,8 @@ static void driver_session(int runs)
             whole_reading(&core, random_reading(&core));
         if (percent(15))
             begin_status_cycle(&core);
+        if (percent(10))
+            cut_step(&core);
         random_write(&core, 2);
         if (percent(10))
             check_right(&core);
@@ -2167,6 +2333,8 @@ static void try_core_calls(const cartvesper_core *core)
     try_timed(&copy, random_lengths(core->part, 20), (uint8_t)(percent(10) ? random32() : below(2)),
               (uint8_t)(percent(10) ? random32() : 3 * below(2)), length, off_by_one(bits, 20), off_by_one(length, 20));
     copy = *core;
+    try_cut(&copy, random_choice(), random_lengths(core->part, 20));
+    copy = *core;
     try_reading(&copy, random_reading(core), random_lengths(core->part, 20));
     copy = *core;
     random_write(&copy, 20);
@@ -2183,6 +2351,8 @@ static void try_device_calls(const cartvesper_device *device)
         uint32_t level = percent(15) ? random32() : (uint32_t)percent(50);
         try_event(&copy, kind, kind == CLOCK ? random_reading(&device->core) : level, random_lengths(part, 15));
     }
+    copy = *device;
+    try_device_cut(&copy, random_choice(), random_lengths(part, 15));
     uint64_t events[4];
     for (int i = 0; i < 4; i++)
         events[i] = percent(10) ? next64() : cartvesper_event(below(CLOCK + 1), below(2));
@@ -2291,6 +2461,10 @@ static void sweep_parts(void)
             cartvesper_device device;
             plain_device_power_up(&device, 0, 0, 1, 0, 0, 0, 0, 0);
             device.core = core;
+            cartvesper_core cut = core;
+            cartvesper_device device_cut = device;
+            try_cut(&cut, random_choice(), random_lengths(core.part, 5));
+            try_device_cut(&device_cut, random_choice(), random_lengths(core.part, 5));
             try_core_queries(&core, random_question(core.part));
             try_reading(&core, core.last + core.left, random_lengths(core.part, 5));
             try_device_queries(&device);
@@ -2341,7 +2515,10 @@ static void sweep_fields(int some)
         cartvesper_device device = device_of(part, codes[place / PLAIN_PARTS / TAKEN], taken, one % BESIDE);
         begin_call(NULL, &device, "device_in_ranges");
         compare_values(cartvesper_device_in_ranges(device), plain_device_in_ranges_call(device));
-        whole_event(&device, percent(50) ? SET_S : SET_C, percent(50) ? 1 : !device.pins.c);
+        if (percent(5))
+            try_device_cut(&device, random_choice(), whole(part));
+        else
+            whole_event(&device, percent(50) ? SET_S : SET_C, percent(50) ? 1 : !device.pins.c);
         counts.fields_swept++;
     }
 }
@@ -2794,6 +2971,298 @@ static void twice_session(int count)
         try_twice();
 }
 
+/* ---- supply cuts: 02, Item 8 */
+
+/* inside the ranges, most in a cycle; the number of blank cells is right */
+static cartvesper_core core_to_cut(void)
+{
+    cartvesper_core core = random_core();
+    if (core.left == 0 && percent(80))
+        begin_cycle(&core);
+    core.blank = plain_blank(lib_memory.bytes, whole(core.part).size);
+    return core;
+}
+
+/* the marks of a choice that are looked at, in word k of it */
+static uint64_t looked_at(const cartvesper_waiting *waits, int k)
+{
+    if (waits->kind == 1 || waits->kind == 4)
+        return k > 0 ? 0 : waits->kind == 1 ? 0x8C : 1;
+    return waits->latch.marks[k];
+}
+
+static void cut_law(const char *what, const cartvesper_core *first, const cartvesper_core *second)
+{
+    compare_cores(what, first, second);
+    compare_kept(what);
+    counts.cut_laws++;
+}
+
+/* `core` with start_memory, cut, is `cut` with singles_memory: what else leaves the same */
+static void try_cut_laws(const cartvesper_core *core, const cartvesper_core *cut, cartvesper_choice choice)
+{
+    const lengths lent = whole(core->part);
+    cartvesper_core other = *core;
+    if (core->left > 0 && (core->waits.kind != 4 || (choice.words[0] & 1))) { /* the end of a lock's always sets it */
+        other.waits = chosen_part(core, &choice);
+        try_reading(&other, other.last + other.left, lent);
+        other.last = core->last;
+        cut_law("the end of a cycle of the chosen part (first), the cut (second)", &other, cut);
+    }
+    lib_memory = plain_memory = start_memory;
+    other = *core;
+    for (int k = 0; k < WORDS; k++)
+        choice.words[k] ^= next64() & ~looked_at(&core->waits, k);
+    try_cut(&other, choice, lent);
+    cut_law("a cut with other marks that are not looked at (first), the cut (second)", &other, cut);
+    try_cut(&other, random_choice(), lent);
+    cut_law("a cut after the cut (first), the cut (second)", &other, cut);
+    try_power_up(&other, (which){cut->part, cut->lock}, cut->cycle, cut->srwd, cut->bp1, cut->bp0, cut->last);
+    cut_law("power-up with what survived (first), the cut (second)", &other, cut);
+}
+
+static void try_cuts(int count)
+{
+    for (int i = 0; i < count; i++) {
+        const cartvesper_core core = core_to_cut();
+        const cartvesper_choice choice = random_choice();
+        cartvesper_core cut = core;
+        start_memory = lib_memory;
+        try_cut(&cut, choice, whole(core.part));
+        check_right(&cut);
+        singles_memory = lib_memory;
+        lib_memory = plain_memory = start_memory;
+        try_cut_laws(&core, &cut, choice);
+    }
+}
+
+/* the same cut in both models: that of the device is that of its core, whatever frame is in hand */
+static void cross_cut(cartvesper_device *device)
+{
+    const cartvesper_choice choice = random_choice();
+    const lengths lent = whole(device->core.part);
+    cartvesper_core core = device->core;
+    start_memory = lib_memory;
+    try_device_cut(device, choice, lent);
+    singles_memory = lib_memory;
+    lib_memory = plain_memory = start_memory;
+    try_cut(&core, choice, lent);
+    compare_kept("what is lent after a cut of the core (first) and of the device (second)");
+    compare_cores("core after a cut: pins (first), frame (second)", &device->core, &core);
+    counts.cut_models++;
+}
+
+static void cross_cuts(int count)
+{
+    for (int i = 0; i < count; i++) {
+        cartvesper_device device = random_device();
+        cross_cut(&device);
+    }
+}
+
+/* a cell alone, marked or not and chosen or not, in a page and in an identification page: what is left is known */
+static void sweep_cut_cell(uint8_t part, uint8_t kind, size_t cell)
+{
+    const uint64_t bit = 1ULL << cell % WORD;
+    for (int way = 0; way < 4; way++) {
+        cartvesper_core core = core_with(part, kind);
+        cartvesper_choice choice = random_choice();
+        const uint8_t *at = &waiting_cells(&core)[cell];
+        const uint8_t old = *at, byte = (uint8_t)(old + 1 + below(255));
+        core.waits.latch.marks[cell / WORD] &= ~bit;
+        core.waits.latch.marks[cell / WORD] |= way & 1 ? bit : 0;
+        core.waits.latch.bytes[cell] = way & 1 ? byte : 0;
+        choice.words[cell / WORD] &= ~bit;
+        choice.words[cell / WORD] |= way & 2 ? bit : 0;
+        compare_numbers("a cut (second: wanted)", try_cut(&core, choice, whole(part)), 0);
+        compare_numbers("the cell after a cut (second: wanted)", *at, way == 3 ? byte : old);
+    }
+}
+
+static void sweep_cut_cells(uint8_t part)
+{
+    for (size_t cell = 0; cell < whole(part).cells; cell++)
+        for (uint8_t kind = 2; kind <= (part == M95512 ? 2 : 3); kind++)
+            sweep_cut_cell(part, kind, cell);
+}
+
+static size_t steps_left; /* frames and readings of a run before its cut */
+
+static int step_taken(void)
+{
+    if (steps_left == 0)
+        return 0;
+    steps_left--;
+    return 1;
+}
+
+/* frame_bytes, if the cut does not come before */
+static int frame_sent(cartvesper_core *core, size_t length)
+{
+    if (!step_taken())
+        return 0;
+    try_frame(core, whole(core->part), 1, length, 8 * length, length);
+    return 1;
+}
+
+static void put_poll(void)
+{
+    frame_bytes[0] = RDSR;
+    frame_bytes[1] = 0;
+}
+
+/* the wait of a page part: gives 0 where the cut comes in it */
+static int polled(cartvesper_core *core, uint32_t interval)
+{
+    do {
+        put_poll();
+        if (!step_taken())
+            return 0;
+        whole_reading(core, core->last + interval);
+        if (!frame_sent(core, 2))
+            return 0;
+    } while (lib_out.bytes[1] & 1);
+    return 1;
+}
+
+/* a run of run_bytes frame by frame, as the driver sends it with no cycle running (but that address bits that are
+ * dropped are any), up to the cut. Gives the length of the frame that the cut comes before or into, which is in
+ * frame_bytes; 0 where the run is done */
+static size_t send_until_cut(cartvesper_core *core, uint32_t address, size_t length, uint32_t interval)
+{
+    const plain_row *row = plain_row_of(core->part);
+    const size_t head = plain_head(row);
+    put_poll();
+    if (!frame_sent(core, 2))
+        return 2;
+    for (size_t at = 0, part; at < length; at += part) {
+        part = row->page - (address + at) % row->page;
+        if (part > length - at)
+            part = length - at;
+        frame_bytes[0] = WREN;
+        if (!frame_sent(core, 1))
+            return 1;
+        put_address(row, address + (uint32_t)at);
+        frame_bytes[0] = WRITE;
+        memcpy(frame_bytes + head, run_bytes + at, part);
+        if (!frame_sent(core, head + part))
+            return head + part;
+        if (!polled(core, interval))
+            return 2;
+    }
+    return 0;
+}
+
+/* so many bits of frame_bytes drawn at the pins, from a select on; S stays low */
+static void draw_at_pins(cartvesper_device *device, size_t bits, uint32_t mode)
+{
+    whole_event(device, SET_C, mode);
+    whole_event(device, SET_S, 0);
+    for (size_t bit = 0; bit < bits; bit++) {
+        if (mode)
+            whole_event(device, SET_C, 0);
+        whole_event(device, SET_D, frame_bytes[bit / 8] >> (7 - bit % 8) & 1);
+        whole_event(device, SET_C, 1);
+        if (!mode)
+            whole_event(device, SET_C, 0);
+    }
+}
+
+/* frame_bytes up to some bit or to the last one, now and then in a pause; then the cut */
+static void cut_inside(cartvesper_core *core, size_t length)
+{
+    cartvesper_device device;
+    size_t bits = percent(30) ? 8 * length : below(8 * (uint32_t)length + 1);
+    plain_device_power_up(&device, 0, 0, 1, 0, 0, 0, 0, 0);
+    device.core = *core;
+    whole_event(&device, SET_W, percent(50));
+    draw_at_pins(&device, bits, percent(50));
+    if (percent(20))
+        whole_event(&device, SET_HOLD, 0);
+    counts.in_frame += bits > 0;
+    try_device_cut(&device, random_choice(), whole(core->part));
+    *core = device.core;
+}
+
+/* inside the ranges, with no cycle running and the right number of blank cells; most without a protected block */
+static cartvesper_core idle_core(void)
+{
+    cartvesper_core core = random_core();
+    core.left = 0;
+    memset(&core.waits, 0, sizeof core.waits);
+    core.blank = plain_blank(lib_memory.bytes, whole(core.part).size);
+    if (percent(70))
+        core.bp1 = core.bp0 = 0;
+    return core;
+}
+
+/* the whole run frame by frame, from start_memory: it leaves what the driver left. Gives how many steps it has */
+static size_t steps_of(cartvesper_core core, const cartvesper_core *driven, uint32_t address, size_t length,
+                       uint32_t interval)
+{
+    lib_memory = plain_memory = start_memory;
+    steps_left = SIZE_MAX;
+    send_until_cut(&core, address, length, interval);
+    compare_cores("a run frame by frame (first), the driver's (second)", &core, driven);
+    compare_kept("memory of a run frame by frame (first), the driver's (second)");
+    lib_memory = plain_memory = start_memory;
+    return SIZE_MAX - steps_left;
+}
+
+/* the run of so many steps once more, up to a cut between or inside its frames */
+static void run_cut(cartvesper_core *core, uint32_t address, size_t length, uint32_t interval, size_t steps)
+{
+    steps_left = below((uint32_t)steps + 1);
+    size_t next = send_until_cut(core, address, length, interval);
+    counts.in_run += core->left > 0;
+    if (next > 0 && percent(50))
+        cut_inside(core, next);
+    else
+        try_cut(core, random_choice(), whole(core->part));
+    check_right(core);
+    if (percent(20))
+        whole_reading(core, random_reading(core));
+}
+
+/* a run that begins with no cycle running and is done; then from the same start, cut, now and then more than once, and
+ * sent again: the same memory */
+static void try_cut_run(void)
+{
+    const cartvesper_core start = idle_core();
+    const plain_row *row = plain_row_of(start.part);
+    const lengths lent = whole(start.part);
+    const uint32_t most = plain_most_polls(row), interval = 1 + (start.cycle - 1) / (1 + below(4));
+    size_t length = 1 + below(percent(50) ? 12 : 3 * row->page);
+    uint32_t address = (uint32_t)(random_address(row) % (row->size + 1 - length));
+    cartvesper_core core = start;
+    random_bytes(run_bytes, length);
+    if (percent(50))
+        sprinkle_blank(run_bytes, length);
+    start_memory = lib_memory;
+    if (try_write(&core, lent, address, length, interval, most) != 0)
+        return;
+    singles_memory = lib_memory;
+    size_t steps = steps_of(start, &core, address, length, interval);
+    core = start;
+    do
+        run_cut(&core, address, length, interval, steps);
+    while (percent(20));
+    compare_numbers("a write cut and sent again (second: wanted)",
+                    try_write(&core, lent, address, length, interval, most), 0);
+    compare_kept("memory of a write cut and sent again (first), uncut (second)");
+    counts.cut_runs++;
+}
+
+static void cut_session(void)
+{
+    new_memory();
+    try_cuts(200);
+    cross_cuts(100);
+    sweep_cut_cells((uint8_t)(current_round % PLAIN_PARTS));
+    for (int i = 0; i < 100; i++)
+        try_cut_run();
+}
+
 /* ---- a wrong number of blank cells changes no other answer: 02, Item 6. The library twice on the same input, but that
  * the second record, a twin of the first, has another number; the second is lent the plain side's bytes */
 
@@ -2827,6 +3296,26 @@ static void twin_readings(cartvesper_core core, cartvesper_core twin)
     cartvesper_core_answer other = cartvesper_clock_reading(twin, reading, LENT(plain_memory, lent));
     compare_numbers("the number (second: its twin's)", one.number, other.number);
     compare_twin_cores(&one.core, other.core);
+    compare_memory();
+}
+
+static void twin_cuts(const cartvesper_device *device, const cartvesper_device *twin)
+{
+    const lengths lent = random_lengths(device->core.part, 5);
+    const cartvesper_choice choice = random_choice();
+    start_memory = lib_memory;
+    begin_cut(NULL, device, choice, lent);
+    cartvesper_device_answer one = cartvesper_device_cut(*device, choice, LENT(lib_memory, lent));
+    cartvesper_device_answer other = cartvesper_device_cut(*twin, choice, LENT(plain_memory, lent));
+    compare_numbers("the number (second: its twin's)", one.number, other.number);
+    compare_twin_devices(&one.device, other.device);
+    compare_memory();
+    lib_memory = plain_memory = start_memory;
+    begin_cut(&device->core, NULL, choice, lent);
+    cartvesper_core_answer core = cartvesper_cut(device->core, choice, LENT(lib_memory, lent));
+    cartvesper_core_answer twin_core = cartvesper_cut(twin->core, choice, LENT(plain_memory, lent));
+    compare_numbers("the number (second: its twin's)", core.number, twin_core.number);
+    compare_twin_cores(&core.core, twin_core.core);
     compare_memory();
 }
 
@@ -2956,6 +3445,7 @@ static void try_twins(int count)
         twin.core.blank = random_blank(device.core.part);
         twin_questions(&device, &twin);
         twin_readings(device.core, twin.core);
+        twin_cuts(&device, &twin);
         twin_frames(device.core, twin.core);
         twin_timed(device.core, twin.core);
         twin_writes(device.core, twin.core);
@@ -3311,8 +3801,11 @@ static void cross_session(int frames)
     try_device_power_up(&device, one, random_cycle(one.part), percent(20), percent(20), percent(30), random_clock());
     if (percent(30))
         device.core = random_core();
-    for (int i = 0; i < frames; i++)
+    for (int i = 0; i < frames; i++) {
         cross_frame(&device, below(1000) == 0);
+        if (percent(20))
+            cross_cut(&device);
+    }
 }
 
 /* timed frames drawn at the pins: a cycle runs at the start of most */
@@ -3331,6 +3824,8 @@ static void cross_timed_session(int frames)
             begin_cycle(&device.core);
         random_schedule(&device.core, bits);
         cross_timed(&device, length, bits, percent(50), percent(50) ? below(30) : 0);
+        if (percent(10))
+            cross_cut(&device);
     }
     check_right(&device.core);
 }
@@ -3350,6 +3845,8 @@ static void timed_session(int steps)
             frame_step(&core);
         else
             try_reading(&core, random_reading(&core), random_lengths(core.part, 2));
+        if (percent(5))
+            cut_step(&core);
         if (percent(5))
             check_right(&core);
     }
@@ -3644,6 +4141,9 @@ static void case_refused(const char *what, cartvesper_core core, lengths lent, u
     schedule.places = schedule.times = 0;
     case_expect(what, try_timed(&sent, lent, 1, CARTVESPER_MODE3, 5, 40, 5), number);
     case_expect(what, try_event(&device, SET_C, 1, lent), number);
+    case_expect(what, try_device_cut(&device, random_choice(), lent), number);
+    sent = core;
+    case_expect(what, try_cut(&sent, random_choice(), lent), number);
     case_expect(what, try_reading(&core, core.last + core.left, lent), number);
 }
 
@@ -3965,6 +4465,23 @@ static void cases_unpowered(void)
     }
 }
 
+/* of a cut */
+static const cartvesper_choice none_chosen = {{0}};
+static const cartvesper_choice all_chosen = {{UINT64_MAX, UINT64_MAX, UINT64_MAX, UINT64_MAX}};
+
+/* a cut with every cell chosen moves the number as the cycle's end does; with none it stays */
+static void case_cut_blank(const char *what, const cartvesper_core *core, uint32_t wanted)
+{
+    cartvesper_core cut = *core;
+    start_memory = lib_memory;
+    try_cut(&cut, none_chosen, whole(core->part));
+    case_expect("blank cells after a cut with no cell chosen (second: wanted)", cut.blank, core->blank);
+    cut = *core;
+    try_cut(&cut, all_chosen, whole(core->part));
+    case_expect(what, cut.blank, wanted);
+    lib_memory = plain_memory = start_memory;
+}
+
 /* so many cells of a page gained, so many lost, others marked that keep FFh or 00h, and the rest not marked: the number
  * before and after */
 static void case_blank(const char *what, uint8_t part, uint32_t number, size_t gained, size_t lost, uint32_t wanted)
@@ -3983,6 +4500,7 @@ static void case_blank(const char *what, uint8_t part, uint32_t number, size_t g
         core.waits.latch.bytes[i] = marked && (gains || (!loses && i % 2)) ? 0xFF : 0x00;
         core.waits.latch.marks[i / WORD] |= (uint64_t)marked << i % WORD;
     }
+    case_cut_blank(what, &core, wanted);
     whole_reading(&core, core.last + 3999);
     case_expect("blank cells before the cycle's end (second: wanted)", core.blank, number);
     whole_reading(&core, core.last + 1);
@@ -4156,6 +4674,186 @@ static void cases_numbers(void)
     case_number("M95M01: 131,072 blank cells (second: wanted)", M95M01, 131072, 0);
     case_number("M95M01: 131,073 blank cells (second: wanted)", M95M01, 131073, 2);
     case_number("M95M01: 4,294,967,295 blank cells (second: wanted)", M95M01, 4294967295, 2);
+}
+
+/* ---- supply cuts: 02, Item 8, with values made by hand */
+
+/* cells 126, 0 and 2 of a page */
+static const cartvesper_choice some_chosen = {{1 | 1 << 2, 1ULL << 62, 0, 0}};
+
+/* a WRITE of four cells, of which two are chosen; cell 2 is chosen, but not marked */
+static void cases_cut_page(void)
+{
+    cartvesper_core core;
+    case_start(&core, 0);
+    case_frame(&core, "02 00 7E 11 22 33 44", 0);
+    whole_reading(&core, core.last + 4999);
+    const uint32_t last = core.last;
+    case_expect("a cut in a page's cycle (second: wanted)", try_cut(&core, some_chosen, whole(M95512)), 0);
+    case_expect("a cut: 007Eh, chosen (second: wanted)", lib_memory.bytes[0x7E], 0x11);
+    case_expect("a cut: 007Fh, not chosen (second: wanted)", lib_memory.bytes[0x7F], 0xFF);
+    case_expect("a cut: 0000h, chosen (second: wanted)", lib_memory.bytes[0], 0x33);
+    case_expect("a cut: 0001h, not chosen (second: wanted)", lib_memory.bytes[1], 0xFF);
+    case_expect("a cut: 0002h, not marked (second: wanted)", lib_memory.bytes[2], 0xFF);
+    case_expect("a cut: the status (second: wanted)", cartvesper_core_status(core).value, 0x00);
+    case_expect("a cut: cells touched after it (second: wanted)", cartvesper_core_touched(core).value, 0);
+    case_expect("a cut: blank cells (second: wanted)", core.blank, 65534);
+    case_expect("a cut: the last reading (second: wanted)", core.last, last);
+    case_expect("a cut: the cycle length (second: wanted)", core.cycle, 5000);
+    whole_reading(&core, core.last + 5000);
+    case_expect("0001h later (second: wanted)", lib_memory.bytes[1], 0xFF);
+    case_frame(&core, "02 00 7E 11 22 33 44", 0);
+    case_expect("the same WRITE without WREN (second: wanted)", core.left, 0);
+    case_frame(&core, "06", 0);
+    case_frame(&core, "02 00 7E 11 22 33 44", 0);
+    whole_reading(&core, core.last + 5000);
+    case_expect("the same WRITE again: 0001h (second: wanted)", lib_memory.bytes[1], 0x44);
+    case_expect("the same WRITE again: blank cells (second: wanted)", core.blank, 65532);
+}
+
+/* with no cycle WEL alone falls, whatever is chosen */
+static void cases_cut_idle(void)
+{
+    cartvesper_core core;
+    case_start(&core, 7);
+    case_expect("before a cut with no cycle (second: wanted)", cartvesper_core_status(core).value, 0x8E);
+    case_expect("a cut with no cycle (second: wanted)", try_cut(&core, all_chosen, whole(M95512)), 0);
+    case_expect("a cut with no cycle: the status (second: wanted)", cartvesper_core_status(core).value, 0x8C);
+    case_expect("a cut with no cycle: blank cells (second: wanted)", core.blank, 65536);
+    case_expect("a cut with no cycle: the last reading (second: wanted)", core.last, 4294967290);
+}
+
+/* SRWD, BP1 and BP0 as bits 7, 3 and 2 */
+static uint8_t status_bits(int bits)
+{
+    return (uint8_t)((bits & 4) << 5 | (bits & 3) << 2);
+}
+
+/* each old value, each that waits and each choice of the three bits; the other marks are any */
+static void cases_cut_status(uint8_t part)
+{
+    const cartvesper_latch none = {{0}, {0}};
+    for (int way = 0; way < 512; way++) {
+        int old = way & 7, waiting = way >> 3 & 7, bits = way >> 6;
+        cartvesper_choice choice = random_choice();
+        cartvesper_core core;
+        choice.words[0] = (choice.words[0] & ~0x8CULL) | status_bits(bits);
+        plain_core_power_up(&core, part, 0, 4000, old >> 2, old >> 1 & 1, old & 1, 9, 77);
+        case_wait(&core, 1, &none);
+        core.waits.status = status_bits(waiting);
+        case_expect("a cut in a status cycle (second: wanted)", try_cut(&core, choice, whole(part)), 0);
+        case_expect("a cut in a status cycle: the status (second: wanted)", cartvesper_core_status(core).value,
+                    status_bits((old & ~bits) | (waiting & bits)));
+    }
+}
+
+/* a lock is set by mark 0 alone, and never falls: locked with the lock waiting is inside the ranges */
+static void cases_cut_lock(uint8_t part)
+{
+    const cartvesper_latch none = {{0}, {0}};
+    for (int way = 0; way < 8; way++) {
+        int lock = way & 1, mark = way >> 1 & 1;
+        cartvesper_choice choice = way & 4 ? all_chosen : none_chosen;
+        cartvesper_core core;
+        choice.words[0] = (choice.words[0] & ~1ULL) | (uint64_t)mark;
+        plain_core_power_up(&core, part, lock, 4000, 0, 0, 0, 9, 77);
+        case_wait(&core, 4, &none);
+        case_expect("a cut in a lock's cycle (second: wanted)", try_cut(&core, choice, whole(part)), 0);
+        case_expect("a cut in a lock's cycle: the lock (second: wanted)", core.lock, (uint32_t)(lock | mark));
+    }
+}
+
+/* an 82h of four cells of the identification page, of which two are chosen; the memory and its number stay */
+static void cases_cut_identification(void)
+{
+    cartvesper_core core;
+    case_start_of(&core, M95512D, 0);
+    case_frame(&core, "82 00 7E 11 22 33 44", 0);
+    case_expect("a cut in 82h's cycle (second: wanted)", try_cut(&core, some_chosen, whole(M95512D)), 0);
+    case_expect("a cut in 82h's cycle: cell 126 (second: wanted)", lib_memory.identification[126], 0x11);
+    case_expect("a cut in 82h's cycle: cell 127 (second: wanted)", lib_memory.identification[127], 0xFF);
+    case_expect("a cut in 82h's cycle: cell 0 (second: wanted)", lib_memory.identification[0], 0x33);
+    case_expect("a cut in 82h's cycle: cell 1 (second: wanted)", lib_memory.identification[1], 0xFF);
+    case_expect("a cut in 82h's cycle: 007Eh (second: wanted)", lib_memory.bytes[0x7E], 0xFF);
+    case_expect("a cut in 82h's cycle: blank cells (second: wanted)", core.blank, 65536);
+    case_expect("a cut in 82h's cycle: the lock (second: wanted)", core.lock, 0);
+}
+
+/* the M95M01: the last of its 256 cells, and WEL 0 in the cycle */
+static void cases_cut_large(void)
+{
+    const cartvesper_choice last_chosen = {{0, 0, 0, 1ULL << 63}};
+    cartvesper_core core;
+    case_start_of(&core, M95M01, 0);
+    case_frame(&core, "02 01 FF FF 11 22", 0);
+    case_frame(&core, "04", 0);
+    case_expect("M95M01: a cut at WEL 0 (second: wanted)", try_cut(&core, last_chosen, whole(M95M01)), 0);
+    case_expect("M95M01, a cut: cell 1FFFFh, chosen (second: wanted)", lib_memory.bytes[0x1FFFF], 0x11);
+    case_expect("M95M01, a cut: cell 1FF00h, not chosen (second: wanted)", lib_memory.bytes[0x1FF00], 0xFF);
+    case_expect("M95M01, a cut: blank cells (second: wanted)", core.blank, 131071);
+}
+
+/* a WRITE that S rising would execute, with W low, in a pause too: it is dropped, and the pins are at rest */
+static void cases_cut_at_pins(uint8_t part)
+{
+    for (int held = 0; held <= 1; held++) {
+        cartvesper_device device;
+        fill_cells(0xFF);
+        try_device_power_up(&device, (which){part, 0}, 4000, 0, 0, 0, 0);
+        device.core.wel = 1;
+        whole_event(&device, SET_W, 0);
+        draw_at_pins(&device, 8 * case_bytes(part == M95M01 ? "02 00 00 00 11" : "02 00 00 11"), 0);
+        if (held)
+            whole_event(&device, SET_HOLD, 0);
+        case_expect("a cut in a frame (second: wanted)", try_device_cut(&device, all_chosen, whole(part)), 0);
+        case_expect("a cut in a frame: S (second: wanted)", device.pins.s, 1);
+        case_expect("a cut in a frame: W (second: wanted)", device.pins.w, 1);
+        case_expect("a cut in a frame: HOLD (second: wanted)", device.pins.hold, 1);
+        case_expect("a cut in a frame: held (second: wanted)", device.held, 0);
+        case_expect("a cut in a frame: whole bytes taken (second: wanted)", device.frame.taken, 0);
+        case_expect("a cut in a frame: Q (second: wanted)", cartvesper_device_q(device).value, CARTVESPER_Z);
+        whole_event(&device, SET_S, 0);
+        whole_event(&device, SET_S, 1);
+        whole_event(&device, CLOCK, 4000);
+        case_expect("a cut in a frame: the status (second: wanted)", cartvesper_device_status(device).value, 0x00);
+        case_expect("a cut in a frame: cell 0 (second: wanted)", lib_memory.bytes[0], 0xFF);
+    }
+}
+
+/* a device outside its ranges whose core is inside them; 1 before 2 */
+static void cases_cut_refused(uint8_t part)
+{
+    const lengths own = whole(part), short_page = {own.size, own.cells - 1};
+    cartvesper_device device, damaged[4];
+    try_device_power_up(&device, (which){part, 0}, 4000, 0, 0, 0, 0);
+    case_expect("a cut (second: wanted)", try_device_cut(&device, all_chosen, own), 0);
+    for (int i = 0; i < 4; i++)
+        damaged[i] = device;
+    damaged[0].pins.d = 2;
+    damaged[1].held = 1;
+    damaged[2].frame.bits = 1;
+    damaged[3].frame.latch.marks[0] = 1;
+    for (int i = 0; i < 4; i++) {
+        case_expect("a cut: pins or frame outside their ranges (second: wanted)",
+                    try_device_cut(&damaged[i], all_chosen, own), 2);
+        case_expect("and a page one byte short (second: wanted)",
+                    try_device_cut(&damaged[i], all_chosen, short_page), 1);
+    }
+}
+
+static void cases_cut(void)
+{
+    cases_cut_page();
+    cases_cut_idle();
+    cases_cut_identification();
+    cases_cut_large();
+    for (uint8_t part = 0; part < PLAIN_PARTS; part++) {
+        cases_cut_status(part);
+        cases_cut_at_pins(part);
+        cases_cut_refused(part);
+    }
+    cases_cut_lock(M95512D);
+    cases_cut_lock(M95M01);
 }
 
 /* ---- readings inside a frame: 02, Item 12 */
@@ -4348,7 +5046,7 @@ static void run_round(void)
     try_parts(1000);
     try_random_records(1000);
     try_limits(20);
-    pin_session(6);
+    pin_session(8);
     for (int i = 0; i < 150; i++) {
         try_damaged_core();
         try_damaged_device();
@@ -4372,6 +5070,7 @@ static void run_round(void)
     try_wrdi_in_hold(10);
     lay_session();
     twice_session(100);
+    cut_session();
     try_twins(60);
 }
 
@@ -4396,6 +5095,21 @@ static void print_timed(void)
     printf("timed frames drawn at the pins against the timed call: mode 0 %" PRIu64 ", a cycle ended in %" PRIu64
            "; mode 3 %" PRIu64 ", a cycle ended in %" PRIu64 "\n",
            counts.timed_drawn[0], counts.drawn_ends[0], counts.timed_drawn[1], counts.drawn_ends[1]);
+}
+
+static void print_cuts(void)
+{
+    static const char *const names[] = {"with no cycle", "in a status cycle", "a page's", "an identification page's",
+                                        "a lock's"};
+    printf("supply cuts %" PRIu64 ", at the pins %" PRIu64 ", inside a frame %" PRIu64 ":", counts.cuts, counts.at_pins,
+           counts.dropped);
+    for (int i = 0; i < 5; i++)
+        printf("%s %s %" PRIu64, i == 0 ? "" : ",", names[i], counts.cut_in[i]);
+    printf("; marked cells that took their bytes %" PRIu64 ", that stayed %" PRIu64 "\n", counts.taken,
+           counts.untaken);
+    printf("laws of a cut %" PRIu64 ", cuts of both models %" PRIu64 "; runs cut and sent again %" PRIu64
+           ", cuts in a page's cycle %" PRIu64 ", inside a frame %" PRIu64 "\n",
+           counts.cut_laws, counts.cut_models, counts.cut_runs, counts.in_run, counts.in_frame);
 }
 
 /* laying, runs sent twice, the driver and the split */
@@ -4429,7 +5143,8 @@ static void print_summary(uint64_t rounds)
     printf("identification pages stored %" PRIu64 ", their cells changed %" PRIu64 ", locks set %" PRIu64,
            counts.identified, counts.kept, counts.locked);
     printf(", records made of each part and kind %" PRIu64 "\n", counts.parts_swept);
-    printf("blank cells: at page cycles' ends %" PRIu64 " gained, %" PRIu64 " lost, %" PRIu64 " written FFh again",
+    printf("blank cells: at page cycles' ends and cuts %" PRIu64 " gained, %" PRIu64 " lost, %" PRIu64
+           " written FFh again",
            counts.gained, counts.lost, counts.rewritten);
     printf("; sums held at 0 %" PRIu64 ", at the memory's size %" PRIu64 "; numbers seen to be the scan's %" PRIu64,
            counts.at_zero, counts.at_size, counts.scanned);
@@ -4442,6 +5157,7 @@ static void print_summary(uint64_t rounds)
     printf("WRDI in a cycle: WEL became 0 %" PRIu64 ", ignored %" PRIu64 "; readings in a cycle at WEL 0 %" PRIu64 "\n",
            counts.disabled, counts.stayed, counts.unlatched);
     print_timed();
+    print_cuts();
     printf("frames in hand made field by field %" PRIu64 "\n", counts.fields_swept);
     printf("frames drawn at the pins against the frame call %" PRIu64 "\n", counts.drawn);
     printf("records inside the ranges built by hand %" PRIu64 ", damaged records %" PRIu64 " (%" PRIu64
@@ -4483,6 +5199,7 @@ static void cases_by_hand(void)
     cases_driven();
     cases_uncounted();
     cases_numbers();
+    cases_cut();
     cases_lists();
     cases_modes();
     cases_seen();

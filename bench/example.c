@@ -236,6 +236,58 @@ static void retries(cartvesper_core *core)
     printf("a run sent twice leaves the memory of one: %s\n", memcmp(memory, once, MEMORY) == 0 ? "yes" : "no");
 }
 
+/* ---- the supply falls in the middle of a write */
+
+/* 132 bytes over three pages: two of the first, the whole second, two of the third. */
+enum { CUT_FROM = 0x307E, CUT_LENGTH = 132 };
+
+static void print_around_second(const char *when)
+{
+    printf("%s: cells 307F %02X, 3080 %02X, 3081 %02X, 3082 %02X, 30FF %02X, 3100 %02X\n", when, memory[0x307F],
+           memory[0x3080], memory[0x3081], memory[0x3082], memory[0x30FF], memory[0x3100]);
+}
+
+/* The driver sends one page part after the other. So its run up to the second page's cycle is the first part, and then
+ * the second with too few polls to see the end. There the supply falls, and comes back. Which cells had taken their
+ * bytes is yours to choose: here the even ones. A mark stands for a cell, as in a latch. */
+static void cut_second_page(cartvesper_core *core, const uint8_t *bytes)
+{
+    const cartvesper_choice even = {{0x5555555555555555, 0x5555555555555555, 0, 0}};
+    cartvesper_driver_answer first = drive(core, CUT_FROM, bytes, 2, 1000, 5001);
+    must_be_done("driver", first.number);
+    cartvesper_driver_answer second = drive(&first.core, CUT_FROM + 2, bytes + 2, CARTVESPER_PAGE, 1000, 4);
+    printf("the second page's cycle: number %u, %u cells to be touched, %u microseconds left\n", second.number,
+           cartvesper_core_touched(second.core).value, second.core.left);
+    cartvesper_core_answer returned = cartvesper_cut(second.core, even, LENT(core->part));
+    must_be_done("cut", returned.number);
+    *core = returned.core; /* as at power-up: WEL 0, no cycle, nothing waits */
+    printf("after the cut: status %02X, %u cells to be touched, %u microseconds left\n", poll(core),
+           cartvesper_core_touched(*core).value, core->left);
+}
+
+static void supply_cut(cartvesper_core *core)
+{
+    static uint8_t before[MEMORY], uncut[MEMORY];
+    uint8_t bytes[CUT_LENGTH];
+    for (int i = 0; i < CUT_LENGTH; i++)
+        bytes[i] = (uint8_t)(i + 1);
+    /* first the whole write, to know what it leaves; the memory and the record from before it are the way back */
+    memcpy(before, memory, MEMORY);
+    must_be_done("driver", drive(core, CUT_FROM, bytes, CUT_LENGTH, 1000, 5001).number);
+    memcpy(uncut, memory, MEMORY);
+    memcpy(memory, before, MEMORY);
+    cut_second_page(core, bytes);
+    print_around_second("after the cut");
+    print_blank("after the cut", core);
+    /* the same write again: no more is needed */
+    cartvesper_driver_answer again = drive(core, CUT_FROM, bytes, CUT_LENGTH, 1000, 5001);
+    must_be_done("driver", again.number);
+    *core = again.core;
+    print_around_second("sent again");
+    print_blank("sent again", core);
+    printf("the memory of the uncut write: %s\n", memcmp(memory, uncut, MEMORY) == 0 ? "yes" : "no");
+}
+
 /* ---- images as Intel HEX */
 
 static void image(cartvesper_core *core)
@@ -420,6 +472,7 @@ int main(void)
     long_polls(&core);
     write_by_driver(&core);
     retries(&core);
+    supply_cut(&core);
     image(&core);
     refusals(&core);
     other_part();

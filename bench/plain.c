@@ -383,8 +383,16 @@ static uint32_t eight_sum(uint64_t bytes)
     return (uint32_t)(pairs * 0x0001000100010001 >> 48);
 }
 
+/* 02, Item 6: the sum is held within 0 and the memory's size */
+static inline void move_blank(cartvesper_core *core, uint32_t gained, uint32_t lost, const plain_row *row)
+{
+    uint32_t number = core->blank + gained; /* at most the sizes of a memory and of a page */
+    number = number > lost ? number - lost : 0;
+    core->blank = number < row->size ? number : row->size;
+}
+
 /* 02, Item 6: before the page is stored. Gained are the marked cells that become FFh, lost those that no longer are; a
- * cell that is not marked keeps its byte, so it is neither. The sum is held within 0 and the memory's size */
+ * cell that is not marked keeps its byte, so it is neither */
 static void count_page(cartvesper_core *core, const uint8_t *cells, const plain_row *row)
 {
     const cartvesper_latch *latch = &core->waits.latch;
@@ -395,10 +403,7 @@ static void count_page(cartvesper_core *core, const uint8_t *cells, const plain_
         gains += after & ~before;
         losses += before & ~after;
     }
-    uint32_t gained = eight_sum(gains), lost = eight_sum(losses);
-    uint32_t number = core->blank + gained; /* at most the sizes of a memory and of a page */
-    number = number > lost ? number - lost : 0;
-    core->blank = number < row->size ? number : row->size;
+    move_blank(core, eight_sum(gains), eight_sum(losses), row);
 }
 
 static void store_status(cartvesper_core *core, uint8_t status)
@@ -442,6 +447,69 @@ void plain_time(cartvesper_core *core, uint8_t *memory, uint8_t *identification,
         end_cycle(core, memory, identification);
     else
         core->left -= elapsed;
+}
+
+/* ---- a supply cut: 02, Item 8. Cell by cell and bit by bit, each as it is chosen */
+
+static int chosen(const cartvesper_choice *choice, size_t mark)
+{
+    return (choice->words[mark / WORD] >> mark % WORD & 1) != 0;
+}
+
+/* a chosen cell takes its byte if it is marked; the identification page's are not counted */
+static void cut_page(cartvesper_core *core, uint8_t *cells, const cartvesper_choice *choice, const plain_row *row)
+{
+    const cartvesper_latch *latch = &core->waits.latch;
+    uint32_t gained = 0, lost = 0;
+    for (size_t i = 0; i < row->page; i++) {
+        if (!cartvesper_marked(latch, i) || !chosen(choice, i))
+            continue;
+        gained += cells[i] != 0xFF && latch->bytes[i] == 0xFF;
+        lost += cells[i] == 0xFF && latch->bytes[i] != 0xFF;
+        cells[i] = latch->bytes[i];
+    }
+    if (core->waits.kind == LATCHED)
+        move_blank(core, gained, lost, row);
+}
+
+static void cut_status(cartvesper_core *core, const cartvesper_choice *choice)
+{
+    const uint8_t status = core->waits.status;
+    if (chosen(choice, 7))
+        core->srwd = status >> 7;
+    if (chosen(choice, 3))
+        core->bp1 = status >> 3 & 1;
+    if (chosen(choice, 2))
+        core->bp0 = status >> 2 & 1;
+}
+
+static void cut_cycle(cartvesper_core *core, uint8_t *memory, uint8_t *identification, const cartvesper_choice *choice)
+{
+    const plain_row *row = row_of(core->part);
+    switch (core->waits.kind) {
+    case STATUS:
+        cut_status(core, choice);
+        break;
+    case LATCHED:
+        cut_page(core, memory + (size_t)row->page * core->waits.page, choice, row);
+        break;
+    case IDENTIFICATION:
+        cut_page(core, identification, choice, row);
+        break;
+    case LOCK:
+        if (chosen(choice, 0)) /* else it stays, and a lock that was set does not fall */
+            core->lock = 1;
+        break;
+    }
+}
+
+/* then power-up with what survives */
+void plain_cut(cartvesper_core *core, uint8_t *memory, uint8_t *identification, const cartvesper_choice *choice)
+{
+    if (core->left > 0)
+        cut_cycle(core, memory, identification, choice);
+    plain_core_power_up(core, core->part, core->lock, core->cycle, core->srwd, core->bp1, core->bp0, core->last,
+                        core->blank);
 }
 
 /* ---- execution: nothing waits here, so only what begins to wait is written; but WRDI may come in a cycle */
@@ -937,6 +1005,16 @@ void plain_device_time(cartvesper_device *device, uint8_t *memory, uint8_t *iden
     plain_time(&device->core, memory, identification, reading);
 }
 
+/* the pins and the frame are power-up's, whatever they were: a frame in hand is dropped */
+void plain_device_cut(cartvesper_device *device, uint8_t *memory, uint8_t *identification,
+                      const cartvesper_choice *choice)
+{
+    cartvesper_core *core = &device->core;
+    plain_cut(core, memory, identification, choice);
+    plain_device_power_up(device, core->part, core->lock, core->cycle, core->srwd, core->bp1, core->bp0, core->last,
+                          core->blank);
+}
+
 int plain_q(const cartvesper_device *device)
 {
     /* in this order, or gcc loads S and held in one word and waits for the byte that was just stored */
@@ -1168,6 +1246,15 @@ cartvesper_core_answer plain_clock_reading_call(cartvesper_core core, uint32_t r
     return answer;
 }
 
+cartvesper_core_answer plain_cut_call(cartvesper_core core, cartvesper_choice choice, uint8_t *memory, size_t size,
+                                      uint8_t *identification, size_t cells)
+{
+    cartvesper_core_answer answer = {!lent_ok(&core, size, cells) ? 1 : !plain_core_ok(&core) ? 2 : 0, core};
+    if (answer.number == 0)
+        plain_cut(&answer.core, memory, identification, &choice);
+    return answer;
+}
+
 static uint32_t frame_refusal(const cartvesper_core *core, size_t size, size_t cells, uint8_t w, size_t length,
                               size_t bits, size_t room)
 {
@@ -1319,6 +1406,16 @@ cartvesper_device_answer plain_device_read_clock_call(cartvesper_device device, 
                                        device};
     if (answer.number == 0)
         plain_device_time(&answer.device, memory, identification, reading);
+    return answer;
+}
+
+cartvesper_device_answer plain_device_cut_call(cartvesper_device device, cartvesper_choice choice, uint8_t *memory,
+                                               size_t size, uint8_t *identification, size_t cells)
+{
+    cartvesper_device_answer answer = {!lent_ok(&device.core, size, cells) ? 1 : !plain_device_ok(&device) ? 2 : 0,
+                                       device};
+    if (answer.number == 0)
+        plain_device_cut(&answer.device, memory, identification, &choice);
     return answer;
 }
 

@@ -44,6 +44,8 @@ uint32_t plain_blank(const uint8_t *memory, size_t size); /* FFh cells of a memo
 void plain_core_power_up(cartvesper_core *core, int part, int lock, uint32_t cycle, int srwd, int bp1, int bp0,
                          uint32_t reading, uint32_t blank);
 void plain_time(cartvesper_core *core, uint8_t *memory, uint8_t *identification, uint32_t reading);
+/* a supply cut and return */
+void plain_cut(cartvesper_core *core, uint8_t *memory, uint8_t *identification, const cartvesper_choice *choice);
 /* a whole frame; out has the slice's length; gives back how many leading bits were undriven */
 uint64_t plain_frame(cartvesper_core *core, const uint8_t *memory, const uint8_t *identification, int w,
                      const uint8_t *bytes, size_t length, size_t bits, uint8_t *out);
@@ -69,6 +71,8 @@ void plain_d(cartvesper_device *device, int level);
 void plain_w(cartvesper_device *device, int level);
 void plain_hold(cartvesper_device *device, int level);
 void plain_device_time(cartvesper_device *device, uint8_t *memory, uint8_t *identification, uint32_t reading);
+void plain_device_cut(cartvesper_device *device, uint8_t *memory, uint8_t *identification,
+                      const cartvesper_choice *choice);
 int plain_q(const cartvesper_device *device); /* 0, 1, or 2 for Z */
 /* one event, or a list of them, as cartvesper_device_play writes them; out gets Q after each */
 void plain_event(cartvesper_device *device, uint8_t *memory, uint8_t *identification, uint64_t event);
@@ -101,6 +105,8 @@ cartvesper_core_answer plain_power_up_call(uint8_t part, uint8_t lock, uint32_t 
                                            uint8_t bp0, uint32_t reading, const uint8_t *memory, size_t size);
 cartvesper_core_answer plain_clock_reading_call(cartvesper_core core, uint32_t reading, uint8_t *memory, size_t size,
                                                 uint8_t *identification, size_t cells);
+cartvesper_core_answer plain_cut_call(cartvesper_core core, cartvesper_choice choice, uint8_t *memory, size_t size,
+                                      uint8_t *identification, size_t cells);
 cartvesper_frame_answer plain_frame_call(cartvesper_core core, const uint8_t *memory, size_t size,
                                          const uint8_t *identification, size_t cells, uint8_t w, const uint8_t *bytes,
                                          size_t length, size_t bits, uint8_t *out, size_t room);
@@ -126,6 +132,8 @@ cartvesper_device_answer plain_device_set_w_call(cartvesper_device device, uint8
 cartvesper_device_answer plain_device_set_hold_call(cartvesper_device device, uint8_t level);
 cartvesper_device_answer plain_device_read_clock_call(cartvesper_device device, uint32_t reading, uint8_t *memory,
                                                       size_t size, uint8_t *identification, size_t cells);
+cartvesper_device_answer plain_device_cut_call(cartvesper_device device, cartvesper_choice choice, uint8_t *memory,
+                                               size_t size, uint8_t *identification, size_t cells);
 cartvesper_value plain_device_q_call(cartvesper_device device);
 cartvesper_value plain_device_status_call(cartvesper_device device);
 cartvesper_value plain_device_touched_call(cartvesper_device device);

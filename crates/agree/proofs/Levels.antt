@@ -22,7 +22,6 @@ use Rattle.chip.specs.Records.{running}
 use Rattle.codes.proofs.Sound.{Sound}
 use Rattle.fields.specs.Bytes.{instruction}
 use Rattle.shown.specs.Shown.{undriven}
-use Rattle.pins.specs.declared.Event.{Event}
 use Rattle.pins.specs.Devices.{q}
 use Rattle.pins.specs.Answers.{PinBench, next}
 use Rattle.edges.specs.declared.Frame.{Frame}
@@ -32,8 +31,8 @@ use Rattle.edges.specs.Frames.{noFrame}
 use Rattle.frames.specs.Play.{reading, FrameBench, acted}
 use Rattle.timed_frames.specs.Schedules.{passed}
 use Rattle.timed_frames.specs.declared.Mode.{Mode}
-use Rattle.agree.specs.Drawings.{flat, Item, up, down, tell, plan}
-use Rattle.agree.specs.Reports.{report, seenAs, shared, asOne, isCounted, isEnd, watched, levelled}
+use Rattle.agree.specs.Drawings.{Happening, event, gone, flat, Item, up, down, tell, plan}
+use Rattle.agree.specs.Reports.{cutPins, report, seenAs, shared, asOne, isCounted, isEnd, watched, levelled}
 use Rattle.agree.proofs.Facts.{leb-min}
 use Rattle.agree.proofs.Ticks.{risenIn, fallenIn, shows, seenOf}
 use Rattle.agree.proofs.Steps.{midByte, Course, afterBytes, drives, drives-bytes, bytesSeen, step-first, step-more}
@@ -232,11 +231,12 @@ map-append : {A B : Type 0} (g : A → B) (xs ys : List A) → map g (xs ++ ys) 
 map-append g [] ys = refl
 map-append g (x ∷ xs) ys = ap (λ l. g x ∷ l) (map-append g xs ys)
 
-pub bits-of-levels : (P : Part) (es : List Event) (seen : List Level) (b : PinBench)
+pub bits-of-levels : (P : Part) (es : List Happening) (seen : List Level) (b : PinBench)
     → watched asOne P es (map asOne seen) b ≡ seenAs asOne (watched (λ l. l) P es seen b)
 unfolding watched
 bits-of-levels P [] seen b = refl
-bits-of-levels P (e ∷ es) seen b = both (isEnd e (b .device)) (isCounted e (b .device)) (λ s. bits-of-levels P es s (next P e b))
+bits-of-levels P (gone h ∷ es) seen b = bits-of-levels P es [] (cutPins P h b)
+bits-of-levels P (event e ∷ es) seen b = both (isEnd e (b .device)) (isCounted e (b .device)) (λ s. bits-of-levels P es s (next P e b))
   where
     y : PinBench
     y = next P e b

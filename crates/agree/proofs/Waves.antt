@@ -13,7 +13,9 @@ use Rattle.chip.proofs.Within.{Within}
 use Rattle.chip.proofs.Passing.{timed-length}
 use Rattle.chip.proofs.Recounts.{timed-in-within}
 use Rattle.frames.specs.Play.{FrameBench}
-use Rattle.timed_theorems.specs.Acts.{TimedAct, send, reading, actedInTime}
+use Rattle.cuts.specs.declared.Choice.{Choice}
+use Rattle.cuts.proofs.Leaves.{cut-within, cut-length}
+use Rattle.timed_theorems.specs.Acts.{TimedAct, send, reading, cutBench, actedInTime}
 use Rattle.timed_frames.specs.declared.Mode.{Mode}
 use Rattle.timed_frames.specs.declared.Mode.the-variants as mode
 use Rattle.edges.specs.declared.Frame.{Frame}
@@ -25,8 +27,9 @@ use Rattle.edges.specs.Frames.{noFrame}
 use Rattle.pins.specs.Devices.{pinsAt, withPins, withHeld, withFrame, withCore, q}
 use Rattle.pins.specs.Events.{onS, onC, onD, onW, onHold, onTime}
 use Rattle.pins.specs.Answers.{PinBench, pinBench}
+use Rattle.agree.specs.Drawings.{Happening, _▸_}
 use Rattle.agree.specs.Drawings.{Item, Phase, between, inside, paused, sOf, cOf, holdOf, stays, Sendable, readingsAt, plan, Wave, data′, stay′, end′}
-use Rattle.agree.specs.Drawings.{clock′, protect′, reading′, select′, rise′, fall′, time′, deselect′, hold′, idle′, resume′}
+use Rattle.agree.specs.Drawings.{clock′, protect′, reading′, cut′, select′, rise′, fall′, time′, deselect′, hold′, idle′, resume′}
 use Rattle.agree.specs.Reports.{Note, Report, report, watched, framesPlayed}
 use Rattle.agree.proofs.Ticks.{risenIn, fallenIn, shows, seenOf, endOf, metOf, decidesAt, decides, decidedIn}
 
@@ -54,6 +57,14 @@ read-ready P t b k =
       identification = timed-length waitsIdentification P t (b .core) (b .identification) ∙ k .identification;
     }
 
+pub cut-ready : (P : Part) (h : Choice) (b : FrameBench) → Ready P b → Ready P (cutBench P h b)
+cut-ready P h b k =
+    record {
+      within = cut-within P h (b .core) (b .memory) (k .within);
+      memory = cut-length P h (b .core) waitsPage (b .memory) ∙ k .memory;
+      identification = cut-length P h (b .core) waitsIdentification (b .identification) ∙ k .identification;
+    }
+
 module _ {A : Type 0} (look : Level → A) (note : Note A) (P : Part) (x : Device) where
   -- a frame's report, and then the acts
   pub reportThen : List TimedAct → List A → FrameBench → List (Report A)
@@ -68,7 +79,7 @@ module _ {A : Type 0} (look : Level → A) (note : Note A) (P : Part) (x : Devic
   planThen is ks w f b seen = reportThen ks (seen ++ seenOf look P is f b) (leftOf is w f b)
 
   -- what a drawing comes to, from each phase. That the frame leaves a bench ready is said of its end, so that no edge and no reading of it moves that
-  abbrev pub Says : Phase → Bool → Bool → List Item → List TimedAct → List Event → Type 0
+  abbrev pub Says : Phase → Bool → Bool → List Item → List TimedAct → List Happening → Type 0
   Says (between l) d w is ks es =
       (f : Frame) (b : FrameBench) → Ready P b → watched look P es [] (standingIn x (between l) d w f b) ≡ framesPlayed note P ks b
   Says (inside l) d w is ks es =
@@ -80,24 +91,24 @@ module _ {A : Type 0} (look : Level → A) (note : Note A) (P : Part) (x : Devic
 
   -- ---- setting a pin to the level that it has
 
-  stay-s : (a s c d w h z : Bool) (f : Frame) (b : FrameBench) (es : List Event) (seen : List A) → T (Bool·beq a s)
-      → watched look P (S a ∷ es) seen (standing x s c d w h z f b) ≡ watched look P es seen (standing x s c d w h z f b)
+  stay-s : (a s c d w h z : Bool) (f : Frame) (b : FrameBench) (es : List Happening) (seen : List A) → T (Bool·beq a s)
+      → watched look P (S a ▸ es) seen (standing x s c d w h z f b) ≡ watched look P es seen (standing x s c d w h z f b)
   unfolding watched onS pick
   stay-s true true c d w h z f b es seen t = refl
   stay-s true false c d w h z f b es seen t = absurd t
   stay-s false true c d w h z f b es seen t = absurd t
   stay-s false false c d w h z f b es seen t = refl
 
-  stay-c : (a s c d w h z : Bool) (f : Frame) (b : FrameBench) (es : List Event) (seen : List A) → T (Bool·beq a c)
-      → watched look P (C a ∷ es) seen (standing x s c d w h z f b) ≡ watched look P es seen (standing x s c d w h z f b)
+  stay-c : (a s c d w h z : Bool) (f : Frame) (b : FrameBench) (es : List Happening) (seen : List A) → T (Bool·beq a c)
+      → watched look P (C a ▸ es) seen (standing x s c d w h z f b) ≡ watched look P es seen (standing x s c d w h z f b)
   unfolding watched onC pick
   stay-c true s true d w h z f b es seen t = refl
   stay-c true s false d w h z f b es seen t = absurd t
   stay-c false s true d w h z f b es seen t = absurd t
   stay-c false s false d w h z f b es seen t = refl
 
-  stay-w : (a s c d w h z : Bool) (f : Frame) (b : FrameBench) (es : List Event) (seen : List A) → T (Bool·beq a w)
-      → watched look P (W a ∷ es) seen (standing x s c d w h z f b) ≡ watched look P es seen (standing x s c d w h z f b)
+  stay-w : (a s c d w h z : Bool) (f : Frame) (b : FrameBench) (es : List Happening) (seen : List A) → T (Bool·beq a w)
+      → watched look P (W a ▸ es) seen (standing x s c d w h z f b) ≡ watched look P es seen (standing x s c d w h z f b)
   unfolding watched onW
   stay-w true s c d true h z f b es seen t = refl
   stay-w true s c d false h z f b es seen t = absurd t
@@ -105,8 +116,8 @@ module _ {A : Type 0} (look : Level → A) (note : Note A) (P : Part) (x : Devic
   stay-w false s c d false h z f b es seen t = refl
 
   -- HOLD: held follows it, and does so already
-  stay-hold : (p : Phase) (a d w : Bool) (f : Frame) (b : FrameBench) (es : List Event) (seen : List A) → T (Bool·beq a (holdOf p))
-      → watched look P (Hold a ∷ es) seen (standingIn x p d w f b) ≡ watched look P es seen (standingIn x p d w f b)
+  stay-hold : (p : Phase) (a d w : Bool) (f : Frame) (b : FrameBench) (es : List Happening) (seen : List A) → T (Bool·beq a (holdOf p))
+      → watched look P (Hold a ▸ es) seen (standingIn x p d w f b) ≡ watched look P es seen (standingIn x p d w f b)
   unfolding watched onHold pick
   stay-hold (between true) true d w f b es seen t = refl
   stay-hold (between false) true d w f b es seen t = refl
@@ -118,8 +129,8 @@ module _ {A : Type 0} (look : Level → A) (note : Note A) (P : Part) (x : Devic
   stay-hold (paused true) false d w f b es seen t = refl
   stay-hold (paused false) false d w f b es seen t = refl
 
-  stay : (p : Phase) (w : Bool) (e : Event) → T (stays p w e) → (d : Bool) (f : Frame) (b : FrameBench) (es : List Event) (seen : List A)
-      → watched look P (e ∷ es) seen (standingIn x p d w f b) ≡ watched look P es seen (standingIn x p d w f b)
+  stay : (p : Phase) (w : Bool) (e : Event) → T (stays p w e) → (d : Bool) (f : Frame) (b : FrameBench) (es : List Happening) (seen : List A)
+      → watched look P (e ▸ es) seen (standingIn x p d w f b) ≡ watched look P es seen (standingIn x p d w f b)
   stay p w (S a) t d f b es seen = stay-s a (sOf p) (cOf p) d w (holdOf p) (not (holdOf p)) f b es seen t
   stay p w (C a) t d f b es seen = stay-c a (sOf p) (cOf p) d w (holdOf p) (not (holdOf p)) f b es seen t
   stay p w (D a) t d f b es seen = absurd t
@@ -138,7 +149,7 @@ module _ {A : Type 0} (look : Level → A) (note : Note A) (P : Part) (x : Devic
       (seenOf look P is noFrame b ≡ note P b w o s n ps ts) × ((leftOf is w noFrame b ≡ y) × Ready P y)
 
   module _ (each-frame : EachFrame) where
-    pub says : {p : Phase} {d w : Bool} {is : List Item} {ks : List TimedAct} {es : List Event} → Wave P p d w is ks es → Says p d w is ks es
+    pub says : {p : Phase} {d w : Bool} {is : List Item} {ks : List TimedAct} {es : List Happening} → Wave P p d w is ks es → Says p d w is ks es
     unfolding watched onS onC onD onW onHold onTime q shows planThen reportThen framesPlayed seenOf endOf metOf decides decidesAt pick
     says (data′ {p = between l} d′ r) = λ f b k. says r f b k
     says (data′ {p = inside l} d′ r) = λ f b seen k. says r f b seen k
@@ -153,6 +164,7 @@ module _ {A : Type 0} (look : Level → A) (note : Note A) (P : Part) (x : Devic
     says (clock′ {l = true} true r) = λ f b k. says r f b k
     says (protect′ v r) = λ f b k. says r f b k
     says (reading′ t r) = λ f b k. says r f (actedInTime P (reading t) b) (read-ready P t b k)
+    says (cut′ h r) = λ f b k. says r noFrame (cutBench P h b) (cut-ready P h b k)
     says (select′ {w = w} {ks = ks} mode.Zero s n ps ts h r) = λ f b k.
         let z = each-frame w mode.Zero s n ps ts b k h in
         says r noFrame b [] (subst (Ready P) (sym (z .1 .0)) (z .1 .1)) ∙ ap₂ (reportThen ks) (z .0) (z .1 .0)

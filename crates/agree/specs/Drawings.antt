@@ -1,5 +1,5 @@
 -- Drawings as pin changes of a list of frames, each with its level of Write Protect, its mode and its readings inside,
--- and of clock readings between frames.
+-- and of clock readings and supply cuts between frames.
 use Prim.Native.Nat.{ℕ, zero, suc, _<_, _≤_}
 use mathlib.Core.Bool.{Bool, true, false, Bool·beq}
 use mathlib.Core.List.{List, [], _∷_, _++_}
@@ -13,7 +13,8 @@ use Rattle.fields.specs.Counts.{bitsFit, longestFrame}
 use Rattle.pins.specs.declared.Event.{Event}
 use Rattle.pins.specs.declared.Event.the-variants.{S, C, D, W, Hold, Time}
 use Rattle.timed_frames.specs.Schedules.{placesFit}
-use Rattle.timed_theorems.specs.Acts.{TimedAct, send, reading}
+use Rattle.timed_theorems.specs.Acts.{TimedAct, send, reading, cut}
+use Rattle.cuts.specs.declared.Choice.{Choice}
 use Rattle.timed_frames.specs.declared.Mode.{Mode}
 use Rattle.timed_frames.specs.declared.Mode.the-variants as mode
 
@@ -81,6 +82,16 @@ plan o times j (v ∷ vs) n = tells (times j) (pulses o 8 v n (plan o times (suc
 
 -- ---- drawings
 
+-- what a bench does to the pin model: an event, or a supply cut
+pub data Happening : Type 0 where
+  event : Event → Happening
+  gone : Choice → Happening
+
+-- an event, and then
+infixr 67 _▸_
+abbrev pub _▸_ : Event → List Happening → List Happening
+e ▸ es = event e ∷ es
+
 -- where a drawing stands, with the level of C: between frames, in a frame, in a pause of one
 pub data Phase : Type 0 where
   between : Bool → Phase
@@ -116,38 +127,40 @@ stays p w (Time t) = false
 -- events es draw the rest of that frame and then the acts ks. A frame carries its level of Write Protect: W stands at
 -- it at select. A list of frames and readings with levels of Write Protect between them is thus a list of acts: each
 -- frame carries the last level before it, or the level of W at the start.
-pub data Wave (P : Part) : Phase → Bool → Bool → List Item → List TimedAct → List Event → Type 0 where
+pub data Wave (P : Part) : Phase → Bool → Bool → List Item → List TimedAct → List Happening → Type 0 where
   -- D may change at any time
-  data′ : {p : Phase} {d w : Bool} {is : List Item} {ks : List TimedAct} {es : List Event} (d′ : Bool)
-      → Wave P p d′ w is ks es → Wave P p d w is ks (D d′ ∷ es)
+  data′ : {p : Phase} {d w : Bool} {is : List Item} {ks : List TimedAct} {es : List Happening} (d′ : Bool)
+      → Wave P p d′ w is ks es → Wave P p d w is ks (D d′ ▸ es)
   -- setting a pin to the level that it has changes nothing
-  stay′ : {p : Phase} {d w : Bool} {is : List Item} {ks : List TimedAct} {es : List Event} (e : Event)
-      → T (stays p w e) → Wave P p d w is ks es → Wave P p d w is ks (e ∷ es)
-  -- between frames: moves of C and of W, which are no acts; readings; select
+  stay′ : {p : Phase} {d w : Bool} {is : List Item} {ks : List TimedAct} {es : List Happening} (e : Event)
+      → T (stays p w e) → Wave P p d w is ks es → Wave P p d w is ks (e ▸ es)
+  -- between frames: moves of C and of W, which are no acts; readings; cuts, after which the pins are at rest; select
   end′ : {l d w : Bool} → Wave P (between l) d w [] [] []
-  clock′ : {l d w : Bool} {ks : List TimedAct} {es : List Event} (l′ : Bool)
-      → Wave P (between l′) d w [] ks es → Wave P (between l) d w [] ks (C l′ ∷ es)
-  protect′ : {l d w : Bool} {ks : List TimedAct} {es : List Event} (w′ : Bool)
-      → Wave P (between l) d w′ [] ks es → Wave P (between l) d w [] ks (W w′ ∷ es)
-  reading′ : {l d w : Bool} {ks : List TimedAct} {es : List Event} (t : ℕ)
-      → Wave P (between l) d w [] ks es → Wave P (between l) d w [] (reading t ∷ ks) (Time t ∷ es)
-  select′ : {d w : Bool} {ks : List TimedAct} {es : List Event} (o : Mode) (s : List ℕ) (n : ℕ) (ps ts : List ℕ)
+  clock′ : {l d w : Bool} {ks : List TimedAct} {es : List Happening} (l′ : Bool)
+      → Wave P (between l′) d w [] ks es → Wave P (between l) d w [] ks (C l′ ▸ es)
+  protect′ : {l d w : Bool} {ks : List TimedAct} {es : List Happening} (w′ : Bool)
+      → Wave P (between l) d w′ [] ks es → Wave P (between l) d w [] ks (W w′ ▸ es)
+  reading′ : {l d w : Bool} {ks : List TimedAct} {es : List Happening} (t : ℕ)
+      → Wave P (between l) d w [] ks es → Wave P (between l) d w [] (reading t ∷ ks) (Time t ▸ es)
+  cut′ : {l d w : Bool} {ks : List TimedAct} {es : List Happening} (h : Choice)
+      → Wave P (between false) false true [] ks es → Wave P (between l) d w [] (cut h ∷ ks) (gone h ∷ es)
+  select′ : {d w : Bool} {ks : List TimedAct} {es : List Happening} (o : Mode) (s : List ℕ) (n : ℕ) (ps ts : List ℕ)
       → Sendable P s n ps ts
       → Wave P (inside (rest o)) d w (plan o (readingsAt ps ts) 0 s n) ks es
-      → Wave P (between (rest o)) d w [] (send w o s n ps ts ∷ ks) (S false ∷ es)
+      → Wave P (between (rest o)) d w [] (send w o s n ps ts ∷ ks) (S false ▸ es)
   -- in a frame, as planned: a rising edge takes the bit on D. When all is done C is back at rest
-  rise′ : {d w : Bool} {is : List Item} {ks : List TimedAct} {es : List Event}
-      → Wave P (inside true) d w is ks es → Wave P (inside false) d w (up d ∷ is) ks (C true ∷ es)
-  fall′ : {d w : Bool} {is : List Item} {ks : List TimedAct} {es : List Event}
-      → Wave P (inside false) d w is ks es → Wave P (inside true) d w (down ∷ is) ks (C false ∷ es)
-  time′ : {l d w : Bool} {is : List Item} {ks : List TimedAct} {es : List Event} (t : ℕ)
-      → Wave P (inside l) d w is ks es → Wave P (inside l) d w (tell t ∷ is) ks (Time t ∷ es)
-  deselect′ : {l d w : Bool} {ks : List TimedAct} {es : List Event}
-      → Wave P (between l) d w [] ks es → Wave P (inside l) d w [] ks (S true ∷ es)
+  rise′ : {d w : Bool} {is : List Item} {ks : List TimedAct} {es : List Happening}
+      → Wave P (inside true) d w is ks es → Wave P (inside false) d w (up d ∷ is) ks (C true ▸ es)
+  fall′ : {d w : Bool} {is : List Item} {ks : List TimedAct} {es : List Happening}
+      → Wave P (inside false) d w is ks es → Wave P (inside true) d w (down ∷ is) ks (C false ▸ es)
+  time′ : {l d w : Bool} {is : List Item} {ks : List TimedAct} {es : List Happening} (t : ℕ)
+      → Wave P (inside l) d w is ks es → Wave P (inside l) d w (tell t ∷ is) ks (Time t ▸ es)
+  deselect′ : {l d w : Bool} {ks : List TimedAct} {es : List Happening}
+      → Wave P (between l) d w [] ks es → Wave P (inside l) d w [] ks (S true ▸ es)
   -- a pause begins and ends with C low; C may move meanwhile, the clock is not read
-  hold′ : {d w : Bool} {is : List Item} {ks : List TimedAct} {es : List Event}
-      → Wave P (paused false) d w is ks es → Wave P (inside false) d w is ks (Hold false ∷ es)
-  idle′ : {l d w : Bool} {is : List Item} {ks : List TimedAct} {es : List Event} (l′ : Bool)
-      → Wave P (paused l′) d w is ks es → Wave P (paused l) d w is ks (C l′ ∷ es)
-  resume′ : {d w : Bool} {is : List Item} {ks : List TimedAct} {es : List Event}
-      → Wave P (inside false) d w is ks es → Wave P (paused false) d w is ks (Hold true ∷ es)
+  hold′ : {d w : Bool} {is : List Item} {ks : List TimedAct} {es : List Happening}
+      → Wave P (paused false) d w is ks es → Wave P (inside false) d w is ks (Hold false ▸ es)
+  idle′ : {l d w : Bool} {is : List Item} {ks : List TimedAct} {es : List Happening} (l′ : Bool)
+      → Wave P (paused l′) d w is ks es → Wave P (paused l) d w is ks (C l′ ▸ es)
+  resume′ : {d w : Bool} {is : List Item} {ks : List TimedAct} {es : List Happening}
+      → Wave P (inside false) d w is ks es → Wave P (paused false) d w is ks (Hold true ▸ es)

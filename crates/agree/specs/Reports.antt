@@ -10,7 +10,9 @@ use Rattle.codes.specs.Status.{on}
 use Rattle.chip.specs.Lents.{Lent, lent}
 use Rattle.frames.specs.Answers.{frameReplyUndriven}
 use Rattle.frames.specs.Play.{FrameBench, frameBench}
-use Rattle.timed_theorems.specs.Acts.{TimedAct, send, reading, actedInTime}
+use Rattle.timed_theorems.specs.Acts.{TimedAct, send, reading, cut, cutBench, actedInTime}
+use Rattle.cuts.specs.Cuts.{cutMemory, cutIdentification}
+use Rattle.cuts.specs.declared.Choice.{Choice}
 use Rattle.timed_frames.specs.Answers.{framedInTime, outputInTime}
 use Rattle.timed_frames.specs.declared.Mode.{Mode}
 use Rattle.pins.specs.declared.Device.{Device}
@@ -20,8 +22,8 @@ use Rattle.edges.specs.declared.Level.{Level}
 use Rattle.edges.specs.declared.Level.the-variants.{Zero, One, Z}
 use Rattle.pins.specs.Devices.{selected, counting, q}
 use Rattle.pins.specs.Ranges.{deviceFits}
-use Rattle.pins.specs.Answers.{PinBench, next}
-use Rattle.agree.specs.Drawings.{bitsOf, Wave, between}
+use Rattle.pins.specs.Answers.{PinBench, pinBench, next, cutDevice}
+use Rattle.agree.specs.Drawings.{bitsOf, Happening, event, gone, Wave, between}
 
 -- after each frame: what was seen at its counted clocks (bits, or levels), and the bench that it leaves: the record
 -- (part, lock, status, time left, what waits), the memory and the identification page
@@ -66,10 +68,18 @@ isEnd (W b) x = false
 isEnd (Hold b) x = false
 isEnd (Time t) x = false
 
--- look: what is noted of a level; seen: what was noted at the counted clocks since the frame began
-unfoldable pub watched : {A : Type 0} → (Level → A) → Part → List Event → List A → PinBench → List (Report A)
+-- a supply cut of a bench of the pin model
+abbrev pub cutPins : Part → Choice → PinBench → PinBench
+cutPins P h b =
+    pinBench (cutDevice P h (b .memory) (b .device)) (cutMemory P h (b .device .core) (b .memory))
+    (cutIdentification P h (b .device .core) (b .identification))
+
+-- look: what is noted of a level; seen: what was noted at the counted clocks since the frame began. A cut drops a frame
+-- in hand, and what was noted of it
+unfoldable pub watched : {A : Type 0} → (Level → A) → Part → List Happening → List A → PinBench → List (Report A)
 watched look P [] seen b = []
-watched look P (e ∷ es) seen b =
+watched look P (gone h ∷ es) seen b = watched look P es [] (cutPins P h b)
+watched look P (event e ∷ es) seen b =
     let x = b .device in
     let y = next P e b in
     cond (isEnd e x) (report seen (shared y) ∷ []) []
@@ -109,6 +119,7 @@ framesPlayed note P (send w o s n ps ts ∷ ks) b =
     let y = actedInTime P (send w o s n ps ts) b in
     report (note P b w o s n ps ts) y ∷ framesPlayed note P ks y
 framesPlayed note P (reading t ∷ ks) b = framesPlayed note P ks (actedInTime P (reading t) b)
+framesPlayed note P (cut h ∷ ks) b = framesPlayed note P ks (cutBench P h b)
 
 -- ---- demand 3
 
@@ -124,7 +135,7 @@ pub record Unselected (P : Part) (b : PinBench) : Type 0 where
 -- same of both models
 unfoldable pub SameSeen : {A : Type 0} → (Level → A) → Note A → Part → Type 0
 SameSeen look note P =
-    (b : PinBench) (ks : List TimedAct) (es : List Event) → Unselected P b
+    (b : PinBench) (ks : List TimedAct) (es : List Happening) → Unselected P b
     → Wave P (between (on (b .device .pins .c))) (on (b .device .pins .d)) (on (b .device .pins .w)) [] ks es
     → watched look P es [] b ≡ framesPlayed note P ks (shared b)
 

@@ -36,6 +36,10 @@ use Rattle.bench.proofs.device_calls.cartvesper_device_touched.Reads as
 use Rattle.bench.proofs.device_calls.cartvesper_device_status.Kinds as device-status
 use Rattle.bench.proofs.device_calls.cartvesper_device_status.Reads as device-status-reads
 use Rattle.bench.proofs.core_calls.cartvesper_clock_reading.Kinds as clock-reading
+use Rattle.bench.proofs.cut_calls.cartvesper_cut.Kinds as cut
+use Rattle.bench.proofs.cut_calls.cartvesper_cut.Reads as cut-reads
+use Rattle.bench.proofs.cut_calls.cartvesper_device_cut.Kinds as device-cut
+use Rattle.bench.proofs.cut_calls.cartvesper_device_cut.Reads as device-cut-reads
 use Rattle.bench.proofs.core_calls.cartvesper_clock_reading.Reads as clock-reading-reads
 use Rattle.bench.proofs.frame_call.cartvesper_frame.Kinds as frame
 use Rattle.bench.proofs.frame_call.cartvesper_frame.Reads as frame-reads
@@ -120,6 +124,15 @@ clock-reading-memory κs a z z′ e e′ p q = same (p .1 .0) (q .1 .0)
 pub clock-reading-identification : OneExit clock-reading.ps clock-reading.r clock-reading-reads.Post (λ κs e. now (e .1 .1 .1 .0))
 clock-reading-identification κs a z z′ e e′ p q = same (p .1 .1) (q .1 .1)
 
+pub cut-one : OneResult cut.ps cut.r cut-reads.Post
+cut-one κs a z z′ e e′ p q = same (p .0) (q .0)
+
+pub cut-memory : OneExit cut.ps cut.r cut-reads.Post (λ κs e. now (e .1 .1 .0))
+cut-memory κs a z z′ e e′ p q = same (p .1 .0) (q .1 .0)
+
+pub cut-identification : OneExit cut.ps cut.r cut-reads.Post (λ κs e. now (e .1 .1 .1 .0))
+cut-identification κs a z z′ e e′ p q = same (p .1 .1) (q .1 .1)
+
 pub frame-one : OneResult frame.ps frame.r frame-reads.Post
 frame-one κs a z z′ e e′ p q = same (p .0) (q .0)
 
@@ -146,6 +159,15 @@ device-read-clock-memory κs a z z′ e e′ p q = same (p .1 .0) (q .1 .0)
 
 pub device-read-clock-identification : OneExit device-read-clock.ps device-read-clock.r device-read-clock-reads.Post (λ κs e. now (e .1 .1 .1 .0))
 device-read-clock-identification κs a z z′ e e′ p q = same (p .1 .1) (q .1 .1)
+
+pub device-cut-one : OneResult device-cut.ps device-cut.r device-cut-reads.Post
+device-cut-one κs a z z′ e e′ p q = same (p .0) (q .0)
+
+pub device-cut-memory : OneExit device-cut.ps device-cut.r device-cut-reads.Post (λ κs e. now (e .1 .1 .0))
+device-cut-memory κs a z z′ e e′ p q = same (p .1 .0) (q .1 .0)
+
+pub device-cut-identification : OneExit device-cut.ps device-cut.r device-cut-reads.Post (λ κs e. now (e .1 .1 .1 .0))
+device-cut-identification κs a z z′ e e′ p q = same (p .1 .1) (q .1 .1)
 
 pub device-play-one : OneResult device-play.ps device-play.r device-play-reads.Post
 device-play-one κs a z z′ e e′ p q = same (p .0) (q .0)

@@ -17,6 +17,8 @@ use Rattle.chip.specs.Questions.{lowestNumber, lowestValue, questionNumber, que
 use Rattle.chip.specs.Power.{unpowered, poweredUp, powerUpNumber}
 use Rattle.chip.specs.Time.{lentFits, readingNumber, clockReading}
 use Rattle.chip.specs.declared.Core.{Core}
+use Rattle.cuts.specs.Cuts.{cutAnswer}
+use Rattle.cuts.specs.declared.Choice.{Choice}
 use Rattle.bench.specs.declared.CoreAnswer.{CoreAnswer}
 use Rattle.bench.specs.declared.LatchAnswer.{LatchAnswer}
 use Rattle.frames.specs.Answers.{framed, framedOutput, frameReplyNumber, frameReplyUndriven}
@@ -29,7 +31,7 @@ use Rattle.pins.specs.Devices.{resting}
 use Rattle.pins.specs.Ranges.{deviceFits}
 use Rattle.pins.specs.Events.{onTime}
 use Rattle.pins.specs.Answers.{answer, recordOutcome, recordNumber, memoryOutcome, memoryNumber, qAsked, statusAsked}
-use Rattle.pins.specs.Answers.{powered}
+use Rattle.pins.specs.Answers.{powered, cutDevice}
 use Rattle.lists.specs.Answers.{playAnswer, playNumber}
 use Rattle.bench.specs.declared.FrameAnswer.{FrameAnswer}
 use Rattle.bench.specs.declared.DeviceAnswer.{DeviceAnswer}
@@ -61,6 +63,9 @@ powerUpCall part k cycle s b a t m =
 
 abbrev pub readingCall : Part → Core → ℕ → List ℕ → List ℕ → CoreAnswer
 readingCall P c t m d = coreAnswer (readingNumber P c m d) (clockReading P t c m d .core)
+
+abbrev pub cutCall : Part → Choice → Core → List ℕ → List ℕ → CoreAnswer
+cutCall P h c m d = coreAnswer (readingNumber P c m d) (cutAnswer P h c m d .core)
 
 abbrev pub inRangesCall : Part → Core → Value
 inRangesCall P c = pick (inRanges P c) (valueAnswer 0 1) (valueAnswer 2 0)
@@ -148,6 +153,10 @@ abbrev pub deviceReadingCall : Part → Device → ℕ → Lent → DeviceAnswer
 deviceReadingCall P x t m =
     deviceAnswer (memoryNumber P x m)
     (answer (memoryOutcome P x m) (onTime P t (m .memory) x) x .device)
+
+abbrev pub deviceCutCall : Part → Choice → Device → Lent → DeviceAnswer
+deviceCutCall P h x m =
+    deviceAnswer (memoryNumber P x m) (answer (memoryOutcome P x m) (cutDevice P h (m .memory) x) x .device)
 
 abbrev pub qCall : Part → Device → Value
 qCall P x = valueAnswer (recordNumber P x) (qAsked P x)

@@ -25,7 +25,7 @@ use pins::Device;
 use pins::Stepped;
 
 // An answer as C has it.
-fn answered(stepped: Stepped) -> DeviceAnswer
+pub(crate) fn answered(stepped: Stepped) -> DeviceAnswer
     ensures { λ r. ⌜ r ≡ deviceAnswer (number (stepped .outcome)) (stepped .device) ⌝ }
 {
     let outcome = stepped.outcome;

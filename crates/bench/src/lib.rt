@@ -1,9 +1,10 @@
-// Both models, the driver, the split, laying and HEX texts for C programs: numbers, records of numbers and lent bytes
-// in, the same out. bench/cartvesper.h documents each call.
+// Both models, supply cuts, the driver, the split, laying and HEX texts for C programs: numbers, records of numbers and
+// lent bytes in, the same out. bench/cartvesper.h documents each call.
 //
 // Each function takes the numbers that C hands over, calls the proved public call and puts its answer together: the
 // record crosses as it is, so nothing is lost on the way. A level or a flag that is not 0 or 1 gets refusal 2.
 mod core_calls;
+mod cut_calls;
 mod device_calls;
 mod driver_call;
 mod frame_call;

@@ -58,6 +58,8 @@ use Rattle.chip.proofs.Core.status.Reads as core-status-reads
 use Rattle.chip.proofs.Core.lock_byte.Kinds as core-lock-byte
 use Rattle.chip.proofs.Core.lock_byte.Reads as core-lock-byte-reads
 use Rattle.chip.proofs.Core.with_time.Kinds as core-with-time
+use Rattle.chip.proofs.Core.without_cycle.Kinds as core-without-cycle
+use Rattle.chip.proofs.Core.without_cycle.Reads as core-without-cycle-reads
 use Rattle.chip.proofs.Core.with_time.Reads as core-with-time-reads
 use Rattle.chip.proofs.Core.ends.Kinds as core-ends
 use Rattle.chip.proofs.Core.ends.Reads as core-ends-reads
@@ -161,6 +163,9 @@ core-lock-byte-one κs a z z′ e e′ p q = same p q
 
 pub core-with-time-one : OneResult core-with-time.ps core-with-time.r core-with-time-reads.Post
 core-with-time-one κs a z z′ e e′ p q = same p q
+
+pub core-without-cycle-one : OneResult core-without-cycle.ps core-without-cycle.r core-without-cycle-reads.Post
+core-without-cycle-one κs a z z′ e e′ p q = same p q
 
 pub core-ends-one : OneResult core-ends.ps core-ends.r core-ends-reads.Post
 core-ends-one κs a z z′ e e′ p q = same p q

@@ -14,8 +14,8 @@ use Rattle.codes.specs.Status.{bitOf}
 use Rattle.latch.specs.Latches.{latchFits, inPage, marked, byteAt, stored}
 use Rattle.chip.specs.Records.{running, nothing, withStatus, withLock, withTime, withoutCycle}
 use Rattle.chip.specs.Records.{waitsStatus, waitsPage, waitsIdentification, waitsLock, waitsLatch}
-use Rattle.chip.specs.Ranges.{flagsFit, pageFits, valueFits}
-use Rattle.chip.specs.Time.{elapsed, ends, endedCells, timed, timedCells, timedMemory, timedIdentification}
+use Rattle.chip.specs.Ranges.{flagsFit, cycleFits, pageFits, valueFits}
+use Rattle.chip.specs.Time.{elapsed, ends, ended, endedCells, timed, timedCells, timedMemory, timedIdentification}
 use Rattle.chip.specs.Cells.{Cells, memoryCells, identificationCells, cellCount, theirs, offset, awaitedBy, awaitedIn, awaited}
 use Rattle.chip.specs.declared.Waiting.{Waiting}
 use Rattle.chip.specs.declared.Core.{Core}
@@ -56,16 +56,37 @@ flags-cleared P c e =
     let s = isPart (c .part) && leb (c .lock) 1 && leb (c .srwd) 1 && leb (c .bp1) 1 && leb (c .bp0) 1 in
     and-both s true (and-left s (leb (c .wel) 1) e) refl
 
+-- ---- a record whose cycle is over
+
+-- what neither a status value nor the lock nor the cycle's end moves
+pub ended-kept : {A : Type 0} (f : Core → A) (c : Core) → ((v : ℕ) → f (withoutCycle (withStatus v c)) ≡ f c) → f (withoutCycle (withLock c)) ≡ f c
+    → f (withoutCycle c) ≡ f c → f (ended c) ≡ f c
+ended-kept f c s k n =
+    pick-case (λ x. f (withoutCycle x) ≡ f c) (waitsStatus (c .waits)) (λ e. s (c .waits .status))
+    (λ e. pick-case (λ x. f (withoutCycle x) ≡ f c) (waitsLock (c .waits)) (λ q. k) (λ q. n))
+
+ended-flags : (P : Part) (c : Core) → flagsFit c ≡ true → flagsFit (ended c) ≡ true
+ended-flags P c f =
+    pick-case (λ x. flagsFit (withoutCycle x) ≡ true) (waitsStatus (c .waits))
+    (λ s. flags-cleared P (withStatus (c .waits .status) c) (flags-status (c .waits .status) c f))
+    (λ s. pick-case (λ x. flagsFit (withoutCycle x) ≡ true) (waitsLock (c .waits)) (λ k. flags-cleared P (withLock c) (flags-locked c f))
+    (λ k. flags-cleared P c f))
+
+-- a record without a cycle is inside its ranges, and so is one whose cycle is over, whatever waited
+pub cleared-within : (P : Part) (c : Core) → flagsFit c ≡ true → cycleFits P (c .cycle) ≡ true → c .blank ≤ P .size → Within P (withoutCycle c)
+cleared-within P c f y b = quiet-within P (withoutCycle c) (flags-cleared P c f) y refl refl b
+
+pub ended-within : (P : Part) (c : Core) → flagsFit c ≡ true → cycleFits P (c .cycle) ≡ true → c .blank ≤ P .size → Within P (ended c)
+ended-within P c f y b =
+    quiet-within P (ended c) (ended-flags P c f) (ap (cycleFits P) (ended-kept (λ x. x .cycle) c (λ v. refl) refl refl) ∙ y) refl refl
+    (omega (arith, b, ended-kept (λ x. x .blank) c (λ v. refl) refl refl))
+
 module _ (P : Part) (t : ℕ) (c : Core) where
   pub timed-within : Within P c → Within P (timed t c)
   unfolding timed
   timed-within w =
       pick-case (Within P) (ends t c)
-      (λ e. pick-case (λ x. Within P (withTime t 0 (withoutCycle x))) (waitsStatus (c .waits))
-      (λ s. quiet-within P _ (flags-cleared P (withStatus (c .waits .status) c) (flags-status (c .waits .status) c (w .flags))) (w .cycle) refl refl (w .blank))
-      (λ s. pick-case (λ x. Within P (withTime t 0 (withoutCycle x))) (waitsLock (c .waits))
-      (λ k. quiet-within P _ (flags-cleared P (withLock c) (flags-locked c (w .flags))) (w .cycle) refl refl (w .blank))
-      (λ k. quiet-within P _ (flags-cleared P c (w .flags)) (w .cycle) refl refl (w .blank))))
+      (λ e. runs-within P (ended c) t 0 (omega arith) (λ h. h) (ended-within P c (w .flags) (w .cycle) (w .blank)))
       (λ e. runs-within P c t (c .left - elapsed (c .last) t) (omega arith) (λ h. left-over h e) w)
     where
       left-over : 0 < c .left → ends t c ≡ false → 0 < c .left - elapsed (c .last) t
@@ -155,12 +176,16 @@ module _ (P : Part) (c : Core) (w : Within P c) where
       let zero : c .waits .page ≡ 0 = eqb-true _ _ (sym (at-no _ _ none) ∙ fits-page) in
       rw zero (omega arith)
 
+  -- whichever cells it waits for
+  pub theirs-inside : (k : Cells) (m : List ℕ) → length m ≡ cellCount k P → theirs k (c .waits) ≡ true → c .waits .page * P .page + P .page ≤ length m
+  theirs-inside memoryCells = page-inside
+  theirs-inside identificationCells = identification-inside
+
 -- the rule for the memory and for the identification page
 module _ (P : Part) (t : ℕ) (c : Core) (w : Within P c) where
   pub lent-rule : (k : Cells) (m : List ℕ) → length m ≡ cellCount k P → (i : ℕ) → i < cellCount k P
       → getD (timedCells (theirs k) P t c m) i 0 ≡ pick (ends t c && awaitedIn k P c i) (byteAt (c .waits .latch) (offset P c i)) (getD m i 0)
-  lent-rule memoryCells m size i h = cells-rule waitsPage P t c m (page-inside P c w m size) i (omega arith)
-  lent-rule identificationCells m long i h = cells-rule waitsIdentification P t c m (identification-inside P c w m long) i (omega arith)
+  lent-rule k m size i h = cells-rule (theirs k) P t c m (theirs-inside P c w k m size) i (omega (arith, size, h))
 
 module _ (P : Part) (t : ℕ) (c : Core) (m : List ℕ) (size : length m ≡ P .size) (w : Within P c) where
   pub cell-rule : (i : ℕ) → i < P .size
@@ -168,14 +193,18 @@ module _ (P : Part) (t : ℕ) (c : Core) (m : List ℕ) (size : length m ≡ P .
   cell-rule i h = lent-rule P t c w memoryCells m size i h
 
 -- .. and for the lock, which is set exactly where a cycle of its own ends, and never opens
+pub ended-lock : (c : Core) → ended c .lock ≡ pick (waitsLock (c .waits)) 1 (c .lock)
+ended-lock c =
+    let its : Core → ℕ = λ x. x .lock in
+    let w = c .waits in
+    pick-ap its (waitsStatus w) (withStatus (w .status) c) (pick (waitsLock w) (withLock c) c)
+    ∙ pick-case (λ (v : ℕ). v ≡ pick (waitsLock w) 1 (c .lock)) (waitsStatus w)
+    (λ s. sym (at-no _ _ (ne-eqb (w .kind) 4 (λ k. omega (arith, k, eqb-true (w .kind) 1 s)))))
+    (λ s. pick-ap its (waitsLock w) (withLock c) c)
+
 pub lock-rule : (P : Part) (t : ℕ) (c : Core) → timed t c .lock ≡ pick (ends t c && waitsLock (c .waits)) 1 (c .lock)
 unfolding timed
 lock-rule P t c =
-    let its : Core → ℕ = λ x. x .lock in
-    let w = c .waits in
-    pick-ap its (ends t c) _ _
-    ∙ pick-cong (ends t c) (c .lock) (λ e. pick-ap its (waitsStatus w) (withStatus (w .status) c) (pick (waitsLock w) (withLock c) c)
-    ∙ pick-case (λ (v : ℕ). v ≡ pick (waitsLock w) 1 (c .lock)) (waitsStatus w)
-    (λ s. sym (at-no _ _ (ne-eqb (w .kind) 4 (λ k. omega (arith, k, eqb-true (w .kind) 1 s)))))
-    (λ s. pick-ap its (waitsLock w) (withLock c) c))
-    ∙ sym (pick-and (ends t c) (waitsLock w) 1 (c .lock))
+    pick-ap (λ (x : Core). x .lock) (ends t c) _ _
+    ∙ pick-cong (ends t c) (c .lock) (λ e. ended-lock c)
+    ∙ sym (pick-and (ends t c) (waitsLock (c .waits)) 1 (c .lock))

@@ -33,12 +33,27 @@ pub renumbered-within : (P : Part) (c : Core) (n : ℕ) → n ≤ P .size → Wi
 renumbered-within P c n h w =
     record { flags = w .flags; cycle = w .cycle; left = w .left; tie = w .tie; waits = w .waits; blank = h }
 
+-- the end of a cycle hands a right number back
+pub ended-counted : (P : Part) (c : Core) (m : List ℕ) → length m ≡ P .size → Counted c m → endedBlank P c m ≡ blanks (endedCells waitsPage P c m)
+ended-counted P c m size right = moved (waitsPage (c .waits)) refl
+  where
+    moved : (b : Bool) → waitsPage (c .waits) ≡ b → endedBlank P c m ≡ blanks (endedCells waitsPage P c m)
+    moved true w =
+        let s : endedCells waitsPage P c m ≡ _ = at-yes _ _ w in
+        let long : length (endedCells waitsPage P c m) ≡ length m = ap length s ∙ stored-length P (c .waits .page) (c .waits .latch) m in
+        at-yes _ _ w ∙ right-recounted m (endedCells waitsPage P c m) long P size (c .blank) right
+    moved false w = at-no _ _ w ∙ right ∙ ap blanks (sym (at-no _ _ w))
+
+-- and no more cells than the memory has
+pub ended-most : (P : Part) (c : Core) (m : List ℕ) → c .blank ≤ P .size → endedBlank P c m ≤ P .size
+ended-most P c m h = pick-case (λ (n : ℕ). n ≤ P .size) (waitsPage (c .waits)) (λ w. held-most (P .size) _) (λ w. h)
+
 module _ (P : Part) (t : ℕ) (c : Core) (m : List ℕ) where
   timed-most : c .blank ≤ P .size → timedBlank P t c m ≤ P .size
   unfolding timedBlank
   timed-most h =
       pick-case (λ (n : ℕ). n ≤ P .size) (ends t c)
-      (λ e. pick-case (λ (n : ℕ). n ≤ P .size) (waitsPage (c .waits)) (λ w. held-most (P .size) _) (λ w. h)) (λ e. h)
+      (λ e. ended-most P c m h) (λ e. h)
 
   pub timed-in-within : Within P c → Within P (timedIn P t c m)
   timed-in-within w = renumbered-within P (timed t c) (timedBlank P t c m) (timed-most (w .blank)) (timed-within P t c w)
@@ -61,15 +76,8 @@ module _ (P : Part) (t : ℕ) (c : Core) (m : List ℕ) where
   unfolding timedBlank timedCells
   timed-counted size right = go (ends t c) refl
     where
-      moved : (b : Bool) → waitsPage (c .waits) ≡ b → endedBlank P c m ≡ blanks (endedCells waitsPage P c m)
-      moved true w =
-          let s : endedCells waitsPage P c m ≡ _ = at-yes _ _ w in
-          let long : length (endedCells waitsPage P c m) ≡ length m = ap length s ∙ stored-length P (c .waits .page) (c .waits .latch) m in
-          at-yes _ _ w ∙ right-recounted m (endedCells waitsPage P c m) long P size (c .blank) right
-      moved false w = at-no _ _ w ∙ right ∙ ap blanks (sym (at-no _ _ w))
-
       go : (b : Bool) → ends t c ≡ b → pick (ends t c) (endedBlank P c m) (c .blank) ≡ blanks (pick (ends t c) (endedCells waitsPage P c m) m)
-      go true e = at-yes _ _ e ∙ moved (waitsPage (c .waits)) refl ∙ ap blanks (sym (at-yes _ _ e))
+      go true e = at-yes _ _ e ∙ ended-counted P c m size right ∙ ap blanks (sym (at-yes _ _ e))
       go false e = at-no _ _ e ∙ right ∙ ap blanks (sym (at-no _ _ e))
 
 -- ---- instructions leave it
@@ -99,7 +107,7 @@ effect-renumbered P Rdid a v l c n = refl
 effect-renumbered P Wrid a v l c n = refl
 effect-renumbered P Silence a v l c n = refl
 
-ended-renumbered : (c : Core) (n : ℕ) → ended (withBlank n c) ≡ withBlank n (ended c)
+pub ended-renumbered : (c : Core) (n : ℕ) → ended (withBlank n c) ≡ withBlank n (ended c)
 ended-renumbered c n =
     let f : Core → Core = λ (x : Core). withoutCycle x in
     let s = waitsStatus (c .waits) in

@@ -49,6 +49,10 @@ identificationWaits l = record { kind = 3; status = 0; page = 0; latch = l }
 abbrev pub lockWaits : Waiting
 lockWaits = record { kind = 4; status = 0; page = 0; latch = noLatch }
 
+-- the same thing waits, with another value or other latched bytes
+abbrev pub waitsWith : ℕ → Latch → Waiting → Waiting
+waitsWith v l w = record { kind = w .kind; status = v; page = w .page; latch = l }
+
 -- ---- what a core says
 
 -- the row of its part
@@ -164,6 +168,23 @@ withCycle w c =
       wel = c .wel;
       cycle = c .cycle;
       left = c .cycle;
+      last = c .last;
+      blank = c .blank;
+      waits = w;
+    }
+
+-- something else waits for the end of the cycle
+abbrev pub withWaits : Waiting → Core → Core
+withWaits w c =
+    record {
+      part = c .part;
+      lock = c .lock;
+      srwd = c .srwd;
+      bp1 = c .bp1;
+      bp0 = c .bp0;
+      wel = c .wel;
+      cycle = c .cycle;
+      left = c .left;
       last = c .last;
       blank = c .blank;
       waits = w;

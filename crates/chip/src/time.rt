@@ -79,7 +79,8 @@ impl Core {
         self
     }
 
-    fn without_cycle(mut self) -> Core
+    // The cycle is over: WEL 0, no time left, nothing waits.
+    pub fn without_cycle(mut self) -> Core
         ensures { λ r. ⌜ r ≡ withoutCycle self ⌝ }
     {
         let waits = Waiting::nothing();

@@ -18,6 +18,7 @@ use Rattle.codes.proofs.Sound.{Sound}
 use Rattle.chip.specs.Records.{running}
 use Rattle.chip.specs.declared.Core.{Core}
 use Rattle.frames.specs.Play.{FrameBench, frameBench, actedAll}
+use Rattle.sequence.specs.Ready.{Ready}
 use Rattle.sequence.specs.Sequence.{Ending, allDone, timedOut, protected, Run, run}
 use Rattle.driver.specs.Answers.{endingAnswer, runReply, driveOutcome, driven, drivenMemory, drivenIdentification}
 use Rattle.driver.specs.declared.Sent.{Sent}
@@ -87,7 +88,7 @@ module _ (P : Part) (sound : Sound P) (a : ℕ) (bytes : List ℕ) where
     is-done = ap isDone (says .0)
 
     -- no data: the memory and the identification page as they were
-    none-left : length bytes ≡ 0 → drivenMemory P c m page a bytes i limit ≡ m
+    pub none-left : length bytes ≡ 0 → drivenMemory P c m page a bytes i limit ≡ m
     unfolding drivenMemory
     none-left e =
         ap (λ (r : Run). pick (isDone found) (actedAll P (r .acts) (frameBench c m page) .memory) m) (run-none P i limit a bytes (frameBench c m page) e)
@@ -100,11 +101,15 @@ module _ (P : Part) (sound : Sound P) (a : ℕ) (bytes : List ℕ) where
         (run-none P i limit a bytes (frameBench c m page) e)
         ∙ pick-same (isDone found) page
 
+    -- it was not refused
+    pub begun : Ready P (frameBench c m page)
+    begun = taken P c m page a (length bytes) i limit {o = found} refl (says .0) .ready
+
     given : c .last < 2 ^ 32 → 0 < length bytes → Given P i limit a bytes (frameBench c m page)
     given low some =
         let t = taken P c m page a (length bytes) i limit {o = found} refl (says .0) in
         record {
-          ready = t .ready;
+          ready = begun;
           low = low;
           interval-some = t .interval-some;
           interval-most = t .interval-most;
@@ -115,7 +120,7 @@ module _ (P : Part) (sound : Sound P) (a : ℕ) (bytes : List ℕ) where
 
     -- data: the bytes in their cells, over what a running cycle leaves; the identification page as that leaves it; and no cycle
     module _ (low : c .last < 2 ^ 32) (some : 0 < length bytes) where
-      memory-left : drivenMemory P c m page a bytes i limit ≡ overwritten a bytes (onceEnded P c m)
+      pub memory-left : drivenMemory P c m page a bytes i limit ≡ overwritten a bytes (onceEnded P c m)
       unfolding drivenMemory
       memory-left =
           at-yes _ _ is-done ∙ run-done P sound i limit a bytes (frameBench c m page) (given low some) (says .1) .memory

@@ -1,7 +1,8 @@
--- Bit j of a word: what it is in an or, in a power of two, in no ones, in all ones and in a run of ones; the ones of a
--- word as the count of its bits; two words that agree bit by bit are equal. No law names a width but as a bound.
-use Prim.Native.Nat.{ℕ, zero, suc, _+_, _-_, _*_, _/_, _%_, _^_, _<_, _≤_, max}
-use mathlib.Core.Bool.{Bool, true, false, _||_}
+-- Bit j of a word: what it is in an or, in an and, in a power of two, in no ones, in all ones and in a run of ones; the
+-- ones of a word as the count of its bits; two words that agree bit by bit are equal. No law names a width but as a
+-- bound.
+use Prim.Native.Nat.{ℕ, zero, suc, _+_, _-_, _*_, _/_, _%_, _^_, _<_, _≤_, min, max}
+use mathlib.Core.Bool.{Bool, true, false, _&&_, _||_}
 use mathlib.Core.Path.{_≡_, refl, sym, ap, ap₂, _∙_}
 use native.Mathlib.Nat.{pow-suc, mul-comm, div-div-eq-div-mul, div-one, zero-div, mul-mod-left, mul-div-cancel}
 use native.Mathlib.Nat.{mul-add-mod-self-right, mod-eq-of-lt, div-add-mod'}
@@ -10,7 +11,7 @@ use native.Mathlib.Omega.{arith}
 use lib.Dec.{eqb, eqb·zero-suc, eqb·suc-zero, eqb·suc-suc}
 use lib.Arith.{bin-ind, lt-one}
 use lib.Pow.{pow-pos, shr-shr, field, mod-mod-pow}
-use lib.Bits.{bitAnd, bitOr, or-step, or-shr, and-mask}
+use lib.Bits.{bitAnd, bitOr, and-step, and-shr, or-step, or-shr, and-mask}
 use lib.Count.{ones, ones-step}
 use borrow.Author.Tests.{eq-eqb}
 use Rattle.laws.specs.Flags.{bit, on, bit-on}
@@ -153,6 +154,27 @@ bit-or w v j =
 -- one more bit set
 pub bit-set : (w b j : ℕ) → bitOn (bitOr w (2 ^ b)) j ≡ (bitOn w j || eqb j b)
 bit-set w b j = bit-or w (2 ^ b) j ∙ ap (λ t. bitOn w j || t) (bit-power b j)
+
+-- ---- and
+
+min-bit : (x y : ℕ) → x < 2 → y < 2 → eqb (min x y) 1 ≡ (eqb x 1 && eqb y 1)
+min-bit zero zero h k = refl
+min-bit zero (suc zero) h k = refl
+min-bit zero (suc (suc y)) h k = absurd (omega arith)
+min-bit (suc zero) zero h k = refl
+min-bit (suc zero) (suc zero) h k = refl
+min-bit (suc zero) (suc (suc y)) h k = absurd (omega arith)
+min-bit (suc (suc x)) y h k = absurd (omega arith)
+
+and-odd : (w v : ℕ) → bitAnd w v % 2 ≡ min (w % 2) (v % 2)
+and-odd w v = ap (λ (x : ℕ). x % 2) (and-step w v) ∙ omega arith
+
+pub bit-and : (w v j : ℕ) → bitOn (bitAnd w v) j ≡ (bitOn w j && bitOn v j)
+unfolding bitOn
+bit-and w v j =
+    ap (λ (x : ℕ). eqb (x % 2) 1) (and-shr w v j)
+    ∙ ap (λ (x : ℕ). eqb x 1) (and-odd (w / 2 ^ j) (v / 2 ^ j))
+    ∙ min-bit (w / 2 ^ j % 2) (v / 2 ^ j % 2) (omega arith) (omega arith)
 
 -- ---- the ones of a word are its bits, counted
 

@@ -1,7 +1,7 @@
 -- A list of 64-bit words as one row of marks: mark i is bit i % 64 of word i / 64. Setting a mark, two rows joined word
--- by word, how many marks are set, and a byte for each mark. The laws are over the number of words.
+-- by word, the marks of both, how many marks are set, and a byte for each mark. The laws are over the number of words.
 use Prim.Native.Nat.{ℕ, zero, suc, _+_, _*_, _/_, _%_, _^_, _<_, _≤_}
-use mathlib.Core.Bool.{Bool, true, false, _||_, or-false}
+use mathlib.Core.Bool.{Bool, true, false, _&&_, _||_, or-false}
 use mathlib.Core.List.{List}
 use mathlib.Core.Path.{_≡_, refl, sym, ap, ap₂, _∙_, subst}
 use native.Mathlib.Nat.{suc-mul, zero-add}
@@ -11,14 +11,14 @@ use lib.Dec.{eqb}
 use lib.ListN.{length, getD, set, replicate, length-set, getD-replicate, length-replicate, List·getD-eq-default}
 use lib.Seq.{getD-set-same, getD-set-other, set-out, ext-getD}
 use lib.Pow.{pow-pos, pow-lt}
-use lib.Bits.{bitOr, or-comm, or-self, or-zero-r, or-lt}
+use lib.Bits.{bitAnd, bitOr, or-comm, or-self, or-zero-r, or-lt}
 use lib.Count.{ones}
 use borrow.Author.Tests.{eq-eqb, ne-eqb, eqb-true}
 use Rattle.laws.specs.And.{same-test, or-right}
 use Rattle.laws.specs.Flags.{bit, on, on-bit}
 use Rattle.laws.specs.Count.{count, count-cong, count-add, count-le}
 use Rattle.laws.specs.Table.{table, table-length, table-at, table-cong, table-is}
-use Rattle.laws.specs.Bits.{bitOn, bit-none, bit-or, bit-set, bit-ext, ones-count, or-assoc}
+use Rattle.laws.specs.Bits.{bitOn, bit-none, bit-and, bit-or, bit-set, bit-ext, ones-count, or-assoc}
 
 abbrev pub mark : List ℕ → ℕ → Bool
 mark ws i = bitOn (getD ws (i / 64) 0) (i % 64)
@@ -133,6 +133,17 @@ module _ (n : ℕ) (ws : List ℕ) (sized : length ws ≡ n) where
 
   pub none-or-words : orWords n (replicate n 0) ws ≡ ws
   none-or-words = or-words-comm n (replicate n 0) ws ∙ or-words-none
+
+-- ---- the marks that are in both rows
+
+unfoldable pub andWords : ℕ → List ℕ → List ℕ → List ℕ
+andWords n ws vs = table n (λ j. bitAnd (getD ws j 0) (getD vs j 0))
+
+pub mark-and : (n : ℕ) (ws vs : List ℕ) (i : ℕ) → i < n * 64 → mark (andWords n ws vs) i ≡ (mark ws i && mark vs i)
+unfolding andWords
+mark-and n ws vs i h =
+    ap (λ (w : ℕ). bitOn w (i % 64)) (table-at (λ j. bitAnd (getD ws j 0) (getD vs j 0)) n (i / 64) 0 (omega arith))
+    ∙ bit-and (getD ws (i / 64) 0) (getD vs (i / 64) 0) (i % 64)
 
 -- ---- rows with the same marks are equal
 

@@ -15,6 +15,8 @@ use Rattle.pins.proofs.Device.set_hold.Kinds as set-hold
 use Rattle.pins.proofs.Device.set_hold.Reads as set-hold-reads
 use Rattle.pins.proofs.Device.read_clock.Kinds as read-clock
 use Rattle.pins.proofs.Device.read_clock.Reads as read-clock-reads
+use Rattle.pins.proofs.Device.cut.Kinds as cut
+use Rattle.pins.proofs.Device.cut.Reads as cut-reads
 use Rattle.pins.proofs.Device.q.Kinds as q
 use Rattle.pins.proofs.Device.q.Reads as q-reads
 use Rattle.pins.proofs.Device.status.Kinds as status
@@ -62,6 +64,15 @@ read-clock-memory κs a z z′ e e′ p q = same (p .1 .1 .0) (q .1 .1 .0)
 
 pub read-clock-identification : OneExit read-clock.ps read-clock.r read-clock-reads.Post (λ κs e. now (e .1 .1 .1 .0))
 read-clock-identification κs a z z′ e e′ p q = same (p .1 .1 .1) (q .1 .1 .1)
+
+pub cut-one : OneResult cut.ps cut.r cut-reads.Post
+cut-one κs a z z′ e e′ p q = same (p .0) (q .0)
+
+pub cut-memory : OneExit cut.ps cut.r cut-reads.Post (λ κs e. now (e .1 .1 .0))
+cut-memory κs a z z′ e e′ p q = same (p .1 .1 .0) (q .1 .1 .0)
+
+pub cut-identification : OneExit cut.ps cut.r cut-reads.Post (λ κs e. now (e .1 .1 .1 .0))
+cut-identification κs a z z′ e e′ p q = same (p .1 .1 .1) (q .1 .1 .1)
 
 pub q-one : OneResult q.ps q.r q-reads.Post
 q-one κs a z z′ e e′ p q = same (p .0) (q .0)

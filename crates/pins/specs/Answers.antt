@@ -10,6 +10,8 @@ use Rattle.chip.specs.Records.{status}
 use Rattle.chip.specs.Time.{lentFits}
 use Rattle.chip.specs.Power.{poweredUp}
 use Rattle.chip.specs.declared.PoweredUp.{PoweredUp}
+use Rattle.cuts.specs.Cuts.{cutIn}
+use Rattle.cuts.specs.declared.Choice.{Choice}
 use Rattle.codes.specs.Refusals.{refusalNumber, isDone}
 use Rattle.codes.specs.declared.Refusal.the-variants.{MemoryLength, RecordRange}
 use Rattle.codes.specs.declared.Outcome.{Outcome}
@@ -59,6 +61,10 @@ answer o y x = steppedTo o (pick (isDone o) y x)
 -- lent cells after a clock reading, or as given
 abbrev pub answerMemory : Outcome → List ℕ → List ℕ → List ℕ
 answerMemory o after m = pick (isDone o) after m
+
+-- a supply cut: power-up around the record that survives it, whatever the pins and the frame in hand were
+abbrev pub cutDevice : Part → Choice → List ℕ → Device → Device
+cutDevice P h m x = resting (cutIn P h (x .core) m)
 
 -- ---- what a device shows
 

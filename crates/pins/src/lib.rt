@@ -1,7 +1,8 @@
 // The pin model of the three parts: one pin change or clock reading at a time.
 //
 // Public calls, each for every input: power_up; the methods of Device set_s, set_c, set_d, set_w, set_hold and
-// read_clock, one for each kind of event; q and status, what the device shows; cells_touched and in_ranges.
+// read_clock, one for each kind of event; cut, a supply cut; q and status, what the device shows; cells_touched and
+// in_ranges.
 use chip::Core;
 use codes::Outcome;
 use codes::Refusal;
@@ -9,6 +10,7 @@ use edges::Frame;
 use edges::Level;
 
 mod answers;
+mod cut;
 mod events;
 mod public;
 mod ranges;

@@ -48,7 +48,7 @@ pub fn power_up(
 }
 
 impl Device {
-    fn done(self) -> Stepped
+    pub(crate) fn done(self) -> Stepped
         ensures { λ r. ⌜ r ≡ steppedTo Done self ⌝ }
     {
         Stepped {

@@ -359,7 +359,7 @@ module _ (P : Part) (sound : Sound P) where
       played-fits es (afterEvent P e b) (stepped-sized P (b .device) sized (lentTo b) (eventOf e)) (stepped-fits (b .device) sized h (lentTo b) (eventOf e))
 
   -- .. and a device starts inside them, whatever power-up is given
-  resting-fits : (c : Core) → Within P c → Fits P (resting c)
+  pub resting-fits : (c : Core) → Within P c → Fits P (resting c)
   unfolding pick
   resting-fits c w = record { pins = refl; held = refl; frame = empty-frame P; empty = refl; ran = refl; core = w }
 

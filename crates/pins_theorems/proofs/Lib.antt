@@ -16,3 +16,4 @@ pub mod Addressed
 pub mod Accepted
 pub mod Locks
 pub mod Shown
+pub mod Dropped

@@ -45,7 +45,7 @@ module _ (P : Part) (sound : Sound P) (a : ℕ) (bytes : List ℕ) (k : ℕ) (h 
   pub part-low : at < P .size
   part-low = there .memory
 
-  piece-length : length (piece (P .size) (P .page) a bytes k) ≡ long
+  pub piece-length : length (piece (P .size) (P .page) a bytes k) ≡ long
   unfolding piece
   piece-length =
       let l = there in

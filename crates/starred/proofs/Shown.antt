@@ -1,6 +1,6 @@
 -- The statement is about models that do something: a list whose reports have driven bits at 0, a changed status, a changed cell and a changed number of
--- blank cells, and an RDSR that sees its cycle end, by computing.
-use Prim.Native.Nat.{ℕ}
+-- blank cells, an RDSR that sees its cycle end, and a list with supply cuts, by computing.
+use Prim.Native.Nat.{ℕ, _^_}
 use mathlib.Core.Bool.{Bool, true, false}
 use mathlib.Core.List.{List, [], _∷_, _++_}
 use mathlib.Core.Path.{_≡_, refl, ap, sym, subst, _∙_}
@@ -9,6 +9,7 @@ use lib.Dec.{lit≤}
 use Rattle.laws.specs.Pick.{pick}
 use Rattle.laws.specs.Count.{count}
 use Rattle.laws.specs.Each.{each}
+use Rattle.laws.specs.Marks.{andWords}
 use Rattle.laws.specs.Table.{from, table}
 use Rattle.codes.specs.Part.{Part, m95512, m95512d, m95m01, partOf}
 use Rattle.laws.specs.Bits.{bitOn}
@@ -20,19 +21,20 @@ use Rattle.chip.specs.Ranges.{inRanges}
 use Rattle.chip.specs.Time.{timed, timedCells, timedMemory, timedIdentification, timedBlank}
 use Rattle.chip.specs.declared.Core.{Core}
 use Rattle.chip.specs.Power.{delivered, deliveredMemory, deliveredIdentification}
+use Rattle.cuts.specs.Cuts.{cutCore, cutCells, cutBlank}
+use Rattle.cuts.specs.declared.Choice.{Choice}
 use Rattle.fields.specs.Bytes.{latchedFrom}
 use Rattle.shown.specs.Shown.{output}
 use Rattle.frames.specs.Play.{FrameBench, frameBench}
 use Rattle.timed_frames.specs.Schedules.{rising, due, passed}
-use Rattle.timed_theorems.specs.Acts.{TimedAct, send, reading, actedInTime, actedAllInTime}
+use Rattle.timed_theorems.specs.Acts.{TimedAct, send, reading, cut, actedInTime, actedAllInTime}
 use Rattle.timed_frames.specs.Answers.{outputInTime}
 use Rattle.timed_frames.specs.declared.Mode.{Mode}
 use Rattle.timed_frames.specs.declared.Mode.the-variants as mode
-use Rattle.pins.specs.declared.Event.{Event}
 use Rattle.pins.specs.Devices.{resting}
 use Rattle.pins.specs.Ranges.{deviceFits}
 use Rattle.pins.specs.Answers.{PinBench, pinBench}
-use Rattle.agree.specs.Drawings.{flat, Wave, between}
+use Rattle.agree.specs.Drawings.{flat, Happening, Wave, between}
 use Rattle.agree.specs.Reports.{Report, report, asOne, watched, outputBits, framesPlayed, Unselected, SameSeen}
 use Rattle.agree.proofs.Agree.{agreement}
 use Rattle.starred.proofs.Fresh.{fresh-blank}
@@ -46,6 +48,7 @@ led P (send w o s n ps ts ∷ ks) b rs =
     let y = actedInTime P (send w o s n ps ts) b in
     report (outputBits P b w o s n ps ts) y ∷ led P ks y rs
 led P (reading t ∷ ks) b rs = led P ks (actedInTime P (reading t) b) rs
+led P (cut h ∷ ks) b rs = led P ks (actedInTime P (cut h) b) rs
 
 played-led : (P : Part) (ks js : List TimedAct) (b : FrameBench)
     → framesPlayed outputBits P (ks ++ js) b ≡ led P ks b (framesPlayed outputBits P js (actedAllInTime P ks b))
@@ -55,6 +58,7 @@ played-led P (send w o s n ps ts ∷ ks) js b =
     let y = actedInTime P (send w o s n ps ts) b in
     ap (λ (rs : List (Report Bool)). report (outputBits P b w o s n ps ts) y ∷ rs) (played-led P ks js y)
 played-led P (reading t ∷ ks) js b = played-led P ks js (actedInTime P (reading t) b)
+played-led P (cut h ∷ ks) js b = played-led P ks js (actedInTime P (cut h) b)
 
 -- the bench after it, if it leaves n blank cells
 abbrev readWith : Part → ℕ → ℕ → FrameBench → FrameBench
@@ -153,7 +157,7 @@ unselected =
       identification = length-replicate {A = ℕ} (m95512 .page) 0xff;
     }
 
-pub pins-seen : (es : List Event) → Wave m95512 (between false) false true [] acts es → Seen (watched asOne m95512 es [] deliveredBench)
+pub pins-seen : (es : List Happening) → Wave m95512 (between false) false true [] acts es → Seen (watched asOne m95512 es [] deliveredBench)
 unfolding partOf pick SameSeen run
 pins-seen es r = subst Seen (sym (agreement 0 deliveredBench acts es unselected r)) frames-seen
 
@@ -188,7 +192,7 @@ poll-frames-seen mode.Three = record { bits = refl; registers = refl; cell = ref
 
 -- and so the pin model, from the same device, whatever drawing
 
-pub poll-pins-seen : (o : Mode) (es : List Event) → Wave m95512 (between false) false true [] (pollingActs o) es
+pub poll-pins-seen : (o : Mode) (es : List Happening) → Wave m95512 (between false) false true [] (pollingActs o) es
     → PollSeen o (watched asOne m95512 es [] deliveredBench)
 unfolding partOf pick SameSeen pollingRun
 poll-pins-seen o es r = subst (PollSeen o) (sym (agreement 0 deliveredBench (pollingActs o) es unselected r)) (poll-frames-seen o)
@@ -275,10 +279,48 @@ unselectedD =
       identification = length-replicate {A = ℕ} (m95512d .page) 0xff;
     }
 
-pub page-pins-seen : (es : List Event) → Wave m95512d (between false) false true [] identificationActs es
+pub page-pins-seen : (es : List Happening) → Wave m95512d (between false) false true [] identificationActs es
     → PageSeen (watched asOne m95512d es [] deliveredBenchD)
 unfolding partOf pick SameSeen identificationRun
 page-pins-seen es r = subst PageSeen (sym (agreement 1 deliveredBenchD identificationActs es unselectedD r)) page-frames-seen
+
+-- ---- supply cuts on it: of two cells one was taken, of three status bits two
+
+-- cell 7Fh alone; SRWD and BP0 alone
+abbrev pub lastCell : Choice
+lastCell = record { words = 0 ∷ 2 ^ 63 ∷ 0 ∷ 0 ∷ [] }
+
+abbrev pub twoBits : Choice
+twoBits = record { words = 0x84 ∷ 0 ∷ 0 ∷ 0 ∷ [] }
+
+-- WREN; 82h of 11h and 22h at cell 7Fh; a cut; 83h at 7Fh, two bytes; WREN; WRSR of 8Ch; a cut; RDSR
+abbrev pub cutActs : List TimedAct
+cutActs =
+    plainly (0x06 ∷ []) 8 ∷ plainly (0x82 ∷ 0x00 ∷ 0x7f ∷ 0x11 ∷ 0x22 ∷ []) 40 ∷ cut lastCell ∷ plainly (0x83 ∷ 0x00 ∷ 0x7f ∷ 0x00 ∷ 0x00 ∷ []) 40
+    ∷ plainly (0x06 ∷ []) 8 ∷ plainly (0x01 ∷ 0x8c ∷ []) 16 ∷ cut twoBits ∷ plainly (0x05 ∷ 0x00 ∷ []) 16 ∷ []
+
+pub cutRun : List (Report Bool)
+cutRun = framesPlayed outputBits m95512d cutActs (frameBench deliveredD (deliveredMemory m95512d) (deliveredIdentification m95512d))
+
+-- what a bench sees: no cycle and no WEL after a cut; 11h in cell 7Fh and FFh still in cell 0, on Q too; SRWD and BP0 set, BP1 not
+pub record CutSeen (rs : List (Report Bool)) : Type 0 where
+  pub bits :
+      bitsSeen rs
+      ≡ ones ∷ (ones ++ ones ++ ones ++ ones ++ ones) ∷ (ones ++ ones ++ ones ++ elevens ++ ones) ∷ ones ∷ (ones ++ ones)
+      ∷ (ones ++ (true ∷ false ∷ false ∷ false ∷ false ∷ true ∷ false ∷ false ∷ [])) ∷ []
+  pub registers : statuses rs ≡ 2 ∷ 3 ∷ 0 ∷ 2 ∷ 3 ∷ 0x84 ∷ []
+  pub last : pageCells 0x7f rs ≡ 0xff ∷ 0xff ∷ 0x11 ∷ 0x11 ∷ 0x11 ∷ 0x11 ∷ []
+  pub first : pageCells 0x00 rs ≡ 0xff ∷ 0xff ∷ 0xff ∷ 0xff ∷ 0xff ∷ 0xff ∷ []
+  pub number : numbers rs ≡ 65536 ∷ 65536 ∷ 65536 ∷ 65536 ∷ 65536 ∷ 65536 ∷ []
+
+pub cut-frames-seen : CutSeen cutRun
+unfolding cutRun framesPlayed outputInTime rising due passed inRanges each pick verdictBy decode latchedFrom zeros bitOn cutCore cutCells cutBlank
+    andWords stored table from output flat
+cut-frames-seen = record { bits = refl; registers = refl; last = refl; first = refl; number = refl }
+
+pub cut-pins-seen : (es : List Happening) → Wave m95512d (between false) false true [] cutActs es → CutSeen (watched asOne m95512d es [] deliveredBenchD)
+unfolding partOf pick SameSeen cutRun
+cut-pins-seen es r = subst CutSeen (sym (agreement 1 deliveredBenchD cutActs es unselectedD r)) cut-frames-seen
 
 -- ---- an M95M01: above FFFFh, with WRDI in the cycle
 
@@ -345,6 +387,7 @@ unselectedM =
       identification = refl;
     }
 
-pub megabit-pins-seen : (es : List Event) → Wave m95m01 (between false) false true [] megabitActs es → MegabitSeen (watched asOne m95m01 es [] deliveredBenchM)
+pub megabit-pins-seen : (es : List Happening) → Wave m95m01 (between false) false true [] megabitActs es
+    → MegabitSeen (watched asOne m95m01 es [] deliveredBenchM)
 unfolding partOf pick SameSeen megabitRun
 megabit-pins-seen es r = subst MegabitSeen (sym (agreement 2 deliveredBenchM megabitActs es unselectedM r)) megabit-frames-seen

@@ -35,13 +35,15 @@ use Rattle.bench.specs.declared.DeviceAnswer.{DeviceAnswer}
 use Rattle.bench.specs.declared.FrameAnswer.{FrameAnswer}
 use Rattle.bench.specs.declared.DriverAnswer.{DriverAnswer}
 use Rattle.bench.specs.Calls.{valueAnswer, badLevel, inRangesCall, statusCall, lowestProtectedCall, protectedCall, touchedCall, readingCall, frameCall}
+use Rattle.bench.specs.Calls.{cutCall, deviceCutCall}
 use Rattle.bench.specs.Calls.{timedTaken, timedCall, pinCall, clockPinCall, qCall, deviceStatusCall, deviceInRangesCall, playCall, writeCall, importCall}
 use Rattle.stores.specs.Blind.{Alike, DeviceEqualBut, DeviceAlike}
-use Rattle.stores.proofs.BlindFrames.{ranges-blind, reading-blind, frame-blind, frame-core-blind}
+use Rattle.stores.proofs.BlindFrames.{ranges-blind, reading-blind, cut-blind, frame-blind, frame-core-blind}
 use Rattle.stores.proofs.BlindTimed.{timed-frame-blind, timed-core-blind}
 use Rattle.stores.proofs.BlindRuns.{driven-blind, driven-core-blind}
 use Rattle.stores.proofs.BlindPins.{q-blind}
-use Rattle.stores.proofs.BlindDevices.{fits-blind, set-blind, lent-set-blind, play-blind}
+use Rattle.stores.proofs.BlindDevices.{fits-blind, set-blind, lent-set-blind, play-blind, device-cut-blind}
+use Rattle.cuts.specs.declared.Choice.{Choice}
 use Rattle.stores.proofs.BlindTexts.{import-blind}
 
 -- ---- answers with a record in them
@@ -90,6 +92,13 @@ module _ (P : Part) (c d : Core) (a : Alike P c d) where
       record {
         number = ap (λ (r : Bool). pick (lentFits P (length m) (length i)) (pick r 0 2) 1) (ranges-blind P c d a);
         core = reading-blind P c d a t m i;
+      }
+
+  pub cut-call-blind : (h : Choice) (m i : List ℕ) → CoreAnswerEqualBut (cutCall P h c m i) (cutCall P h d m i)
+  cut-call-blind h m i =
+      record {
+        number = ap (λ (r : Bool). pick (lentFits P (length m) (length i)) (pick r 0 2) 1) (ranges-blind P c d a);
+        core = cut-blind P c d a 0 m i h;
       }
 
   -- W at a level, or 2
@@ -184,6 +193,13 @@ module _ (P : Part) (x y : Device) (a : DeviceAlike P x y) where
       sets (leb level 1) _ _ (badLevel P (length (m .memory)) (length (m .identification))) (answer (memoryOutcome P x m) (stepped P m (C l) x) x .device)
       (answer (memoryOutcome P y m) (stepped P m (C l) y) y .device)
       (ap (λ (r : Bool). pick (lents m) (pick r 0 2) 1) (fits-blind P x y a)) (lent-set-blind P x y a m (C l))
+
+  pub device-cut-call-blind : (h : Choice) (m : Lent) → DeviceAnswerEqualBut (deviceCutCall P h x m) (deviceCutCall P h y m)
+  device-cut-call-blind h m =
+      record {
+        number = ap (λ (r : Bool). pick (lents m) (pick r 0 2) 1) (fits-blind P x y a);
+        device = device-cut-blind P x y a m h;
+      }
 
   pub play-call-blind : (m : Lent) (es out : List ℕ) → DeviceAnswerEqualBut (playCall P x m es out) (playCall P y m es out)
   play-call-blind m es out =

@@ -22,10 +22,13 @@ use Rattle.pins.specs.declared.Device.{Device}
 use Rattle.pins.specs.declared.Event.{Event}
 use Rattle.pins.specs.declared.QAnswer.the-variants as q-answer
 use Rattle.pins.specs.declared.StatusAnswer.the-variants as status-answer
-use Rattle.pins.specs.Devices.{devicePart}
+use Rattle.pins.specs.Devices.{devicePart, resting}
+use Rattle.cuts.specs.Cuts.{cutCells}
+use Rattle.cuts.specs.declared.Choice.{Choice}
+use Rattle.cuts.proofs.Leaves.{cut-equal-but, cut-cells-equal}
 use Rattle.pins.specs.Ranges.{pinsFit, heldFits, emptyFits, ranFits, deviceFits}
 use Rattle.pins.specs.Events.{stepped, steppedCells}
-use Rattle.pins.specs.Answers.{recordOutcome, memoryOutcome, answer, answerMemory, qAnswer, statusAnswer, played}
+use Rattle.pins.specs.Answers.{recordOutcome, memoryOutcome, answer, answerMemory, qAnswer, statusAnswer, played, cutDevice}
 use Rattle.events.specs.Events.{areEvents}
 use Rattle.lists.specs.Answers.{playOutcome, playAnswer, playMemory, playIdentification, playOutput, benchWith}
 use Rattle.stores.specs.Blind.{Alike, unnumbered, DeviceEqualBut, DeviceAlike, PinBenchEqualBut}
@@ -94,6 +97,20 @@ module _ (P : Part) (x y : Device) (a : DeviceAlike P x y) where
       → answerMemory (memoryOutcome P x m) (steppedCells its P e x n) n ≡ answerMemory (memoryOutcome P y m) (steppedCells its P e y n) n
   lent-cells-blind its m e n =
       ap₂ (λ (o : Outcome) (k : List ℕ). answerMemory o k n) (memory-outcome-blind m) (event-cells-blind P x y (a .same) its n e)
+
+  -- ---- a supply cut
+
+  pub device-cut-blind : (m : Lent) (h : Choice)
+      → DeviceEqualBut (answer (memoryOutcome P x m) (cutDevice P h (m .memory) x) x .device)
+      (answer (memoryOutcome P y m) (cutDevice P h (m .memory) y) y .device)
+  device-cut-blind m h =
+      answer-blind (memoryOutcome P x m) (memoryOutcome P y m) (memory-outcome-blind m) (cutDevice P h (m .memory) x) (cutDevice P h (m .memory) y)
+      (ap resting (cut-equal-but P h (x .core) (y .core) (cores .same) (m .memory)))
+
+  pub device-cut-cells-blind : (its : Waiting → Bool) (m : Lent) (h : Choice) (n : List ℕ)
+      → answerMemory (memoryOutcome P x m) (cutCells its P h (x .core) n) n ≡ answerMemory (memoryOutcome P y m) (cutCells its P h (y .core) n) n
+  device-cut-cells-blind its m h n =
+      ap₂ (λ (o : Outcome) (k : List ℕ). answerMemory o k n) (memory-outcome-blind m) (cut-cells-equal its P h (x .core) (y .core) (cores .same) n)
 
   -- ---- a list of events
 

@@ -1,5 +1,5 @@
 -- Of records that are equal but for the number of blank cells every rule of the record and of the frame model gives what is equal but for it: the ranges
--- (with both numbers inside theirs), the questions, a reading, a frame with its output, and any list of frames and readings.
+-- (with both numbers inside theirs), the questions, a reading, a supply cut, a frame with its output, and any list of frames and readings.
 use mathlib.Core.Path.{_≡_, ap, ap₂, sym, _∙_}
 use mathlib.Core.Bool.{Bool, true, false}
 use mathlib.Core.List.{List, [], _∷_}
@@ -29,6 +29,9 @@ use Rattle.fields.specs.Counts.{bitsFit, longestFrame}
 use Rattle.shown.specs.Shown.{sights, output, undriven}
 use Rattle.frames.specs.After.{judged, executed, after}
 use Rattle.frames.specs.Answers.{frameOutcome, frameReply, framed, framedOutput}
+use Rattle.cuts.specs.Cuts.{cutIn, cutAnswer, cutMemoryAnswer, cutIdentificationAnswer}
+use Rattle.cuts.specs.declared.Choice.{Choice}
+use Rattle.cuts.proofs.Leaves.{cut-equal-but, cut-cells-equal}
 use Rattle.frames.specs.Play.{Act, frame, reading, FrameBench, acted, actedAll}
 use Rattle.stores.specs.Blind.{Alike, FrameBenchEqualBut}
 
@@ -85,6 +88,19 @@ module _ (P : Part) (c d : Core) (a : Alike P c d) where
     pub reading-identification-blind : clockIdentification P t c m i ≡ clockIdentification P t d m i
     reading-identification-blind =
         ap₂ (λ (o : Outcome) (n : List ℕ). pick (isDone o) n i) outcome-blind (timed-cells-equal waitsIdentification P t c d (a .same) i)
+
+    -- a supply cut
+    pub cut-blind : (h : Choice) → EqualBut (cutAnswer P h c m i .core) (cutAnswer P h d m i .core)
+    cut-blind h =
+        pick-equal-but (isDone (readingOutcome P c m i)) (cutIn P h c m) (cutIn P h d m) c d (cut-equal-but P h c d (a .same) m) (a .same)
+        ∙ ap (λ (o : Outcome). withBlank 0 (pick (isDone o) (cutIn P h d m) d)) outcome-blind
+
+    pub cut-memory-blind : (h : Choice) → cutMemoryAnswer P h c m i ≡ cutMemoryAnswer P h d m i
+    cut-memory-blind h = ap₂ (λ (o : Outcome) (n : List ℕ). pick (isDone o) n m) outcome-blind (cut-cells-equal waitsPage P h c d (a .same) m)
+
+    pub cut-identification-blind : (h : Choice) → cutIdentificationAnswer P h c m i ≡ cutIdentificationAnswer P h d m i
+    cut-identification-blind h =
+        ap₂ (λ (o : Outcome) (n : List ℕ). pick (isDone o) n i) outcome-blind (cut-cells-equal waitsIdentification P h c d (a .same) i)
 
 -- ---- a frame
 

@@ -1,6 +1,6 @@
 -- Of records that are equal but for the number of blank cells a frame with readings inside gives what is equal but for it: the call's answer, record,
--- memory, identification page and output, and any list of such frames and of readings.
-use mathlib.Core.Path.{_≡_, refl, ap, ap₂, subst, fun-ext}
+-- memory, identification page and output, and any list of such frames, of readings and of supply cuts.
+use mathlib.Core.Path.{_≡_, refl, ap, ap₂, subst, fun-ext, _∙_}
 use mathlib.Core.Bool.{Bool, true, false, _&&_}
 use mathlib.Core.List.{List, [], _∷_}
 use Prim.Native.Nat.{ℕ, suc, _/_}
@@ -14,9 +14,11 @@ use Rattle.codes.specs.declared.Outcome.the-variants as outcome
 use Rattle.codes.specs.declared.Refusal.the-variants.{MemoryLength, RecordRange, FrameLength, BitCount, OutputLength}
 use Rattle.chip.specs.declared.Core.{Core}
 use Rattle.chip.specs.Lents.{Lent}
-use Rattle.chip.specs.Records.{running, status, lockByte}
+use Rattle.chip.specs.Records.{running, status, lockByte, waitsPage, waitsIdentification}
 use Rattle.chip.specs.Blanks.{EqualBut}
 use Rattle.chip.specs.Time.{lentFits}
+use Rattle.cuts.specs.Cuts.{cutMemory, cutIdentification}
+use Rattle.cuts.proofs.Leaves.{cut-equal-but, cut-cells-equal}
 use Rattle.fields.specs.Bytes.{instruction}
 use Rattle.fields.specs.Counts.{bitsFit, longestFrame}
 use Rattle.shown.specs.Shown.{output, undriven}
@@ -26,7 +28,7 @@ use Rattle.frames.specs.Play as plain
 use Rattle.timed_frames.specs.declared.Mode.{Mode}
 use Rattle.timed_frames.specs.Schedules.{due, placesFit, passed, benchAt}
 use Rattle.timed_frames.specs.InTime.{loadedAt, ranIn, sightsIn, lastOf, leftBy}
-use Rattle.timed_theorems.specs.Acts.{TimedAct, send, reading, actedAllInTime}
+use Rattle.timed_theorems.specs.Acts.{TimedAct, send, reading, cut, cutBench, actedAllInTime}
 use Rattle.timed_frames.specs.Answers.{inTimeOutcome, inTimeLeft, given, framedInTime, outputInTime}
 use Rattle.stores.specs.Blind.{Alike, FrameBenchEqualBut}
 use Rattle.stores.proofs.BlindFrames.{ranges-blind, after-blind, acted-blind}
@@ -70,6 +72,15 @@ module _ (P : Part) where
       timed-acts-blind acts (leftBy P ps ts b w s n) (leftBy P ps ts d w s n) (left-by-blind ps ts b d e w s n)
   timed-acts-blind (reading t ∷ acts) b d e =
       timed-acts-blind acts (acted P (plain.reading t) b) (acted P (plain.reading t) d) (acted-blind P (plain.reading t) b d e)
+  timed-acts-blind (cut h ∷ acts) b d e =
+      timed-acts-blind acts (cutBench P h b) (cutBench P h d)
+      (record {
+        core = cut-equal-but P h (b .core) (d .core) (e .core) (b .memory);
+        memory = cut-cells-equal waitsPage P h (b .core) (d .core) (e .core) (b .memory) ∙ ap (cutMemory P h (d .core)) (e .memory);
+        identification =
+            cut-cells-equal waitsIdentification P h (b .core) (d .core) (e .core) (b .identification)
+            ∙ ap (cutIdentification P h (d .core)) (e .identification);
+      })
 
 -- ---- the call
 

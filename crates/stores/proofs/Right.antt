@@ -1,5 +1,5 @@
 -- A call that is given a record with the right number of blank cells for its memory hands one back: each call that is lent the memory, any list of frames
--- and readings, with readings inside the frames too, any list of events, a driver's run, import, power-up, a chunk of a text.
+-- and readings, with readings inside the frames and supply cuts too, any list of events, a driver's run, import, power-up, a chunk of a text.
 use mathlib.Core.Path.{_≡_, refl, sym, _∙_}
 use mathlib.Core.Bool.{Bool, true, false, true≢false}
 use mathlib.Core.List.{List, [], _∷_}
@@ -31,6 +31,9 @@ use Rattle.chip.proofs.Recounts.{timed-counted, effect-blank}
 use Rattle.fields.specs.Bytes.{instruction, address, written}
 use Rattle.frames.specs.After.{judged, after}
 use Rattle.frames.specs.Answers.{frameOutcome, framed}
+use Rattle.cuts.specs.Cuts.{cutIn, cutMemory, cutAnswer, cutMemoryAnswer}
+use Rattle.cuts.specs.declared.Choice.{Choice}
+use Rattle.cuts.proofs.Leaves.{cut-length, cut-counted}
 use Rattle.frames.specs.Play.{Act, frame, reading, FrameBench, frameBench, acted, actedAll}
 use Rattle.timed_theorems.specs.Acts.{TimedAct, actedAllInTime}
 use Rattle.timed_frames.specs.Answers.{inTimeOutcome, inTimeLeft, framedInTime}
@@ -42,7 +45,7 @@ use Rattle.pins.specs.declared.Event.{Event}
 use Rattle.pins.specs.declared.Event.the-variants.{S, C, D, W, Hold, Time}
 use Rattle.pins.specs.Devices.{devicePart}
 use Rattle.pins.specs.Events.{onTime, stepped, steppedMemory, eventOf}
-use Rattle.pins.specs.Answers.{PinBench, lentTo, afterEvent, played, answer, answerMemory, recordOutcome, memoryOutcome}
+use Rattle.pins.specs.Answers.{PinBench, lentTo, afterEvent, played, answer, answerMemory, recordOutcome, memoryOutcome, cutDevice}
 use Rattle.pins_theorems.proofs.CellRule.{event-length}
 use Rattle.pins_theorems.proofs.Locks.{stepped-core}
 use Rattle.lists.specs.Answers.{playOutcome, playAnswer, playMemory, benchWith}
@@ -90,6 +93,12 @@ module _ (P : Part) (t : ℕ) (c : Core) (m d : List ℕ) (right : Counted c m) 
   right-reading =
       both (isDone (readingOutcome P c m d)) c (timedIn P t c m) m (timedMemory P t c m)
       (λ e. timed-counted P t c m (lent-size P (lent m d) _ e) right) right
+
+  -- a supply cut, refused or not
+  pub right-cut : (h : Choice) → Counted (cutAnswer P h c m d .core) (cutMemoryAnswer P h c m d)
+  right-cut h =
+      both (isDone (readingOutcome P c m d)) c (cutIn P h c m) m (cutMemory P h c m)
+      (λ e. cut-counted P h c m (lent-size P (lent m d) _ e) right) right
 
 -- power-up: counted where it is done, 0 where it is refused
 module _ (part : ℕ) (k : Bool) (n : ℕ) (s b a : Bool) (t : ℕ) (m : List ℕ) where
@@ -155,6 +164,7 @@ module _ (P : Part) where
       record {
         reads = λ t b k. (acted-size (reading t) b (k .0), acted-right (reading t) b (k .0) (k .1));
         deselects = λ ran w s n b h k. (k .0, after-blank P ran w (b .core) s n ∙ k .1);
+        cuts = λ h b k. (cut-length P h (b .core) waitsPage (b .memory) ∙ k .0, cut-counted P h (b .core) (b .memory) (k .0) (k .1));
       }
 
   pub right-timed-acts : (acts : List TimedAct) (b : FrameBench) → length (b .memory) ≡ P .size → Counted (b .core) (b .memory)
@@ -224,6 +234,14 @@ module _ (P : Part) (x : Device) where
   right-read-clock m t right =
       both-devices (isDone (memoryOutcome P x m)) x (stepped P m (Time t) x) (m .memory) (timedMemory P t (x .core) (m .memory))
       (λ e. right-event m (lent-size P m _ e) right (Time t)) right
+
+  -- the supply cut
+  pub right-device-cut : (m : Lent) (h : Choice) → Counted (x .core) (m .memory)
+      → Counted (answer (memoryOutcome P x m) (cutDevice P h (m .memory) x) x .device .core)
+      (answerMemory (memoryOutcome P x m) (cutMemory P h (x .core) (m .memory)) (m .memory))
+  right-device-cut m h right =
+      both-devices (isDone (memoryOutcome P x m)) x (cutDevice P h (m .memory) x) (m .memory) (cutMemory P h (x .core) (m .memory))
+      (λ e. cut-counted P h (x .core) (m .memory) (lent-size P m _ e) right) right
 
 module _ (P : Part) where
   -- any list of events

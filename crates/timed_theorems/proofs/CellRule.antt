@@ -6,7 +6,7 @@ use mathlib.Core.Bool.{Bool, true, false, _&&_, true≢false}
 use mathlib.Core.List.{List, [], _∷_}
 use mathlib.Core.Path.{_≡_, refl, ap, sym, _∙_}
 use lib.ListN.{length, getD, take}
-use Rattle.laws.specs.Pick.{pick, pick-ap, pick-cong, pick-and, at-no, and-no-right}
+use Rattle.laws.specs.Pick.{pick, pick-ap, pick-cong, pick-and, at-no, and-no-left, and-no-right}
 use Rattle.laws.specs.And.{or-none-out}
 use Rattle.codes.specs.Part.{Part}
 use Rattle.codes.specs.Refusals.{isDone}
@@ -14,8 +14,9 @@ use Rattle.codes.specs.declared.Outcome.{Outcome}
 use Rattle.codes.specs.declared.Outcome.the-variants.{Done, Refused}
 use Rattle.codes.specs.declared.Refusal.the-variants.{MemoryLength, RecordRange}
 use Rattle.codes.proofs.Sound.{Sound}
-use Rattle.chip.specs.Cells.{Cells, memoryCells, identificationCells, cellCount, awaitedIn}
+use Rattle.chip.specs.Cells.{Cells, memoryCells, identificationCells, cellCount, theirs, offset, awaitedIn}
 use Rattle.chip.specs.Lents.{Lent}
+use Rattle.chip.specs.Records.{running}
 use Rattle.chip.specs.Ranges.{inRanges}
 use Rattle.chip.specs.Time.{lentFits}
 use Rattle.chip.specs.declared.Core.{Core}
@@ -23,6 +24,9 @@ use Rattle.chip.proofs.Within.{Within, within}
 use Rattle.chip.proofs.Readings.{lent-memory, lent-identification}
 use Rattle.chip.proofs.Recounts.{timed-in-within}
 use Rattle.chip.proofs.Awaiting.{timed-awaits}
+use Rattle.cuts.specs.Cuts.{chosen}
+use Rattle.cuts.specs.declared.Choice.{Choice}
+use Rattle.cuts.proofs.Leaves.{cut-within, cut-length, cut-awaits, cut-rule}
 use Rattle.frames.specs.Play.{FrameBench, acted, lentCells}
 use Rattle.frames.specs.Play as plain
 use Rattle.frames.proofs.CellRule.{after-awaits}
@@ -31,9 +35,9 @@ use Rattle.timed_frames.specs.Schedules.{due, passed}
 use Rattle.timed_frames.specs.InTime.{ranIn, lastOf, leftBy}
 use Rattle.timed_frames.specs.Answers.{inTimeOutcome, inTimeLeft, given}
 use Rattle.timed_frames.proofs.Passed.{read-length}
-use Rattle.timed_theorems.specs.Acts.{TimedAct, send, reading, actedAllInTime, endsAny, endsInside, addressesInTime, addressedInTime}
+use Rattle.timed_theorems.specs.Acts.{TimedAct, send, reading, cut, cutBench, actedAllInTime, endsAny, endsInside, addressesInTime, addressedInTime}
 use Rattle.timed_theorems.proofs.Ended.{passed-awaits, coming, passed-cell}
-use Rattle.timed_theorems.proofs.Kept.{deselected-cells, left-by-length, left-by-within}
+use Rattle.timed_theorems.proofs.Kept.{deselected-cells, left-by-length, left-by-within, cut-lent}
 
 -- ---- one frame
 
@@ -63,6 +67,15 @@ module _ (k : Cells) (P : Part) (i : ℕ) (below : i < cellCount k P) (b : Frame
 -- ---- any list
 
 module _ (k : Cells) (P : Part) (sound : Sound P) (i : ℕ) (below : i < cellCount k P) where
+  -- a cut ends its cycle: a cell that does not wait stays
+  cut-stays : (h : Choice) (b : FrameBench) → length (lentCells k b) ≡ cellCount k P → Within P (b .core) → awaitedIn k P (b .core) i ≡ false
+      → getD (lentCells k (cutBench P h b)) i 0 ≡ getD (lentCells k b) i 0
+  cut-stays h b size r e =
+      ap (λ (m : List ℕ). getD m i 0) (cut-lent k P h b)
+      ∙ cut-rule P h (b .core) sound r k (lentCells k b) size i below
+      ∙ at-no _ _ (and-no-right (running (b .core)) (awaitedIn k P (b .core) i && chosen h (offset P (b .core) i))
+      (and-no-left (awaitedIn k P (b .core) i) (chosen h (offset P (b .core) i)) e))
+
   pub acted-all-in-time-cell : (acts : List TimedAct) (b : FrameBench) → length (lentCells k b) ≡ cellCount k P → Within P (b .core)
       → awaitedIn k P (b .core) i ≡ false → addressedInTime k P acts b i ≡ false
       → getD (lentCells k (actedAllInTime P acts b)) i 0 ≡ getD (lentCells k b) i 0
@@ -78,6 +91,10 @@ module _ (k : Cells) (P : Part) (sound : Sound P) (i : ℕ) (below : i < cellCou
       acted-all-in-time-cell acts (acted P (plain.reading t) b) (read-length k P t b ∙ size) (timed-in-within P t (b .core) (b .memory) r)
       (timed-awaits k P t (b .core) i e) f
       ∙ read-stays k P i below b size r t e
+  acted-all-in-time-cell (cut h ∷ acts) b size r e f =
+      acted-all-in-time-cell acts (cutBench P h b) (ap length (cut-lent k P h b) ∙ cut-length P h (b .core) (theirs k) (lentCells k b) ∙ size)
+      (cut-within P h (b .core) (b .memory) r) (cut-awaits k P h (b .core) i) f
+      ∙ cut-stays h b size r e
 
 -- ---- the public call
 

@@ -7,18 +7,21 @@ use mathlib.Core.Path.{_≡_, refl, ap, _∙_}
 use lib.ListN.{length}
 use Rattle.codes.specs.Part.{Part}
 use Rattle.codes.proofs.Sound.{Sound}
-use Rattle.chip.specs.Cells.{Cells, memoryCells, identificationCells}
+use Rattle.chip.specs.Cells.{Cells, memoryCells, identificationCells, theirs}
 use Rattle.chip.specs.Lents.{Lent}
 use Rattle.chip.specs.declared.Core.{Core}
 use Rattle.chip.proofs.Within.{Within}
 use Rattle.chip.proofs.Recounts.{timed-in-within}
+use Rattle.cuts.specs.Cuts.{cutCells}
+use Rattle.cuts.specs.declared.Choice.{Choice}
+use Rattle.cuts.proofs.Leaves.{cut-within, cut-length, cut-part}
 use Rattle.frames.specs.Play.{reading, FrameBench, lentCells}
 use Rattle.frames.proofs.Kept.{after-within}
 use Rattle.frames.proofs.PartKept.{after-part, acted-part}
 use Rattle.timed_frames.specs.InTime.{leftBy}
 use Rattle.timed_frames.specs.Answers.{inTimeLeft, framedInTime, given}
 use Rattle.timed_frames.proofs.Passed.{read-length}
-use Rattle.timed_theorems.specs.Acts.{TimedAct, actedAllInTime}
+use Rattle.timed_theorems.specs.Acts.{TimedAct, cutBench, actedAllInTime}
 use Rattle.timed_theorems.proofs.Keeping.{deselected, Keeps, left-by-keeps, acted-all-in-time-keeps, in-time-left-keeps}
 
 -- ---- the ranges
@@ -29,6 +32,7 @@ module _ (P : Part) (sound : Sound P) where
       record {
         reads = λ t b k. timed-in-within P t (b .core) (b .memory) k;
         deselects = λ ran w s n b h k. after-within P sound w (b .core) s n ran h k;
+        cuts = λ h b k. cut-within P h (b .core) (b .memory) k;
       }
 
   pub left-by-within : (ps ts : List ℕ) (b : FrameBench) (w : Bool) (s : List ℕ) (n : ℕ) → Within P (b .core) → Within P (leftBy P ps ts b w s n .core)
@@ -49,12 +53,17 @@ pub deselected-cells : (k : Cells) (P : Part) (ran w : Bool) (s : List ℕ) (n :
 deselected-cells memoryCells P ran w s n b = refl
 deselected-cells identificationCells P ran w s n b = refl
 
+pub cut-lent : (k : Cells) (P : Part) (h : Choice) (b : FrameBench) → lentCells k (cutBench P h b) ≡ cutCells (theirs k) P h (b .core) (lentCells k b)
+cut-lent memoryCells P h b = refl
+cut-lent identificationCells P h b = refl
+
 module _ (k : Cells) (P : Part) where
   length-kept : (long : ℕ) → Keeps P (λ b. length (lentCells k b) ≡ long)
   length-kept long =
       record {
         reads = λ t b e. read-length k P t b ∙ e;
         deselects = λ ran w s n b h e. ap length (deselected-cells k P ran w s n b) ∙ e;
+        cuts = λ h b e. ap length (cut-lent k P h b) ∙ cut-length P h (b .core) (theirs k) (lentCells k b) ∙ e;
       }
 
   pub left-by-length : (ps ts : List ℕ) (b : FrameBench) (w : Bool) (s : List ℕ) (n : ℕ)
@@ -76,6 +85,7 @@ module _ (P : Part) where
       record {
         reads = λ t b e. acted-part P (reading t) b ∙ e;
         deselects = λ ran w s n b h e. after-part P ran w (b .core) s n ∙ e;
+        cuts = λ h b e. cut-part P h (b .core) ∙ e;
       }
 
   pub acted-all-in-time-part : (acts : List TimedAct) (b : FrameBench) → actedAllInTime P acts b .core .part ≡ b .core .part

@@ -8,12 +8,14 @@ use lib.ListN.{take}
 use Rattle.laws.specs.And.{or-none-out}
 use Rattle.codes.specs.Part.{Part}
 use Rattle.chip.specs.Lents.{Lent}
-use Rattle.chip.specs.Records.{waitsLock}
+use Rattle.chip.specs.Cells.{identificationCells}
+use Rattle.chip.specs.Records.{waitsIdentification, waitsLock}
 use Rattle.chip.specs.Ranges.{inRanges}
 use Rattle.chip.specs.declared.Core.{Core}
 use Rattle.chip.proofs.Locking.{Locked}
 use Rattle.chip.proofs.Plain.{Unwaited, plain-unwaited}
 use Rattle.chip.proofs.Within.{within}
+use Rattle.cuts.proofs.Leaves.{cut-shut, cut-unset, cut-quiet, cut-none}
 use Rattle.frames.specs.Play.{FrameBench, acted}
 use Rattle.frames.specs.Play as plain
 use Rattle.frames.proofs.Locks as frames
@@ -22,7 +24,7 @@ use Rattle.timed_frames.specs.InTime.{ranIn, lastOf, leftBy}
 use Rattle.timed_frames.specs.Answers.{inTimeLeft}
 use Rattle.timed_frames.specs.declared.Mode.{Mode}
 use Rattle.timed_frames.proofs.Passed.{passed-keeps}
-use Rattle.timed_theorems.specs.Acts.{TimedAct, send, reading, actedAllInTime, locksInTime, locksAnyInTime}
+use Rattle.timed_theorems.specs.Acts.{TimedAct, send, reading, cut, cutBench, actedAllInTime, locksInTime, locksAnyInTime}
 use Rattle.timed_theorems.proofs.Keeping.{Keeps, acted-all-in-time-keeps, in-time-left-keeps}
 
 -- ---- it never opens
@@ -33,6 +35,7 @@ module _ (P : Part) where
       record {
         reads = λ t b k. frames.acted-shut P (plain.reading t) b k;
         deselects = λ ran w s n b h k. frames.after-lock P ran w (b .core) s n ∙ k;
+        cuts = λ h b k. cut-shut h (b .core) k;
       }
 
   pub lock-stays : (acts : List TimedAct) (b : FrameBench) → b .core .lock ≡ 1 → actedAllInTime P acts b .core .lock ≡ 1
@@ -49,6 +52,10 @@ module _ (P : Part) where
       record {
         reads = λ t b k. (frames.acted-locked P (plain.reading t) b (k .0) .0, frames.acted-locked P (plain.reading t) b (k .0) .1 ∙ k .1);
         deselects = λ ran w s n b h k. (frames.after-locked P ran w (b .core) s n (k .0), k .1);
+        cuts = λ h b k. (
+          record { lock = cut-shut h (b .core) (k .0 .lock); quiet = cut-quiet waitsIdentification h (b .core) refl },
+          cut-none identificationCells P h (b .core) (b .identification) (k .0 .quiet) ∙ k .1,
+        );
       }
 
   pub locked-page : (acts : List TimedAct) (b : FrameBench) → Locked (b .core)
@@ -83,6 +90,9 @@ module _ (P : Part) where
         let two = or-none-out (locksInTime P (send w o s n ps ts) b) (locksAnyInTime P acts next) none in
         unset-all acts next (two .1) (left-by-unset w o s n ps ts b (two .0) k)
     unset-all (reading t ∷ acts) b none k = unset-all acts (acted P (plain.reading t) b) none (read-unset t b k)
+    unset-all (cut h ∷ acts) b none k =
+        unset-all acts (cutBench P h b) none
+        (cut-quiet waitsLock h (b .core) refl, cut-unset h (b .core) (k .0) ∙ k .1)
 
   pub acted-all-in-time-lock : (acts : List TimedAct) (b : FrameBench) → waitsLock (b .core .waits) ≡ false → locksAnyInTime P acts b ≡ false
       → actedAllInTime P acts b .core .lock ≡ b .core .lock
@@ -102,6 +112,16 @@ module _ (P : Part) (plain-part : P .identified ≡ false) where
             (one .0, (one .1 .0 ∙ k .1 .0, one .1 .1 ∙ k .1 .1));
         deselects = λ ran w s n b h k.
             (frames.after-unwaited P plain-part ran w (b .core) s n (k .0), (k .1 .0, frames.after-lock P ran w (b .core) s n ∙ k .1 .1));
+        cuts = λ h b k. (
+          record {
+            page = cut-quiet waitsIdentification h (b .core) refl;
+            lock = cut-quiet waitsLock h (b .core) refl;
+          },
+          (
+            cut-none identificationCells P h (b .core) (b .identification) (k .0 .page) ∙ k .1 .0,
+            cut-unset h (b .core) (k .0 .lock) ∙ k .1 .1,
+          ),
+        );
       }
 
   -- over any list

@@ -1,5 +1,5 @@
--- Any list of frames, each with its mode and its readings inside, and of clock readings between frames; which cells its
--- executed frames address, and which of them set the lock.
+-- Any list of frames, each with its mode and its readings inside, and of clock readings and supply cuts between frames;
+-- which cells its executed frames address, and which of them set the lock.
 use Prim.Native.Nat.{ℕ, suc, _/_}
 use mathlib.Core.Bool.{Bool, false, _&&_, _||_}
 use mathlib.Core.List.{List, [], _∷_}
@@ -9,9 +9,11 @@ use Rattle.codes.specs.Verdicts.{isExecuted}
 use Rattle.codes.specs.Instructions.{isWrid, picksLock}
 use Rattle.chip.specs.Cells.{Cells, writesTo, latchedIn}
 use Rattle.chip.specs.Time.{ends}
+use Rattle.cuts.specs.Cuts.{cutIn, cutMemory, cutIdentification}
+use Rattle.cuts.specs.declared.Choice.{Choice}
 use Rattle.fields.specs.Bytes.{instruction, address, written}
 use Rattle.frames.specs.After.{judged}
-use Rattle.frames.specs.Play.{FrameBench, acted}
+use Rattle.frames.specs.Play.{FrameBench, frameBench, acted}
 use Rattle.frames.specs.Play as plain
 use Rattle.timed_frames.specs.Schedules.{due}
 use Rattle.timed_frames.specs.InTime.{ranIn, lastOf, leftBy}
@@ -22,10 +24,18 @@ pub data TimedAct : Type 0 where
   send : Bool → Mode → List ℕ → ℕ → List ℕ → List ℕ → TimedAct
   -- between frames the clock reads so much
   reading : ℕ → TimedAct
+  -- between frames the supply is cut and returns
+  cut : Choice → TimedAct
+
+abbrev pub cutBench : Part → Choice → FrameBench → FrameBench
+cutBench P h b =
+    frameBench (cutIn P h (b .core) (b .memory)) (cutMemory P h (b .core) (b .memory))
+    (cutIdentification P h (b .core) (b .identification))
 
 abbrev pub actedInTime : Part → TimedAct → FrameBench → FrameBench
 actedInTime P (send w o s n ps ts) b = leftBy P ps ts b w s n
 actedInTime P (reading t) b = acted P (plain.reading t) b
+actedInTime P (cut h) b = cutBench P h b
 
 abbrev pub actedAllInTime : Part → List TimedAct → FrameBench → FrameBench
 actedAllInTime P [] b = b
@@ -54,6 +64,7 @@ addressesInTime k P (send w o s n ps ts) b i =
     executedInTime P ps ts b w s n
     && (writesTo k (instruction P s) (address P s) && latchedIn k P (address P s) (written P s) i)
 addressesInTime k P (reading t) b i = false
+addressesInTime k P (cut h) b i = false
 
 abbrev pub addressedInTime : Cells → Part → List TimedAct → FrameBench → ℕ → Bool
 addressedInTime k P [] b i = false
@@ -64,6 +75,7 @@ abbrev pub locksInTime : Part → TimedAct → FrameBench → Bool
 locksInTime P (send w o s n ps ts) b =
     executedInTime P ps ts b w s n && (isWrid (instruction P s) && picksLock (address P s))
 locksInTime P (reading t) b = false
+locksInTime P (cut h) b = false
 
 abbrev pub locksAnyInTime : Part → List TimedAct → FrameBench → Bool
 locksAnyInTime P [] b = false
