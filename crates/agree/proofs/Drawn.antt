@@ -15,7 +15,6 @@ use Rattle.timed_frames.specs.Schedules.{rising, placesFit}
 use Rattle.timed_theorems.specs.Acts.{TimedAct, send, reading, cut}
 use Rattle.timed_frames.specs.declared.Mode.{Mode}
 use Rattle.timed_frames.specs.declared.Mode.the-variants as mode
-use Rattle.pins.specs.declared.Event.{Event}
 use Rattle.pins.specs.declared.Event.the-variants.{S, C, D, W, Hold, Time}
 use Rattle.agree.specs.Drawings.{Happening, gone, _▸_}
 use Rattle.agree.specs.Drawings.{rest, Item, up, down, readingsAt, tells, pulses, plan, Phase, between, inside, Sendable, Wave, data′, end′, clock′}

@@ -1,7 +1,6 @@
 // The pin model's device for C: power-up, one call for each kind of event, what a device shows, and a list of events
 // at once.
 ghost use mathlib.Core.Path.{_≡_};
-ghost use lib.ListN.{length};
 ghost use Rattle.codes.specs.Part.{partOf};
 ghost use Rattle.pins.specs.Devices.{devicePart};
 ghost use Rattle.codes.specs.Status.{on};

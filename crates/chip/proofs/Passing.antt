@@ -15,7 +15,7 @@ use Rattle.latch.specs.Latches.{latchFits, inPage, marked, byteAt, stored}
 use Rattle.chip.specs.Records.{running, nothing, withStatus, withLock, withTime, withoutCycle}
 use Rattle.chip.specs.Records.{waitsStatus, waitsPage, waitsIdentification, waitsLock, waitsLatch}
 use Rattle.chip.specs.Ranges.{flagsFit, cycleFits, pageFits, valueFits}
-use Rattle.chip.specs.Time.{elapsed, ends, ended, endedCells, timed, timedCells, timedMemory, timedIdentification}
+use Rattle.chip.specs.Time.{elapsed, ends, ended, endedCells, timed, timedCells, timedMemory}
 use Rattle.chip.specs.Cells.{Cells, memoryCells, identificationCells, cellCount, theirs, offset, awaitedBy, awaitedIn, awaited}
 use Rattle.chip.specs.declared.Waiting.{Waiting}
 use Rattle.chip.specs.declared.Core.{Core}

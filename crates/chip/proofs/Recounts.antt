@@ -4,18 +4,15 @@ use mathlib.Core.Path.{_≡_, refl, ap, sym, _∙_}
 use mathlib.Core.List.{List}
 use mathlib.Core.Bool.{Bool, true, false, _&&_}
 use Prim.Native.Nat.{ℕ, _-_, _≤_}
-use native.Mathlib.Omega.{arith}
 use lib.ListN.{length}
-use lib.Dec.{leb}
 use borrow.Author.Tests.{le-leb}
 use Rattle.laws.specs.Pick.{pick, pick-case, pick-ap, at-yes, at-no}
 use Rattle.codes.specs.Part.{Part}
-use Rattle.codes.specs.Instructions.{picksLock}
 use Rattle.codes.specs.declared.Instruction.{Instruction}
 use Rattle.codes.specs.declared.Instruction.the-variants.{Wren, Wrdi, Rdsr, Wrsr, Read, Write, Rdid, Wrid, Silence}
 use Rattle.latch.specs.declared.Latch.{Latch}
 use Rattle.latch.proofs.Stores.{stored-length}
-use Rattle.blanks.specs.Blanks.{blanks, recounted}
+use Rattle.blanks.specs.Blanks.{blanks}
 use Rattle.blanks.proofs.Blanking.{held-most, right-recounted}
 use Rattle.chip.specs.Records.{waitsPage, waitsStatus, waitsLock, withStatus, withLock, withTime, withBlank, withoutCycle}
 use Rattle.chip.specs.Ranges.{flagsFit, timeFits, tied, waitFits, inRanges}

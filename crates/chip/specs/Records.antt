@@ -1,6 +1,6 @@
 -- The core record that both models hold: what its fields say, and every way in which one is made of another. No record
 -- is written out anywhere else.
-use Prim.Native.Nat.{ℕ, _-_}
+use Prim.Native.Nat.{ℕ}
 use mathlib.Core.Bool.{Bool, _||_}
 use lib.Dec.{ltb, eqb}
 use Rattle.codes.specs.Part.{Part, partOf}

@@ -1,9 +1,9 @@
 -- A driver's write that begins with no cycle running and would be done, cut between its frames: the same write, sent again and done, leaves the memory of
 -- the uncut one. The cut and the part of the run before it leave every cell outside the run as it was, and the second run writes every cell inside.
-use mathlib.Core.Path.{_≡_, refl, ap, sym, _∙_}
+use mathlib.Core.Path.{_≡_, ap, sym, _∙_}
 use mathlib.Core.Bool.{false, _&&_}
 use mathlib.Core.List.{List, _++_}
-use mathlib.Core.Logic.{_⊎_, inl, inr}
+use mathlib.Core.Logic.{inl, inr}
 use Prim.Native.Nat.{ℕ, _+_, _^_, _<_}
 use native.Mathlib.Decide.{decLt, ℕ-discrete}
 use native.Mathlib.Omega.{arith}

@@ -10,7 +10,7 @@ use borrow.Author.Tests.{le-leb}
 use Rattle.laws.specs.Pick.{pick-case, at-yes, and-both}
 use Rattle.codes.specs.Part.{Part}
 use Rattle.chip.specs.Records.{running, waitsStatus, waitsLock, withTime, withBlank, withoutCycle}
-use Rattle.chip.specs.Time.{elapsed, ends, ended, endedCells, endedBlank, timed, timedCells, timedBlank, timedIn}
+use Rattle.chip.specs.Time.{elapsed, ends, ended, endedBlank, timed, timedCells, timedBlank, timedIn}
 use Rattle.chip.specs.declared.Waiting.{Waiting}
 use Rattle.chip.specs.declared.Core.{Core}
 use Rattle.cuts.specs.Cuts.{cutDown, cutCore, cutCells, cutBlank, cutIn}

@@ -2,7 +2,7 @@
 ghost use mathlib.Core.Path.{_≡_};
 ghost use Prim.Native.Nat.{_<_};
 ghost use Rattle.codes.specs.Status.{on};
-ghost use Rattle.cuts.specs.Cuts.{chosen, cutLatch, cutBit, cutStatus, cutWaits, cutDown};
+ghost use Rattle.cuts.specs.Cuts.{chosen, cutLatch, cutStatus, cutWaits, cutDown};
 ghost use Rattle.laws.specs.Pick.{pick};
 use crate::Choice;
 use chip::Core;

@@ -2,11 +2,11 @@
 -- running cycle included; interval and limit may differ.
 use mathlib.Core.Path.{_≡_, refl, ap, sym, _∙_}
 use mathlib.Core.Bool.{Bool, true, false, true≢false}
-use mathlib.Core.List.{List, []}
-use Prim.Native.Nat.{ℕ, _+_, _^_, _<_, _≤_}
+use mathlib.Core.List.{List}
+use Prim.Native.Nat.{ℕ, _+_, _^_, _<_}
 use native.Mathlib.Decide.{decLt, ℕ-discrete}
 use native.Mathlib.Omega.{arith}
-use lib.ListN.{length, getD}
+use lib.ListN.{length}
 use lib.Seq.{ext-getD}
 use borrow.Author.Tests.{le-ltb}
 use Rattle.laws.specs.Pick.{pick, at-yes, at-no, pick-same}
@@ -15,9 +15,8 @@ use Rattle.codes.specs.Refusals.{isDone}
 use Rattle.codes.specs.declared.Outcome.{Outcome}
 use Rattle.codes.specs.declared.Outcome.the-variants as outcome
 use Rattle.codes.proofs.Sound.{Sound}
-use Rattle.chip.specs.Records.{running}
 use Rattle.chip.specs.declared.Core.{Core}
-use Rattle.frames.specs.Play.{FrameBench, frameBench, actedAll}
+use Rattle.frames.specs.Play.{frameBench, actedAll}
 use Rattle.sequence.specs.Ready.{Ready}
 use Rattle.sequence.specs.Sequence.{Ending, allDone, timedOut, protected, Run, run}
 use Rattle.driver.specs.Answers.{endingAnswer, runReply, driveOutcome, driven, drivenMemory, drivenIdentification}

@@ -6,11 +6,10 @@ use mathlib.Core.Bool.{Bool, true, false, _&&_, _||_}
 use mathlib.Core.Path.{_≡_, refl, sym, ap, ap₂, _∙_}
 use native.Mathlib.Nat.{pow-suc, mul-comm, div-div-eq-div-mul, div-one, zero-div, mul-mod-left, mul-div-cancel}
 use native.Mathlib.Nat.{mul-add-mod-self-right, mod-eq-of-lt, div-add-mod'}
-use native.Mathlib.Numerals.{add-one}
 use native.Mathlib.Omega.{arith}
 use lib.Dec.{eqb, eqb·zero-suc, eqb·suc-zero, eqb·suc-suc}
 use lib.Arith.{bin-ind, lt-one}
-use lib.Pow.{pow-pos, shr-shr, field, mod-mod-pow}
+use lib.Pow.{pow-pos}
 use lib.Bits.{bitAnd, bitOr, and-step, and-shr, or-step, or-shr, and-mask}
 use lib.Count.{ones, ones-step}
 use borrow.Author.Tests.{eq-eqb}

@@ -8,7 +8,7 @@ use Rattle.laws.specs.Pick.{pick, pick-case}
 use Rattle.codes.specs.Part.{Part}
 use Rattle.codes.specs.Instructions.{decode, decodeIdentified, wrenCode, wrdiCode, rdsrCode, wrsrCode, readCode, writeCode, rdidCode, wridCode}
 use Rattle.codes.specs.declared.Instruction.{Instruction}
-use Rattle.codes.specs.declared.Instruction.the-variants.{Wrdi, Rdsr, Wrsr, Read, Write, Rdid, Wrid, Silence}
+use Rattle.codes.specs.declared.Instruction.the-variants.{Wrsr, Read, Write, Rdid, Wrid, Silence}
 use Rattle.timed_frames.specs.InTime.{isRdsr, isWrdi}
 
 module _ (P : Part) (c : ℕ) where

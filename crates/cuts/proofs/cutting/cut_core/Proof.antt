@@ -1,5 +1,5 @@
 -- A cycle that runs is over at the reading that `later` gives; where none runs nothing waits.
-use mathlib.Core.Path.{_≡_, refl, ap, ap₂, sym, _∙_}
+use mathlib.Core.Path.{refl, ap, ap₂, sym, _∙_}
 use Rattle.laws.specs.Pick.{call-no}
 use Rattle.chip.specs.Records.{ownPart, waitsPage, waitsIdentification, withTime, withBlank}
 use Rattle.chip.specs.Time.{timedIn, timedMemory, timedIdentification}
