@@ -1,5 +1,4 @@
 -- What the proofs of the functions share on frames with readings inside; with empty lists the call is the plain one; one result.
-pub mod Coded
 pub mod Walks
 pub mod Ran
 pub mod Calm

@@ -17,7 +17,7 @@ use Rattle.codes.specs.declared.Outcome.the-variants as outcome
 use Rattle.codes.specs.declared.Instruction.{Instruction}
 use Rattle.codes.specs.declared.Instruction.the-variants.{Rdsr}
 use Rattle.chip.specs.Cells.{memoryCells, identificationCells}
-use Rattle.chip.specs.Records.{ownPart, running, status, lockByte}
+use Rattle.chip.specs.Records.{running, status, lockByte}
 use Rattle.chip.specs.declared.Core.{Core}
 use Rattle.chip.proofs.Within.{within, in-ranges}
 use Rattle.chip.proofs.Readings.{lent-both, lent-memory, lent-identification}
@@ -26,14 +26,13 @@ use Rattle.shown.specs.Shown.{Sights, sights, byteOut, paddedAt, output, undriv
 use Rattle.frames.specs.After.{after}
 use Rattle.frames.specs.Answers.{frameOutcome, frameReply, framed, framedOutput}
 use Rattle.frames.specs.declared.FrameReply.the-variants.{Shown}
-use Rattle.frames.specs.declared.Framed.{Framed}
 use Rattle.frames.specs.Play.{FrameBench, frameBench}
 use Rattle.frames.proofs.Outcomes.{taken}
 use Rattle.timed_frames.specs.Schedules.{due, passed, benchAt}
 use Rattle.timed_frames.specs.InTime.{isRdsr, loadedAt, sightsIn, lastOf, leftBy}
 use Rattle.timed_frames.specs.Walked.{statusesOver}
 use Rattle.timed_frames.specs.declared.Mode.{Mode}
-use Rattle.timed_frames.proofs.Walks.{bench-of, bench-part, due-add, walk-on, loaded-late}
+use Rattle.timed_frames.proofs.Walks.{due-add, walk-on, loaded-late}
 use Rattle.timed_frames.proofs.Calm.{calm-at, hushed}
 use Rattle.timed_frames.proofs.Passed.{passed-within, passed-length}
 
@@ -145,52 +144,6 @@ module _ (P : Part) (ps ts : List ℕ) (b : FrameBench) (none : due 1 ps ≡ 0) 
           memory = (last .memory ∙ sym (first .memory)) k;
           identification = (last .identification ∙ sym (first .identification)) k;
         }) s n
-
--- ---- .. of a record's own part
-
-module _ (ps ts : List ℕ) (b : FrameBench) (none : due 1 ps ≡ 0) where
-  abbrev own : Part
-  own = ownPart (b .core)
-
-  last-part : (n : ℕ) {z : FrameBench} → z ≡ lastOf own ps ts b n → ownPart (z .core) ≡ own
-  last-part n e = ap (λ (y : FrameBench). ownPart (y .core)) e ∙ bench-part own ps ts b (suc (n / 8))
-
-  -- a cycle ran: k is the record that the frame leaves of the one after all readings
-  pub ran-leaves : running (b .core) ≡ true → (w : Bool) (s : List ℕ) (n : ℕ) {z : FrameBench} {k : Core} → z ≡ lastOf own ps ts b n
-      → k ≡ after (ownPart (z .core)) true w (z .core) s n → frameBench k (z .memory) (z .identification) ≡ leftBy own ps ts b w s n
-  ran-leaves e w s n last left =
-      let x = lastOf own ps ts b n in
-      bench-of (frameBench (after own true w (x .core) s n) (x .memory) (x .identification))
-      (left ∙ ap₂ (λ (Q : Part) (y : FrameBench). after Q true w (y .core) s n) (last-part n last) last) (ap (λ (y : FrameBench). y .memory) last)
-      (ap (λ (y : FrameBench). y .identification) last)
-      ∙ left-ran own ps ts b none e w s n
-
-  -- none ran: r and shown are what the plain call gives after all readings
-  pub quiet : running (b .core) ≡ false → (w : Bool) (o : Mode) (s : List ℕ) (n : ℕ) (out : List ℕ) {z : FrameBench} {r : Framed} {shown : List ℕ}
-      → frameOutcome own (b .core) (length (b .memory)) (length (b .identification)) (length s) n (length out) ≡ outcome.Done → z ≡ lastOf own ps ts b n
-      → r ≡ framed (ownPart (z .core)) (z .core) (z .memory) (z .identification) w s n (length out)
-      → shown ≡ framedOutput (ownPart (z .core)) (z .core) (z .memory) (z .identification) s n out
-      → (r .answer ≡ Shown (undriven own (instruction own s) (running (b .core)) n))
-      × (frameBench (r .core) (z .memory) (z .identification) ≡ leftBy own ps ts b w s n)
-      × (shown ≡ output own (running (b .core)) (sightsIn own ps ts b o) s n)
-  quiet idle w o s n out {r = r} {shown = shown} done last told shows =
-      let x = lastOf own ps ts b n in
-      let part = last-part n last in
-      let done′ = still-taken own (take (due (suc (n / 8)) ps) ts) b (length s) n (length out) done in
-      let given : Part → FrameBench → Framed = λ Q y. framed Q (y .core) (y .memory) (y .identification) w s n (length out) in
-      let told′ : r ≡ given own x = told ∙ ap₂ given part last in
-      let outs : Part → FrameBench → List ℕ = λ Q y. framedOutput Q (y .core) (y .memory) (y .identification) s n out in
-      let shows′ : shown ≡ outs own x = shows ∙ ap₂ outs part last in (
-        ap (λ (f : Framed). f .answer) told′
-            ∙ plain-answer own (x .core) (x .memory) (x .identification) s n (length out) done′ w
-            ∙ ap (λ (t : Bool). Shown (undriven own (instruction own s) t n)) (calm-at own ps ts b (suc (n / 8)) idle .idle ∙ sym idle),
-        bench-of (frameBench (after own (running (x .core)) w (x .core) s n) (x .memory) (x .identification))
-            (ap (λ (f : Framed). f .core) told′ ∙ plain-core own (x .core) (x .memory) (x .identification) s n (length out) done′ w)
-            (ap (λ (y : FrameBench). y .memory) last) (ap (λ (y : FrameBench). y .identification) last)
-            ∙ left-quiet own ps ts b none idle w s n,
-        shows′ ∙ plain-output own (x .core) (x .memory) (x .identification) s n (length out) done′ out refl
-            ∙ shown-quiet own ps ts b none idle o s n,
-      )
 
 -- ---- the readings at 0 are readings before the frame
 

@@ -1,5 +1,5 @@
 -- The whole call: a refused one is the plain call's refusal, one that is done is the frame after the readings at 0.
-use Prim.Native.Nat.{ℕ, suc, _+_, _*_, _-_, _/_, _≤_}
+use Prim.Native.Nat.{ℕ, _*_, _-_, _≤_}
 use mathlib.Core.Bool.{Bool, true, false, _&&_, and-true, true≢false}
 use mathlib.Core.List.{List}
 use mathlib.Core.Path.{_≡_, refl, ap, ap₂, sym, _∙_}
@@ -26,12 +26,12 @@ use Rattle.frames.specs.Answers.{frameOutcome, frameReply, frameReplyNumber, fr
 use Rattle.frames.specs.declared.FrameReply.the-variants.{Shown}
 use Rattle.frames.specs.declared.Framed.{Framed}
 use Rattle.frames.specs.Play.{FrameBench, frameBench}
-use Rattle.timed_frames.specs.Schedules.{due, placesFit, benchAt, passed}
-use Rattle.timed_frames.specs.InTime.{ranIn, sightsIn, lastOf, leftBy}
+use Rattle.timed_frames.specs.Schedules.{due, placesFit, benchAt}
+use Rattle.timed_frames.specs.InTime.{ranIn, sightsIn, leftBy}
 use Rattle.timed_frames.specs.Answers.{inTimeOutcome, inTimeNumber, inTimeLeft, given, framedInTime, outputInTime, AnsweredInTime}
 use Rattle.timed_frames.specs.declared.Mode.{Mode}
 use Rattle.timed_frames.proofs.Walks.{bench-part}
-use Rattle.timed_frames.proofs.Opened.{none-left, still-taken, opened-left, opened-sights, quiet}
+use Rattle.timed_frames.proofs.Opened.{none-left, still-taken, opened-left, opened-sights}
 
 -- ---- answers
 
@@ -220,16 +220,3 @@ module _ (c : Core) (m : Lent) (s : List ℕ) (n : ℕ) (ps ts : List ℕ) (k : 
         none = ap (due 1) (from ps) ∙ none-left P ps ts (given c m);
         carried = carried-out P c m w o s n ps ts out (placed P c m s n ps ts room placed-so ∙ done) part (from ps) (from ts) first;
       }
-
-  -- where no cycle runs: z is the bench after the other readings too
-  pub quiet-next : {w : Bool} {o : Mode} {out : List ℕ} {z : FrameBench} {r : Framed} {shown : List ℕ} → Next w o out → running (y .core) ≡ false
-      → z ≡ passed Q (take (due (n / 8 + 1) (drop k ps)) (drop k ts)) y
-      → r ≡ framed (ownPart (z .core)) (z .core) (z .memory) (z .identification) w s n (length out)
-      → shown ≡ framedOutput (ownPart (z .core)) (z .core) (z .memory) (z .identification) s n out
-      → AnsweredInTime P c m w o s n ps ts out r (z .memory) (z .identification) shown
-  quiet-next {w = w} {o = o} {out = out} {z = z} g idle e told shows =
-      let one : n / 8 + 1 ≡ suc (n / 8) = omega arith in
-      let last : z ≡ lastOf Q (rest ps) (rest ts) y n =
-      e ∙ (λ i. passed Q (take (due (one i) (sym (part-to-end ps k) i)) (sym (part-to-end ts k) i)) y) in
-      let q = quiet (rest ps) (rest ts) y (g .none) idle w o s n out (g .fits) last told shows in
-      g .carried (q .0) (q .1) (q .2)

@@ -9,7 +9,9 @@ ghost use mathlib.Core.Bool.{true, false};
 ghost use Rattle.codes.specs.Refusals.{isDone};
 ghost use Rattle.codes.specs.declared.Outcome.the-variants.{Done};
 ghost use Rattle.frames.specs.Answers.{frameOutcome, frameReplyNumber};
+ghost use Rattle.timed_frames.specs.Schedules.{placesFit};
 ghost use Rattle.timed_frames.specs.Answers.{inTimeNumber, inTimeLeft, framedInTime, outputInTime};
+ghost use Rattle.timed_frames.specs.Answers.{AnsweredInTime};
 use chip::Core;
 use chip::lent_fits;
 use fields::bits_fit;
@@ -19,6 +21,7 @@ use frames::Framed;
 mod polled;
 mod walk;
 
+use polled::quiet_frame;
 use polled::ran_frame;
 use walk::Walk;
 use walk::places_fit;
@@ -35,9 +38,6 @@ const NO_COUNT: usize = 0xffff_ffff_ffff_ffff;
 // A frame with clock readings inside it, for every input. The lists say at which byte position each reading comes.
 // Refusals 1, 2, 3, 4 and 5 in that order leave everything as it was; 4 is also for lists of unequal lengths and for
 // positions that fall or pass the frame's whole bytes. With empty lists it is the plain call.
-//
-// The readings at 0 come first; then a cycle runs at the eighth edge or none does. Where none does, no reading inside
-// the frame changes a cell or the status, so that it is the plain frame after all of them.
 pub fn timed_frame(
     core: Core,
     memory: &mut [u8],
@@ -70,6 +70,37 @@ pub fn timed_frame(
     if (positions.len() == 0) & (readings.len() == 0) {
         return frames::frame(core, memory, identification, w, bytes, bits, out);
     }
+    scheduled(
+        core,
+        memory,
+        identification,
+        w,
+        mode,
+        bytes,
+        bits,
+        positions,
+        readings,
+        out,
+    )
+}
+
+// A frame by its lists: refused as they or the frame are, or carried out.
+fn scheduled(
+    core: Core,
+    memory: &mut [u8],
+    identification: &mut [u8],
+    w: bool,
+    mode: Mode,
+    bytes: &[u8],
+    bits: usize,
+    positions: &[usize],
+    readings: &[u32],
+    out: &mut [u8],
+) -> Framed
+    ensures { λ r. ⌜ AnsweredInTime (ownPart core) core (lent (now (memory .entry)) (now (identification .entry)))
+        w mode (now (bytes .entry)) bits (now (positions .entry)) (now (readings .entry)) (now (out .entry))
+        r (now (memory .exit)) (now (identification .exit)) (now (out .exit)) ⌝ }
+{
     if !places_fit(bits, positions, readings) {
         return frames::frame(core, memory, identification, w, bytes, NO_COUNT, out);
     }
@@ -83,17 +114,52 @@ pub fn timed_frame(
     ) {
         return frames::frame(core, memory, identification, w, bytes, bits, out);
     }
+    carried_out(
+        core,
+        memory,
+        identification,
+        w,
+        mode,
+        bytes,
+        bits,
+        positions,
+        readings,
+        out,
+    )
+}
+
+// A frame that is not refused: the readings at 0 come, and then it is one at whose eighth edge a cycle ran or none did.
+fn carried_out(
+    core: Core,
+    memory: &mut [u8],
+    identification: &mut [u8],
+    w: bool,
+    mode: Mode,
+    bytes: &[u8],
+    bits: usize,
+    positions: &[usize],
+    readings: &[u32],
+    out: &mut [u8],
+) -> Framed
+    requires { ⌜ placesFit bits (now positions) (now readings) ≡ true ⌝ }
+    requires { ⌜ frameOutcome (ownPart core) core (length (now memory)) (length (now identification))
+        (length (now bytes)) bits (length (now out)) ≡ Done ⌝ }
+    ensures { λ r. ⌜ AnsweredInTime (ownPart core) core (lent (now (memory .entry)) (now (identification .entry)))
+        w mode (now (bytes .entry)) bits (now (positions .entry)) (now (readings .entry)) (now (out .entry))
+        r (now (memory .exit)) (now (identification .exit)) (now (out .exit)) ⌝ }
+{
     let start = Walk {
         core: core,
         next: 0,
     };
     let first = start.to(1, positions, readings, memory, identification);
-    if first.core.running() {
-        let next = first.next;
-        let rest = &positions[next..];
-        let times = &readings[next..];
+    let opened = first.core;
+    let next = first.next;
+    let rest = &positions[next..];
+    let times = &readings[next..];
+    if opened.running() {
         return ran_frame(
-            first.core,
+            opened,
             memory,
             identification,
             w,
@@ -105,8 +171,17 @@ pub fn timed_frame(
             out,
         );
     }
-    let last = first.to(bits / 8 + 1, positions, readings, memory, identification);
-    frames::frame(last.core, memory, identification, w, bytes, bits, out)
+    quiet_frame(
+        opened,
+        memory,
+        identification,
+        w,
+        bytes,
+        bits,
+        rest,
+        times,
+        out,
+    )
 }
 
 // Lengths, record and bit count are those of a frame.

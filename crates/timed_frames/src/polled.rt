@@ -1,7 +1,7 @@
 // A frame at whose eighth edge a cycle ran: RDSR shows the status byte by byte, nothing else is shown, and of the other
 // instructions only WRDI may be executed.
 ghost use mathlib.Core.Path.{_≡_};
-ghost use mathlib.Core.Bool.{Bool, true};
+ghost use mathlib.Core.Bool.{Bool, true, false};
 ghost use Prim.Native.Nat.{_+_, _*_, _-_, _<_, _≤_};
 ghost use lib.ListN.{length};
 ghost use Rattle.codes.specs.Part.{roomCells};
@@ -14,22 +14,55 @@ ghost use Rattle.frames.specs.Play.{frameBench};
 ghost use Rattle.frames.specs.Answers.{frameOutcome};
 ghost use Rattle.frames.specs.declared.FrameReply.the-variants.{Shown};
 ghost use Rattle.timed_frames.specs.Schedules.{due};
-ghost use Rattle.timed_frames.specs.InTime.{leftBy, loadedAt, sightsIn};
+ghost use Rattle.timed_frames.specs.declared.Mode.{Mode};
+ghost use Rattle.timed_frames.specs.InTime.{isWrdi, isRdsr, leftBy, loadedAt, sightsIn};
 ghost use Rattle.timed_frames.specs.Walked.{Walked, statusesOver};
 use crate::Mode;
 use crate::walk::Walk;
 use chip::Core;
-use codes::RDSR;
-use codes::WRDI;
+use codes::Instruction;
 use codes::wrdi_in_cycle;
-use fields::byte_at;
+use fields::instruction_of;
 use frames::Framed;
+
+fn is_wrdi(i: Instruction) -> bool
+    ensures { λ r. ⌜ r ≡ isWrdi i ⌝ }
+{
+    match i {
+        Instruction::Wren => false,
+        Instruction::Wrdi => true,
+        Instruction::Rdsr => false,
+        Instruction::Wrsr => false,
+        Instruction::Read => false,
+        Instruction::Write => false,
+        Instruction::Rdid => false,
+        Instruction::Wrid => false,
+        Instruction::Silence => false,
+    }
+}
+
+fn is_rdsr(i: Instruction) -> bool
+    ensures { λ r. ⌜ r ≡ isRdsr i ⌝ }
+{
+    match i {
+        Instruction::Wren => false,
+        Instruction::Wrdi => false,
+        Instruction::Rdsr => true,
+        Instruction::Wrsr => false,
+        Instruction::Read => false,
+        Instruction::Write => false,
+        Instruction::Rdid => false,
+        Instruction::Wrid => false,
+        Instruction::Silence => false,
+    }
+}
 
 // What the frame leaves, where a cycle ran at its eighth edge, whatever W is.
 fn after_ran(core: Core, bytes: &[u8], bits: usize) -> Core
     ensures { λ r. ⌜ ((w : Bool) → r ≡ after (ownPart core) true w core (now (bytes .entry)) bits) ⌝ }
 {
-    if wrdi_in_cycle(core.part) & (byte_at(bytes, 0) == WRDI) & (bits == 8) {
+    let i = instruction_of(core.part, bytes);
+    if wrdi_in_cycle(core.part) & is_wrdi(i) & (bits == 8) {
         return core.with_wel(0);
     }
     core
@@ -126,7 +159,7 @@ pub(crate) fn ran_frame(
 {
     let shown = frames::frame(core, memory, identification, w, bytes, bits, out);
     let answer = shown.answer;
-    if byte_at(bytes, 0) == RDSR {
+    if is_rdsr(instruction_of(core.part, bytes)) {
         let polled = show_statuses(
             core,
             mode,
@@ -152,4 +185,38 @@ pub(crate) fn ran_frame(
         answer: answer,
         core: after_ran(last.core, bytes, bits),
     }
+}
+
+// A frame at whose eighth edge no cycle ran, no reading of position 0 left. No reading inside it changes a cell or the
+// status, so that it is the plain frame after all of them.
+pub(crate) fn quiet_frame(
+    core: Core,
+    memory: &mut [u8],
+    identification: &mut [u8],
+    w: bool,
+    bytes: &[u8],
+    bits: usize,
+    positions: &[usize],
+    readings: &[u32],
+    out: &mut [u8],
+) -> Framed
+    requires { ⌜ frameOutcome (ownPart core) core (length (now memory)) (length (now identification))
+        (length (now bytes)) bits (length (now out)) ≡ Done ⌝ }
+    requires { ⌜ (length (now positions) ≡ length (now readings)) × (due 1 (now positions) ≡ 0) ⌝ }
+    requires { ⌜ running core ≡ false ⌝ }
+    ensures { λ r. ⌜ r .answer ≡ Shown (undriven (ownPart core) (instruction (ownPart core) (now (bytes .entry)))
+        (running core) bits) ⌝ }
+    ensures { λ r. ⌜ frameBench (r .core) (now (memory .exit)) (now (identification .exit))
+        ≡ leftBy (ownPart core) (now (positions .entry)) (now (readings .entry))
+        (frameBench core (now (memory .entry)) (now (identification .entry))) w (now (bytes .entry)) bits ⌝ }
+    ensures { λ _. ⌜ ((o : Mode) → now (out .exit) ≡ output (ownPart core) (running core)
+        (sightsIn (ownPart core) (now (positions .entry)) (now (readings .entry))
+        (frameBench core (now (memory .entry)) (now (identification .entry))) o) (now (bytes .entry)) bits) ⌝ }
+{
+    let start = Walk {
+        core: core,
+        next: 0,
+    };
+    let last = start.to(bits / 8 + 1, positions, readings, memory, identification);
+    frames::frame(last.core, memory, identification, w, bytes, bits, out)
 }
