@@ -713,7 +713,7 @@ static void check_same(const char *name, int is_stream)
 }
 
 /* Where the stack stands decides how the records that go by value lie to the cache lines, and a short frame takes up to
- * a third longer in one place than in another. So the batches go round all places of 256 bytes, 16 bytes apart. */
+ * a third longer in one place than in another. So the batches go round places over 4 KB, 272 bytes apart. */
 enum { PLACES = 16, APART = 272 };
 
 static __attribute__((noinline)) double timed_at(size_t place, void (*run)(size_t), size_t n)
