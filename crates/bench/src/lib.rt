@@ -3,6 +3,8 @@
 //
 // Each function takes the numbers that C hands over, calls the proved public call and puts its answer together: the
 // record crosses as it is, so nothing is lost on the way. A level or a flag that is not 0 or 1 gets refusal 2.
+#![tactic(auto)]
+
 mod core_calls;
 mod cut_calls;
 mod device_calls;
@@ -20,7 +22,7 @@ use pins::Device;
 
 // An answer's number and the record that it leaves.
 #[repr(C)]
-#[derive(Drop)]
+#[derive(Clone, Copy)]
 pub struct CoreAnswer {
     pub number: u32,
     pub core: Core,
@@ -28,7 +30,7 @@ pub struct CoreAnswer {
 
 // Of a frame: also how many leading bits were undriven.
 #[repr(C)]
-#[derive(Drop)]
+#[derive(Clone, Copy)]
 pub struct FrameAnswer {
     pub number: u32,
     pub undriven: u64,
@@ -37,7 +39,7 @@ pub struct FrameAnswer {
 
 // Of an event, a list of events or power-up of the pin model.
 #[repr(C)]
-#[derive(Drop)]
+#[derive(Clone, Copy)]
 pub struct DeviceAnswer {
     pub number: u32,
     pub device: Device,
@@ -45,7 +47,7 @@ pub struct DeviceAnswer {
 
 // Of a page write laid over another.
 #[repr(C)]
-#[derive(Drop)]
+#[derive(Clone, Copy)]
 pub struct LatchAnswer {
     pub number: u32,
     pub latch: Latch,
@@ -53,7 +55,7 @@ pub struct LatchAnswer {
 
 // Of a run of the driver: also pages done and frames sent.
 #[repr(C)]
-#[derive(Drop)]
+#[derive(Clone, Copy)]
 pub struct DriverAnswer {
     pub number: u32,
     pub pages: u32,
@@ -63,7 +65,7 @@ pub struct DriverAnswer {
 
 // A question's number and its value, 0 in a refusal.
 #[repr(C)]
-#[derive(Drop)]
+#[derive(Clone, Copy)]
 pub struct Value {
     pub number: u32,
     pub value: u32,

@@ -1,6 +1,8 @@
 // The number of blank cells of a memory: the scan, and how a page write moves it by its page alone.
 //
 // Inner calls only, each total and exactly its definition: blanks, store_counting.
+#![tactic(auto)]
+
 ghost use Rattle.std.specs.Prelude.{◌≡◌, ◌+◌, ◌-◌, ◌≤◌, length};
 ghost use Rattle.codes.specs.Part.{part_of, room_cells};
 ghost use Rattle.latch.specs.Latches.{stored};

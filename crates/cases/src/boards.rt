@@ -11,7 +11,7 @@ use latch::ROOM;
 pub type Memory = [u8; LARGE_SIZE];
 
 // Of the memory the first `size` cells are lent.
-#[derive(Drop)]
+#[derive(Clone, Copy)]
 pub struct Board {
     pub core: Core,
     pub memory: Memory,
@@ -71,7 +71,7 @@ pub fn counted(board: Board) -> u32 {
 // ---- frames
 
 // What a frame gives back: its number, the undriven count, the output and the record that it leaves.
-#[derive(Drop)]
+#[derive(Clone, Copy)]
 pub struct Reply {
     pub number: u32,
     pub undriven: usize,
@@ -152,7 +152,7 @@ pub fn after(board: Board, number: u64, bits: usize) -> Board {
 // ---- clock readings
 
 // What a clock reading gives back: its number, and the board then.
-#[derive(Drop)]
+#[derive(Clone, Copy)]
 pub struct Later {
     pub number: u32,
     pub board: Board,
@@ -186,7 +186,7 @@ pub fn passed(board: Board, reading: u32) -> Later {
 // ---- driver runs
 
 // What a run gives back: its number, pages done, frames sent, and the board that it leaves.
-#[derive(Drop)]
+#[derive(Clone, Copy)]
 pub struct Run {
     pub number: u32,
     pub pages: u32,

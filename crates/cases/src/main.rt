@@ -1,5 +1,7 @@
 // Worked cases through the public calls, a line each: what was asked, and the number given back. The gate compares
 // them with the file stdout, whose numbers were worked out by hand from the rules.
+#![tactic(auto)]
+
 use boards::{Board, Memory, asked, lent, over, passed, sent, zeros};
 use chip::{Core, PoweredUp, power_up};
 use codes::{M95512, longest_of, size_of, wide};

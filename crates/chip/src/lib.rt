@@ -3,6 +3,8 @@
 //
 // Public calls, each for every input: power_up, in_ranges, protected_from, protection, cells_touched, clock_reading.
 // Every other public function is an inner call of the models: total, and exactly its definition.
+#![tactic(auto)]
+
 use codes::{Outcome, Refusal};
 use latch::Latch;
 
@@ -27,7 +29,7 @@ pub use time::{elapsed, left_after, lent_fits};
 // What waits for the end of the cycle: nothing (kind 0), a status value (1) or a page (2); of a part that has them also
 // the identification page (3) or the lock (4). What does not wait reads 0.
 #[repr(C)]
-#[derive(Drop)]
+#[derive(Clone, Copy)]
 pub struct Waiting {
     pub kind: u8,
     pub status: u8,
@@ -37,7 +39,7 @@ pub struct Waiting {
 
 // The core record. All its fields are numbers: one record serves C too, and a flag of 2 is outside the ranges.
 #[repr(C)]
-#[derive(Drop)]
+#[derive(Clone, Copy)]
 pub struct Core {
     // 0 the M95512, 1 the M95512-D, 2 the M95M01
     pub part: u8,
@@ -56,14 +58,14 @@ pub struct Core {
 }
 
 // Where protection starts: the lowest protected address, the memory's size for none.
-#[derive(Drop)]
+#[derive(Clone, Copy)]
 pub enum ProtectedFrom {
     Address(u32),
     Refused(Refusal),
 }
 
 // Whether an address is protected.
-#[derive(Drop)]
+#[derive(Clone, Copy)]
 pub enum Protection {
     Open,
     Protected,
@@ -71,21 +73,21 @@ pub enum Protection {
 }
 
 // How many cells the running cycle will touch, 0 where no latched bytes wait.
-#[derive(Drop)]
+#[derive(Clone, Copy)]
 pub enum Touched {
     Cells(u32),
     Refused(Refusal),
 }
 
 // What power-up hands back.
-#[derive(Drop)]
+#[derive(Clone, Copy)]
 pub struct PoweredUp {
     pub outcome: Outcome,
     pub core: Core,
 }
 
 // What a clock reading hands back.
-#[derive(Drop)]
+#[derive(Clone, Copy)]
 pub struct Timed {
     pub outcome: Outcome,
     pub core: Core,

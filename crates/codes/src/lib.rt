@@ -2,6 +2,8 @@
 // instruction codes, the verdict on a frame, the status byte, where protection starts, and the numbers of the refusals.
 //
 // Every public function is an inner call of the models: total, and exactly its definition.
+#![tactic(auto)]
+
 mod answers;
 mod instructions;
 mod protect;
@@ -22,7 +24,7 @@ pub use status::{bp0_of, bp1_of, srwd_of, status_byte, wide, writable};
 pub use verdicts::judge;
 
 // The refusals 1 to 8, in their order; specs/Refusals.antt has their numbers.
-#[derive(Drop)]
+#[derive(Clone, Copy)]
 pub enum Refusal {
     MemoryLength,
     RecordRange,
@@ -35,14 +37,14 @@ pub enum Refusal {
 }
 
 // The answer of a call that hands back no number beside its record.
-#[derive(Drop)]
+#[derive(Clone, Copy)]
 pub enum Outcome {
     Done,
     Refused(Refusal),
 }
 
 // What an instruction byte says.
-#[derive(Drop)]
+#[derive(Clone, Copy)]
 pub enum Instruction {
     Wren,
     Wrdi,
@@ -56,7 +58,7 @@ pub enum Instruction {
 }
 
 // Bits at deselect: exactly so many, any number, or so many and more in whole bytes.
-#[derive(Drop)]
+#[derive(Clone, Copy)]
 pub enum Count {
     Exactly(usize),
     AnyBits,
@@ -64,7 +66,7 @@ pub enum Count {
 }
 
 // What stops an instruction beside a cycle, WEL and its count: SRWD 1 with W low, or protected cells.
-#[derive(Drop)]
+#[derive(Clone, Copy)]
 pub enum Guard {
     Nothing,
     StatusLock,
@@ -72,7 +74,7 @@ pub enum Guard {
 }
 
 // A row of the table of instructions; specs/Instructions.antt has the table.
-#[derive(Drop)]
+#[derive(Clone, Copy)]
 pub struct Row {
     pub count: Count,
     pub idle: bool,
@@ -83,7 +85,7 @@ pub struct Row {
 }
 
 // What a deselect decides: the frame is executed, or the first test that failed.
-#[derive(Drop)]
+#[derive(Clone, Copy)]
 pub enum Verdict {
     Executed,
     CycleRan,

@@ -5,6 +5,8 @@
 // It waits until no cycle runs, reads from the status byte that ended that wait where protection starts, and refuses a
 // run that touches the block. Else it sends WREN and WRITE for each page part and waits for the end of its cycle. It
 // says exactly what it did. Public call, for every input: write.
+#![tactic(auto)]
+
 ghost use Rattle.std.specs.Prelude.{◌≡◌, ◌+◌, ◌≤◌, length};
 ghost use Rattle.chip.specs.Records.{own_part};
 ghost use Rattle.frames.specs.Play.{frame_bench};
@@ -24,14 +26,14 @@ mod status;
 mod waiting;
 
 // Pages done and frames sent.
-#[derive(Drop)]
+#[derive(Clone, Copy)]
 pub struct Sent {
     pub pages: u32,
     pub frames: u32,
 }
 
 // How a run ended, with its counts, or the refusal.
-#[derive(Drop)]
+#[derive(Clone, Copy)]
 pub enum RunReply {
     Done(Sent),
     TimedOut(Sent),
@@ -40,7 +42,7 @@ pub enum RunReply {
 }
 
 // What a run hands back: its answer, and the record that follows or, in a refusal, the record as given.
-#[derive(Drop)]
+#[derive(Clone, Copy)]
 pub struct Driven {
     pub answer: RunReply,
     pub core: Core,

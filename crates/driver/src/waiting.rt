@@ -10,7 +10,7 @@ ghost use Rattle.driver.specs.Answers.{LimitFits};
 use chip::Core;
 
 // What a wait saw last, the record after it, and the frames sent.
-#[derive(Drop)]
+#[derive(Clone, Copy)]
 pub(crate) struct Waited {
     pub(crate) status: u8,
     pub(crate) core: Core,

@@ -21,7 +21,7 @@ pub const W: u64 = 3;
 const HOLD: u64 = 4;
 
 // The pin model: its device and its identification page.
-#[derive(Drop)]
+#[derive(Clone, Copy)]
 pub struct PinSide {
     pub device: Device,
     pub page: Page,

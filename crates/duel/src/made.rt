@@ -205,7 +205,7 @@ fn address_in(part: u8, bytes: &Bytes) -> u32 {
 }
 
 // What is counted of a frame: its instruction byte, its address and its count of bits.
-#[derive(Drop)]
+#[derive(Clone, Copy)]
 pub struct Head {
     pub code: u8,
     pub address: u32,

@@ -2,6 +2,8 @@
 // Write Protect: the frame model takes whole frames, some with clock readings inside, the pin model the same frames
 // drawn as single pin changes, some of them deselected in Hold. The gate compares the summary with the file stdout; the
 // first difference would stand before it, with its round and act, and end the run.
+#![tactic(auto)]
+
 use crate::cells::{Memory, blank, changed, fill};
 use crate::chance::percent;
 use crate::rounds::{Pair, act, cells_alike, powered};

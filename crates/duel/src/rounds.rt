@@ -19,14 +19,14 @@ use frames::Framed;
 use timed_frames::{Mode, timed_frame};
 
 // The frame model: its record and its identification page.
-#[derive(Drop)]
+#[derive(Clone, Copy)]
 pub struct FrameSide {
     pub core: Core,
     pub page: Page,
 }
 
 // Both models, the frame model with its level of W.
-#[derive(Drop)]
+#[derive(Clone, Copy)]
 pub struct Pair {
     pub frames: FrameSide,
     pub w: bool,

@@ -13,7 +13,7 @@ pub const MANY: usize = 4;
 
 // The mode of a frame, whether it is deselected in Hold, and the readings inside it: the first few of each list. No
 // position falls.
-#[derive(Drop)]
+#[derive(Clone, Copy)]
 pub struct Schedule {
     pub mode3: bool,
     pub held: bool,
@@ -23,7 +23,7 @@ pub struct Schedule {
 }
 
 // A position and its reading, and what is then left of the cycle.
-#[derive(Drop)]
+#[derive(Clone, Copy)]
 struct Moment {
     at: usize,
     reading: u32,

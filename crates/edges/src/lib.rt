@@ -1,6 +1,8 @@
 // The frame in hand of the pin model, by the edges of its clock: what a counted rising edge takes, what an unheld
 // falling edge shows, and the ranges of its fields. Its calls are inner ones, each total; the public ones, with their
 // refusals, are those of pins and lists.
+#![tactic(auto)]
+
 use latch::Latch;
 
 mod falling;
@@ -15,7 +17,7 @@ pub use rising::{address_with, next_address, shifted_in};
 
 // The frame in hand. Fields that it has not reached are 0.
 #[repr(C)]
-#[derive(Drop)]
+#[derive(Clone, Copy)]
 pub struct Frame {
     // whole bytes taken, staying at 5, or at 6 of an M95M01
     pub taken: u8,
@@ -36,7 +38,7 @@ pub struct Frame {
 }
 
 // What Q shows.
-#[derive(Drop)]
+#[derive(Clone, Copy)]
 pub enum Level {
     Zero,
     One,

@@ -1,6 +1,8 @@
 // Events as numbers: which numbers of a list stand for one, and for which.
 //
 // Every public function is an inner call of the models: total, and exactly its definition.
+#![tactic(auto)]
+
 ghost use Rattle.std.specs.Prelude.{◌≡◌, eqb};
 ghost use Rattle.pins.specs.Events.{event_of};
 ghost use Rattle.events.specs.Events.{is_event, are_events};

@@ -1,6 +1,8 @@
 // The bytes of a frame: the code, the address, the data, and the page write that latches the data of a WRITE or an 82h.
 //
 // Every public function is an inner call of the models: total, and exactly its definition.
+#![tactic(auto)]
+
 mod counts;
 mod fields;
 mod runs;

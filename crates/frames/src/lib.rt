@@ -2,6 +2,8 @@
 //
 // Public calls, each for every input: frame, and chip's power_up and clock_reading, whose record this model holds.
 // Inner calls, total, and exactly their definitions: wren, write.
+#![tactic(auto)]
+
 ghost use Rattle.std.specs.Prelude.{◌≡◌, length};
 ghost use Rattle.chip.specs.Records.{own_part};
 ghost use Rattle.frames.specs.Answers.{framed, framed_output, frame_reply_number, frame_reply_undriven, frame_number};
@@ -18,14 +20,14 @@ mod sent;
 pub use sent::{wren, write};
 
 // How many leading bits of the count were undriven, or the refusal.
-#[derive(Drop)]
+#[derive(Clone, Copy)]
 pub enum FrameReply {
     Shown(usize),
     Refused(Refusal),
 }
 
 // What a frame hands back: its answer, and the record that follows or, in a refusal, the record as given.
-#[derive(Drop)]
+#[derive(Clone, Copy)]
 pub struct Framed {
     pub answer: FrameReply,
     pub core: Core,

@@ -1,6 +1,8 @@
 // Makes a HEX text of a raw image, and a raw image of a HEX text. `--help` says how.
 //
 // The result is written to a file beside the one asked for, which then takes its name: nobody sees half of it there.
+#![tactic(auto)]
+
 ghost use Rattle.std.specs.Prelude.{◌≡◌, ◌≤◌, length};
 
 use chip::Core;

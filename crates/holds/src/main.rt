@@ -1,6 +1,8 @@
 // Deselect in Hold, event by event through the public calls of the pin model: a frame is clocked in, HOLD goes low and
 // S rises. A line for each frame: its status byte afterwards, the time left, and the cell once the longest cycle has
 // passed. First the M95512, then the M95M01. The gate compares them with the file stdout.
+#![tactic(auto)]
+
 use codes::{M95M01, M95512, WRDI, WREN, head_of, longest_of, page_of, size_of, wide};
 use latch::ROOM;
 use libc::STDOUT_FILENO;
@@ -92,7 +94,7 @@ fn write_bits(part: u8) -> usize {
 
 // A case: BP0 and WEL before it, a WRITE of one byte whose cycle runs, or 0, the frame and how many of its bits are
 // sent, and the cell that is shown.
-#[derive(Drop)]
+#[derive(Clone, Copy)]
 struct Case {
     part: u8,
     bp0: bool,

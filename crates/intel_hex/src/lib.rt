@@ -2,6 +2,8 @@
 // bits, so the images are those of the M95512 and the M95512-D.
 //
 // Public calls, each for every input: export, import; bad_line, where a text is not good.
+#![tactic(auto)]
+
 use chip::Core;
 use codes::Refusal;
 
@@ -14,7 +16,7 @@ pub use public::{bad_line, export, import};
 
 // What export and import are answered with. A text that is not good is not taken, nor is any while a cycle runs; of a
 // part of another size, the M95M01, no image is taken either way.
-#[derive(Drop)]
+#[derive(Clone, Copy)]
 pub enum HexReply {
     Done,
     NotTaken,
@@ -22,7 +24,7 @@ pub enum HexReply {
 }
 
 // What import hands back.
-#[derive(Drop)]
+#[derive(Clone, Copy)]
 pub struct Imported {
     pub answer: HexReply,
     pub core: Core,

@@ -121,7 +121,7 @@ fn line_length(text: &[u8], values: &[u32; 256]) -> usize
 }
 
 // How many good records a text begins with, and the index after them.
-#[derive(Drop)]
+#[derive(Clone, Copy)]
 pub(crate) struct Checked {
     pub(crate) lines: usize,
     pub(crate) at: usize,

@@ -16,7 +16,6 @@ use Rattle.laws.specs.Table.{table, table_length, table_at, table_cong, table_is
 use Rattle.laws.specs.Bits.{bit_on}
 use Rattle.laws.specs.Marks.{mark, mark_at}
 use Rattle.latch.specs.Latches.{laid}
-use Rattle.latch.specs.declared.Latch.{Latch}
 use Rattle.latch.specs.Words.{word_marked, word_laid}
 
 -- ---- which cells are marked

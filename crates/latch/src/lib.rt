@@ -2,6 +2,8 @@
 // stored in.
 //
 // Every public function is an inner call of the models: total, and exactly its definition.
+#![tactic(auto)]
+
 mod lay;
 mod pages;
 mod ranges;
@@ -25,7 +27,7 @@ pub(crate) const FULL: u64 = 0xffff_ffff_ffff_ffff;
 // Up to a page of latched bytes, and a mark on each addressed one: cell i has bit i % 64 of word i / 64. Unmarked bytes
 // read 0.
 #[repr(C)]
-#[derive(Drop)]
+#[derive(Clone, Copy)]
 pub struct Latch {
     pub bytes: [u8; ROOM],
     pub marks: [u64; WORDS],

@@ -1,6 +1,8 @@
 // One page write laid over another, the later winning: what two retries in a row leave.
 //
 // Public call, for every input: lay. over is an inner call: total, and exactly its definition.
+#![tactic(auto)]
+
 ghost use Rattle.std.specs.Prelude.{◌≡◌};
 ghost use Rattle.codes.specs.Refusals.{number};
 ghost use Rattle.laying.specs.Laying.{lay_number, laid_over, over};
@@ -9,7 +11,7 @@ use codes::{M95M01, Outcome, Refusal};
 use latch::Latch;
 
 // What laying hands back: the page write, or the earlier one as it was given.
-#[derive(Drop)]
+#[derive(Clone, Copy)]
 pub struct Laid {
     pub outcome: Outcome,
     pub latch: Latch,

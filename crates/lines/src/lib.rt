@@ -3,13 +3,15 @@
 // Its calls are inner ones, for the player, each for every line: next, what a byte makes of it; closing, whether a
 // byte ends it; event, what it says; fits, its ranges; ended, the end of the text. Four of them take a line of a level
 // whole: is_fresh, level_kind, level_event, past_line.
+#![tactic(auto)]
+
 mod levels;
 mod reading;
 
 pub use levels::{level_event, level_kind};
 
 // The line in hand.
-#[derive(Drop)]
+#[derive(Clone, Copy)]
 pub struct Line {
     // lines that are whole, 0 to 1,000,000
     pub whole: u32,

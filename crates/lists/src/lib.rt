@@ -1,6 +1,8 @@
 // A list of events at once, with Q after each: the pin model for long traces.
 //
 // Public call, for every input: play.
+#![tactic(auto)]
+
 mod fronts;
 mod listed;
 mod stretches;
@@ -9,7 +11,7 @@ mod ways;
 pub use listed::play;
 
 // All of a device but the bytes it latches and its core.
-#[derive(Drop)]
+#[derive(Clone, Copy)]
 pub(crate) struct Front {
     pub s: u8,
     pub c: u8,
@@ -29,7 +31,7 @@ pub(crate) struct Front {
 }
 
 // What an event moves. A byte is whole where `taken` stands without bits.
-#[derive(Drop)]
+#[derive(Clone, Copy)]
 pub(crate) enum Way {
     // D
     Data(u8),
@@ -74,7 +76,7 @@ pub(crate) enum Way {
 }
 
 // What an event moves within a byte.
-#[derive(Drop)]
+#[derive(Clone, Copy)]
 pub(crate) enum Move {
     // D
     Data(u8),
@@ -87,7 +89,7 @@ pub(crate) enum Move {
 }
 
 // Where a stretch of such events ended, at event i, and what Q shows there.
-#[derive(Drop)]
+#[derive(Clone, Copy)]
 pub(crate) struct Stretch {
     pub front: Front,
     pub q: u8,

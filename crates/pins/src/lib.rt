@@ -3,6 +3,8 @@
 // Public calls, each for every input: power_up; the methods of Device set_s, set_c, set_d, set_w, set_hold and
 // read_clock, one for each kind of event; cut, a supply cut; q and status, what the device shows; cells_touched and
 // in_ranges.
+#![tactic(auto)]
+
 use chip::Core;
 use codes::{Outcome, Refusal};
 use edges::{Frame, Level};
@@ -18,7 +20,7 @@ pub use public::power_up;
 
 // The levels of the five pins, 1 for high.
 #[repr(C)]
-#[derive(Drop)]
+#[derive(Clone, Copy)]
 pub struct Pins {
     pub s: u8,
     pub c: u8,
@@ -29,7 +31,7 @@ pub struct Pins {
 
 // The device. All its fields are numbers, as in the core record.
 #[repr(C)]
-#[derive(Drop)]
+#[derive(Clone, Copy)]
 pub struct Device {
     pub pins: Pins,
     pub held: u8,
@@ -38,7 +40,7 @@ pub struct Device {
 }
 
 // An event sets one pin or gives a clock reading.
-#[derive(Drop)]
+#[derive(Clone, Copy)]
 pub enum Event {
     S(bool),
     C(bool),
@@ -49,21 +51,21 @@ pub enum Event {
 }
 
 // Q of a device, or the refusal.
-#[derive(Drop)]
+#[derive(Clone, Copy)]
 pub enum QAnswer {
     Shows(Level),
     Refused(Refusal),
 }
 
 // The status byte of a device, or the refusal.
-#[derive(Drop)]
+#[derive(Clone, Copy)]
 pub enum StatusAnswer {
     Byte(u8),
     Refused(Refusal),
 }
 
 // What an event or power-up hands back, and a list of events (crate lists).
-#[derive(Drop)]
+#[derive(Clone, Copy)]
 pub struct Stepped {
     pub outcome: Outcome,
     pub device: Device,

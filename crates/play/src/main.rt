@@ -2,13 +2,15 @@
 // an argument names, and its output to standard output. `--help` says how.
 //
 // The text is read in chunks of 6,551 bytes, so that what a chunk puts out fits 65,536; nothing else is kept of it.
+#![tactic(auto)]
+
 ghost use Rattle.std.specs.Prelude.{◌≡◌, ◌≤◌, length};
 
 use codes::{M95M01, M95512, M95512D, page_of, size_of};
 use libc::{STDERR_FILENO, STDIN_FILENO, STDOUT_FILENO};
 use player::Player;
 
-#[derive(Drop)]
+#[derive(Clone, Copy)]
 struct Turned {
     player: Player,
     more: bool,

@@ -2,6 +2,8 @@
 //
 // Public calls, each for every input: start, memory and identification, what a text starts from; in_ranges, of a
 // player. The text is taken by trace.
+#![tactic(auto)]
+
 ghost use Rattle.std.specs.Prelude.{◌≡◌, ◌++◌, ℕ, ◌-◌, length, replicate, take};
 ghost use Rattle.codes.specs.Part.{m95m01, part_of, room};
 ghost use Rattle.chip.specs.Power.{delivered_memory, delivered_identification};
@@ -14,7 +16,7 @@ use lines::Line;
 use pins::Device;
 
 // A text in hand: whether its header is out, the line in hand, and the device after the last whole line.
-#[derive(Drop)]
+#[derive(Clone, Copy)]
 pub struct Player {
     pub headed: u8,
     pub line: Line,

@@ -3,6 +3,8 @@
 // Public calls, each for every input: put_bytes, put_decimal, put_header, put_bad, print. Each writes from an index on
 // and hands back the index after what it wrote. Where the lent bytes have not as many from there on as it asks for, it
 // writes nothing and hands back the index itself.
+#![tactic(auto)]
+
 mod digits;
 mod output;
 mod put;

@@ -4,6 +4,8 @@
 //
 // Public calls, each for any four numbers: the refusal, the number of parts, the address and the length of one part.
 // The refusal is 7 where the run leaves the memory or has no such part, and the other three are 0 there.
+#![tactic(auto)]
+
 ghost use Rattle.std.specs.Prelude.{◌≡◌, ◌+◌, ◌/◌, ◌≤◌};
 ghost use Rattle.codes.specs.Part.{part_of, room, room_cells};
 ghost use Rattle.split.specs.Split.{count, start, end, split_refusal, split_parts, split_address, split_length};

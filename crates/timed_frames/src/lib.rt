@@ -1,6 +1,8 @@
 // The frame model with clock readings inside a frame: a poll that sits on RDSR sees the cycle end.
 //
 // Public call, for every input: timed_frame.
+#![tactic(auto)]
+
 ghost use Rattle.std.specs.Prelude.{◌≡◌, length, true, false};
 ghost use Rattle.chip.specs.Lents.{lent};
 ghost use Rattle.chip.specs.Records.{own_part};
@@ -22,7 +24,7 @@ use polled::{quiet_frame, ran_frame};
 use walk::{Walk, places_fit};
 
 // The SPI mode: where the falling edge stands beside the readings of its position.
-#[derive(Drop)]
+#[derive(Clone, Copy)]
 pub enum Mode {
     Zero,
     Three,

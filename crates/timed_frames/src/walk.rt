@@ -7,7 +7,7 @@ ghost use Rattle.timed_frames.specs.Schedules.{due, passed, places_fit, rising};
 use chip::Core;
 
 // The record after the readings that came, and how many came.
-#[derive(Drop)]
+#[derive(Clone, Copy)]
 pub(crate) struct Walk {
     pub(crate) core: Core,
     pub(crate) next: usize,

@@ -30,7 +30,7 @@ fn marked(device: Device) -> bool
 }
 
 // The device after some events, and the index after their lines.
-#[derive(Drop)]
+#[derive(Clone, Copy)]
 struct Shown {
     device: Device,
     at: usize,
@@ -68,7 +68,7 @@ fn show(
 }
 
 // The line and the device after a piece of the text, and the index after its output.
-#[derive(Drop)]
+#[derive(Clone, Copy)]
 struct Placed {
     line: Line,
     device: Device,

@@ -3,6 +3,8 @@
 //
 // Public calls, each for every input: feed, a chunk of the text; finish, its end; and player's start, memory,
 // identification and in_ranges, whose player these take.
+#![tactic(auto)]
+
 use codes::Refusal;
 use player::Player;
 
@@ -13,7 +15,7 @@ mod public;
 pub use public::{feed, finish};
 
 // What a chunk, or the end of the text, is answered with.
-#[derive(Drop)]
+#[derive(Clone, Copy)]
 pub enum FeedReply {
     Played,
     BadLine,
@@ -21,7 +23,7 @@ pub enum FeedReply {
 }
 
 // The player that follows, and how many bytes of the output were written.
-#[derive(Drop)]
+#[derive(Clone, Copy)]
 pub struct Fed {
     pub answer: FeedReply,
     pub player: Player,

@@ -6,7 +6,7 @@ ghost use Rattle.trace.specs.Takes.{Takes};
 use lines::{Line, level_event, level_kind};
 
 // The line in hand after the run, and how many lines ended in it.
-#[derive(Drop)]
+#[derive(Clone, Copy)]
 pub(crate) struct Parsed {
     pub(crate) line: Line,
     pub(crate) count: usize,
@@ -14,7 +14,7 @@ pub(crate) struct Parsed {
 
 // What is taken at once: a byte, or a whole line. How many bytes these are; the line in hand after them; how many
 // lines end in them, one or none, and its event.
-#[derive(Drop)]
+#[derive(Clone, Copy)]
 struct Taken {
     bytes: usize,
     line: Line,

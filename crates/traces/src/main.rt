@@ -1,6 +1,8 @@
 // Texts of every kind through the trace library: an empty one, good ones, each kind of bad line, one text cut in many
 // ways, one on the M95M01, a million lines and one more, and what is refused. The gate compares what it writes with the
 // file stdout, which an independent player made from the rules (the refusals by hand).
+#![tactic(auto)]
+
 ghost use Rattle.std.specs.Prelude.{◌≡◌, ◌<◌, ◌≤◌, length};
 
 use codes::{M95M01, M95512, page_of, size_of};
@@ -227,7 +229,7 @@ fn long_line() {
 
 // ---- a million lines, made here: RDSR frames of 42 lines. Their output is counted and summed.
 
-#[derive(Drop)]
+#[derive(Clone, Copy)]
 struct Summed {
     player: Player,
     bytes: u64,

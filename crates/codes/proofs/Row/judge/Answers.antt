@@ -1,0 +1,27 @@
+use Rattle.laws.specs.Pick.{arms}
+use Rattle.codes.specs.Verdicts.{verdict_by}
+use Rattle.codes.proofs.Row.judge.Goals as goal
+
+pub returns-then-bits-lt8 : goal.returns-then-bits-lt8
+unfolding verdict_by
+returns-then-bits-lt8 c = search arms depth 12
+
+pub returns-then-self-ran : goal.returns-then-self-ran
+unfolding verdict_by
+returns-then-self-ran c = search arms depth 12
+
+pub returns-then-self-wel : goal.returns-then-self-wel
+unfolding verdict_by
+returns-then-self-wel c = search arms depth 12
+
+pub returns-then-stops : goal.returns-then-stops
+unfolding verdict_by
+returns-then-stops c = search arms depth 12
+
+pub returns-then-stops-2 : goal.returns-then-stops-2
+unfolding verdict_by
+returns-then-stops-2 c = search arms depth 12
+
+pub returns : goal.returns
+unfolding verdict_by
+returns c = search arms depth 12
