@@ -49,7 +49,7 @@ fn latch_run(cells: &mut [u8], start: usize, run: &[u8])
         ≡ spliced cells.old run.now start (length run.now) }
 {
     let end = start + run.len();
-    bytes::copy(run, &mut cells[start..end]);
+    cells[start..end].copy_from_slice(run);
 }
 
 // Bytes latched from an address up and round within its page. Only the last page of them stays, in at most two runs: up

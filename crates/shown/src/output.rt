@@ -26,11 +26,11 @@ fn show_cells(memory: &[u8], from: usize, out: &mut [u8])
     let run = size - from;
     if n <= run {
         let end = from + n;
-        bytes::copy(&memory[from..end], out);
+        out.copy_from_slice(&memory[from..end]);
     } else {
         let rest = n - run;
-        bytes::copy(&memory[from..size], &mut out[0..run]);
-        bytes::copy(&memory[0..rest], &mut out[run..n]);
+        out[0..run].copy_from_slice(&memory[from..size]);
+        out[run..n].copy_from_slice(&memory[0..rest]);
     }
 }
 
