@@ -1,13 +1,11 @@
 -- What an executed instruction leaves is inside the ranges, in both models.
-use Rattle.std.proofs.Common.{◌≡◌, ℕ, ◌+◌, ◌*◌, ◌/◌, ◌<◌, ◌≤◌, Bool, true, false, not, ◌&&◌, ◌||◌, eqb, leb, length, get_or, sym, refl, ◌∙◌, true≢false, mod-lt, arith, lt-ltb, eq-eqb, le-leb, leb-true}
-use lib.ListN.{get_or-replicate}
+use Rattle.std.proofs.Common.{◌≡◌, ℕ, ◌+◌, ◌*◌, ◌/◌, ◌<◌, ◌≤◌, Bool, true, false, not, ◌&&◌, ◌||◌, leb, sym, refl, ◌∙◌, true≢false, mod-lt, arith, lt-ltb, eq-eqb, le-leb, leb-true}
 use borrow.Author.Tests.{not-false}
-use Rattle.laws.specs.Pick.{pick, at_yes, at_no, pick_case, and_left, and_right, and_both, and_no_right}
+use Rattle.laws.specs.Pick.{pick, at_yes, at_no, and_left, and_right, and_both, and_no_right}
 use Rattle.laws.specs.And.{or_right}
-use Rattle.laws.specs.Each.{each_at, each_of}
 use Rattle.codes.specs.Part.{Part, is_part, pages}
 use Rattle.codes.specs.Status.{on, bit_of, writable}
-use Rattle.latch.specs.Latches.{zeros, no_latch, latched, cell_fits, latch_fits}
+use Rattle.latch.specs.Latches.{no_latch, latch_fits}
 use Rattle.chip.specs.Records.{running, waits_nothing, nothing, status_waits, page_waits, identification_waits, lock_waits, with_wel, with_cycle}
 use Rattle.chip.specs.Ranges.{value_fits, page_fits, wait_fits, waits_one}
 use Rattle.codes.specs.Verdicts.{verdict, is_executed}

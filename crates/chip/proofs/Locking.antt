@@ -1,6 +1,6 @@
 -- An identification page that is locked while none waits stays so, over every executed instruction and every reading: the lock stops 82h. And what makes
 -- the lock wait.
-use Rattle.std.proofs.Common.{◌≡◌, ℕ, Bool, true, false, not, ◌&&◌, ◌||◌, List, refl, ap, ◌∙◌}
+use Rattle.std.proofs.Common.{◌≡◌, ℕ, Bool, true, false, ◌&&◌, List, refl, ap, ◌∙◌}
 use Rattle.laws.specs.Pick.{pick, pick_case, pick_same}
 use Rattle.laws.specs.And.{or_left, never}
 use Rattle.codes.specs.Part.{Part}
@@ -11,7 +11,7 @@ use Rattle.codes.specs.declared.Instruction.{Instruction}
 use Rattle.codes.specs.declared.Instruction.TheVariants.{Wren, Wrdi, Rdsr, Wrsr, Read, Write, Rdid, Wrid, Silence}
 use Rattle.codes.proofs.Judged.{passed}
 use Rattle.latch.specs.declared.Latch.{Latch}
-use Rattle.chip.specs.Records.{waits_identification, waits_lock, identification_waits, lock_waits}
+use Rattle.chip.specs.Records.{waits_identification, waits_lock}
 use Rattle.chip.specs.Questions.{barred}
 use Rattle.chip.specs.Effects.{effect}
 use Rattle.chip.specs.Time.{ends, timed, timed_in, timed_identification}

@@ -20,14 +20,14 @@ use Rattle.laws.specs.Flags.{pick_bit}
 module _ (part : ℕ) (k : Bool) (n : ℕ) (s b a : Bool) (t : ℕ) (m : List ℕ) where
   -- an answer that is the right one has the right number
   pub powered : {r : PoweredUp} → r ≡ powered_up part k n s b a t m
-      → (r ≡ powered_up part k n s b a t m) × (number r.outcome ≡ power_up_number part n m)
-  powered e = (
-    e,
-    ap its e
+      → record { value : r ≡ powered_up part k n s b a t m; as_number : number r.outcome ≡ power_up_number part n m }
+  powered e = record {
+    value = e;
+    as_number = ap its e
         ∙ pick_ap its (eqb (length m) (part_of part).size) _ _
         ∙ pick_cong (eqb (length m) (part_of part).size) 1 (λ h. pick_ap its (is_part part) _ _
-        ∙ pick_cong (is_part part) 2 (λ q. pick_ap its (cycle_fits (part_of part) n) _ _)),
-  )
+        ∙ pick_cong (is_part part) 2 (λ q. pick_ap its (cycle_fits (part_of part) n) _ _));
+  }
     where
       its : PoweredUp → ℕ
       its x = number x.outcome
@@ -41,11 +41,16 @@ module _ (P : Part) (c : Core) (m d : List ℕ) where
 
 module _ (P : Part) (c : Core) where
   pub started : {r : ProtectedFrom} → r ≡ protected_from P c
-      → (r ≡ protected_from P c) × ((protected_from_number r ≡ lowest_number P c) × (protected_from_value r ≡ lowest_value P c))
-  started e = (
-    e,
-    (ap protected_from_number e ∙ pick_ap protected_from_number (in_ranges P c) _ _, ap protected_from_value e ∙ pick_ap protected_from_value (in_ranges P c) _ _),
-  )
+      → record {
+        value : r ≡ protected_from P c;
+        as_number : protected_from_number r ≡ lowest_number P c;
+        as_value : protected_from_value r ≡ lowest_value P c;
+      }
+  started e = record {
+    value = e;
+    as_number = ap protected_from_number e ∙ pick_ap protected_from_number (in_ranges P c) _ _;
+    as_value = ap protected_from_value e ∙ pick_ap protected_from_value (in_ranges P c) _ _;
+  }
 
 module _ (P : Part) (c : Core) (a : ℕ) where
   -- a function of the answer, taken through its two refusals
@@ -64,5 +69,13 @@ module _ (P : Part) (c : Core) (a : ℕ) where
 
   -- an answer that is the right one has the right number and value
   pub answered : {r : Protection} → r ≡ protection P c a
-      → (r ≡ protection P c a) × ((protection_number r ≡ question_number P c a) × (protection_value r ≡ question_value P c a))
-  answered e = (e, (ap protection_number e ∙ question_number_law, ap protection_value e ∙ question_value_law))
+      → record {
+        value : r ≡ protection P c a;
+        as_number : protection_number r ≡ question_number P c a;
+        as_value : protection_value r ≡ question_value P c a;
+      }
+  answered e = record {
+    value = e;
+    as_number = ap protection_number e ∙ question_number_law;
+    as_value = ap protection_value e ∙ question_value_law;
+  }

@@ -1,6 +1,6 @@
 -- How many cells a cycle will touch: an answer with its number and its value; and 0 where no latched bytes wait.
 use Rattle.std.proofs.Common.{◌≡◌, ℕ, Bool, true, false, ◌&&◌, sym, refl, ap, ◌∙◌}
-use Rattle.laws.specs.Pick.{pick, yes_so, no_so, and_right}
+use Rattle.laws.specs.Pick.{yes_so, no_so, and_right}
 use Rattle.laws.specs.Count.{count}
 use Rattle.codes.specs.Part.{Part, room}
 use Rattle.codes.proofs.Sound.{Sound}
@@ -18,8 +18,11 @@ use Rattle.chip.proofs.Within.{within}
 -- what the call of a record or a device promises of its answer
 abbrev pub TouchedSo : Part → Bool → Core → Touched → Type 0
 TouchedSo P fits c r =
-    (r ≡ touched_answer fits c)
-    × ((touched_number r ≡ touched_choice fits 2 0) × (touched_value r ≡ touched_choice fits 0 (cells_marked P c)))
+    record {
+      value : r ≡ touched_answer fits c;
+      as_number : touched_number r ≡ touched_choice fits 2 0;
+      as_value : touched_value r ≡ touched_choice fits 0 (cells_marked P c);
+    }
 
 -- the latch that waits, of a record inside its ranges
 pub latch_inside : (P : Part) (c : Core) → in_ranges P c ≡ true → latch_fits P (waits_latch c.waits) c.waits.latch ≡ true
@@ -30,10 +33,14 @@ module _ (P : Part) (fits : Bool) (c : Core) where
   pub touched_counted : (n : ℕ) → fits ≡ true → Sound P → latch_fits P (waits_latch c.waits) c.waits.latch ≡ true
       → (n ≡ cells_touched c) × (n ≡ count (marked c.waits.latch) room) → TouchedSo P fits c (Cells n)
   touched_counted n h sound l e =
-      (yes_so _ h (ap Cells e.0), (yes_so _ h refl, yes_so _ h (e.1 ∙ page_counted P (waits_latch c.waits) c.waits.latch sound l)))
+      record {
+        value = yes_so _ h (ap Cells e.0);
+        as_number = yes_so _ h refl;
+        as_value = yes_so _ h (e.1 ∙ page_counted P (waits_latch c.waits) c.waits.latch sound l);
+      }
 
   pub touched_refused : fits ≡ false → TouchedSo P fits c (Refused RecordRange)
-  touched_refused h = (no_so _ h refl, (no_so _ h refl, no_so _ h refl))
+  touched_refused h = record { value = no_so _ h refl; as_number = no_so _ h refl; as_value = no_so _ h refl }
 
 -- 0 where no latched bytes wait
 pub none_touched : (P : Part) (c : Core) → Sound P → in_ranges P c ≡ true → waits_latch c.waits ≡ false → cells_marked P c ≡ 0

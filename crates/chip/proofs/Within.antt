@@ -1,5 +1,5 @@
 -- Inside the ranges: what the test says, part by part; and that a device with no cycle, and one whose cycle runs on, are inside them.
-use Rattle.std.proofs.Common.{◌≡◌, ℕ, ◌-◌, ◌<◌, ◌≤◌, Bool, true, false, ◌&&◌, ltb, leb, refl, ap, ◌∙◌, arith, ltb-false, ltb-true, le-ltb, lt-ltb, eq-eqb, le-leb, leb-true}
+use Rattle.std.proofs.Common.{◌≡◌, ℕ, ◌<◌, ◌≤◌, Bool, true, false, ◌&&◌, ltb, leb, refl, ap, ◌∙◌, arith, ltb-false, ltb-true, le-ltb, lt-ltb, eq-eqb, le-leb, leb-true}
 use Rattle.laws.specs.Pick.{pick, at_no, and_left, and_right, and_both}
 use Rattle.codes.specs.Part.{Part}
 use Rattle.latch.proofs.Fitting.{none_latched}

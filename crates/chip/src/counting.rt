@@ -24,8 +24,8 @@ impl Core {
     // How many cells the running cycle will touch, 0 where no latched bytes wait: 2 for a record outside its ranges.
     pub fn cells_touched(self) -> Touched
         ensures value { result ≡ touched_answer (in_ranges (own_part self) self) self }
-        ensures result_value { touched_number result ≡ touched_choice (in_ranges (own_part self) self) 2 0 }
-        ensures result_value_2 { touched_value result
+        ensures as_number { touched_number result ≡ touched_choice (in_ranges (own_part self) self) 2 0 }
+        ensures as_value { touched_value result
             ≡ touched_choice (in_ranges (own_part self) self) 0 (cells_marked (own_part self) self) }
     {
         if self.in_ranges() {

@@ -87,7 +87,7 @@ pub fn power_up(
     memory: &[u8],
 ) -> PoweredUp
     ensures value { result ≡ powered_up part lock cycle srwd bp1 bp0 reading memory.now }
-    ensures outcome_value { number result.outcome ≡ power_up_number part cycle memory.now }
+    ensures as_number { number result.outcome ≡ power_up_number part cycle memory.now }
 {
     if memory.len() == size_of(part) {
         if is_part(part) {

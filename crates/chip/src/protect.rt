@@ -44,8 +44,8 @@ impl Core {
     // Where protection starts: 2 for a record outside its ranges.
     pub fn protected_from(self) -> ProtectedFrom
         ensures value { result ≡ protected_from (own_part self) self }
-        ensures result_value { protected_from_number result ≡ lowest_number (own_part self) self }
-        ensures result_value_2 { protected_from_value result ≡ lowest_value (own_part self) self }
+        ensures as_number { protected_from_number result ≡ lowest_number (own_part self) self }
+        ensures as_value { protected_from_value result ≡ lowest_value (own_part self) self }
     {
         if self.in_ranges() {
             return ProtectedFrom::Address(self.lowest());
@@ -56,8 +56,8 @@ impl Core {
     // Whether one address is protected: 2 for a record outside its ranges, 7 for an address that the memory lacks.
     pub fn protection(self, address: u32) -> Protection
         ensures value { result ≡ protection (own_part self) self address }
-        ensures result_value { protection_number result ≡ question_number (own_part self) self address }
-        ensures result_value_2 { protection_value result ≡ question_value (own_part self) self address }
+        ensures as_number { protection_number result ≡ question_number (own_part self) self address }
+        ensures as_value { protection_value result ≡ question_value (own_part self) self address }
     {
         if self.in_ranges() {
             if (address as usize) < size_of(self.part) {

@@ -155,7 +155,7 @@ pub fn clock_reading(
 ) -> Timed
     ensures value { result
         ≡ clock_reading (own_part core) reading core memory.old identification.old }
-    ensures outcome_value { number result.outcome
+    ensures as_number { number result.outcome
         ≡ reading_number (own_part core) core memory.old identification.old }
     ensures memory_after { memory.new
         ≡ clock_memory (own_part core) reading core memory.old identification.old }

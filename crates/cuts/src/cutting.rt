@@ -40,7 +40,7 @@ pub fn cut_core(core: Core, choice: Choice, memory: &mut [u8], identification: &
 pub fn cut(core: Core, choice: Choice, memory: &mut [u8], identification: &mut [u8]) -> Timed
     ensures value { result
         ≡ cut_answer (own_part core) choice core memory.old identification.old }
-    ensures outcome_value { number result.outcome
+    ensures as_number { number result.outcome
         ≡ reading_number (own_part core) core memory.old identification.old }
     ensures memory_after { memory.new
         ≡ cut_memory_answer (own_part core) choice core memory.old identification.old }

@@ -124,15 +124,15 @@ pub fn write(
     ensures value { result
         ≡ driven (own_part core) core memory.old identification.old address
         bytes.now interval limit }
-    ensures answer_value { run_reply_number result.answer
+    ensures as_number { run_reply_number result.answer
         ≡ drive_number (own_part core) core (length memory.old) (length identification.old) address
         (length bytes.now) interval limit
         (run (own_part core) interval limit address bytes.now
         (frame_bench core memory.old identification.old)).ending }
-    ensures answer_value_2 { run_reply_pages result.answer
+    ensures as_pages { run_reply_pages result.answer
         ≡ drive_pages (own_part core) core memory.old identification.old address
         bytes.now interval limit }
-    ensures answer_value_3 { run_reply_frames result.answer
+    ensures as_frames { run_reply_frames result.answer
         ≡ drive_frames (own_part core) core memory.old identification.old address
         bytes.now interval limit }
     ensures memory_after { memory.new

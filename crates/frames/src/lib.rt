@@ -48,10 +48,10 @@ pub fn frame(
     ensures value { result
         ≡ framed (own_part core) core memory.now identification.now w bytes.now bits
         (length out.old) }
-    ensures answer_value { frame_reply_number result.answer
+    ensures as_number { frame_reply_number result.answer
         ≡ frame_number (own_part core) core (length memory.now) (length identification.now)
         (length bytes.now) bits (length out.old) }
-    ensures answer_value_2 { frame_reply_undriven result.answer
+    ensures as_undriven { frame_reply_undriven result.answer
         ≡ frame_undriven (own_part core) core (length memory.now) (length identification.now)
         bytes.now bits (length out.old) }
     ensures out_after { out.new

@@ -48,7 +48,7 @@ fn imaged(part: u8) -> bool
 // output as it was.
 pub fn export(core: Core, memory: &[u8], out: &mut [u8]) -> HexReply
     ensures value { result ≡ export_reply m95512 core memory.now (length out.old) }
-    ensures result_value { hex_number result ≡ export_number m95512 core memory.now (length out.old) }
+    ensures as_number { hex_number result ≡ export_number m95512 core memory.now (length out.old) }
     ensures out_after { out.new ≡ export_output m95512 core memory.now out.old }
 {
     if memory_fits(core.part, memory.len()) {
@@ -114,7 +114,7 @@ fn imported(core: Core, taken: bool, memory: &[u8]) -> Imported
 // a text that is not good or while a cycle runs, each with the memory and the record as they were.
 pub fn import(core: Core, memory: &mut [u8], text: &[u8]) -> Imported
     ensures value { result ≡ import_answer m95512 core memory.old text.now }
-    ensures answer_value { hex_number result.answer ≡ import_number m95512 core memory.old text.now }
+    ensures as_number { hex_number result.answer ≡ import_number m95512 core memory.old text.now }
     ensures memory_after { memory.new ≡ import_memory m95512 core memory.old text.now }
 {
     if memory_fits(core.part, memory.len()) {

@@ -8,10 +8,10 @@ use Rattle.laying.specs.declared.Laid.{Laid}
 use Rattle.laying.specs.Laying.{room_fits, laid_over, lay_number}
 
 pub laid_answered : (l k : Latch) {r : Laid} → r ≡ laid_over l k
-    → record { value : r ≡ laid_over l k; outcome_value : number r.outcome ≡ lay_number l k }
+    → record { value : r ≡ laid_over l k; as_number : number r.outcome ≡ lay_number l k }
 laid_answered l k e =
     let f : Laid → ℕ = λ x. number x.outcome in
     record {
       value = e;
-      outcome_value = ap f e ∙ pick_ap f (room_fits l) _ _ ∙ pick_cong (room_fits l) 2 (λ q. pick_ap f (room_fits k) _ _);
+      as_number = ap f e ∙ pick_ap f (room_fits l) _ _ ∙ pick_cong (room_fits l) 2 (λ q. pick_ap f (room_fits k) _ _);
     }

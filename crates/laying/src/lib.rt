@@ -41,7 +41,7 @@ pub fn over(earlier: Latch, later: Latch) -> Latch
 // as it was. It takes no part, so the test is that of all the room, which is the M95M01's page.
 pub fn lay(earlier: Latch, later: Latch) -> Laid
     ensures value { result ≡ laid_over earlier later }
-    ensures outcome_value { number result.outcome ≡ lay_number earlier later }
+    ensures as_number { number result.outcome ≡ lay_number earlier later }
 {
     if earlier.fits(M95M01, true) {
         if later.fits(M95M01, true) {

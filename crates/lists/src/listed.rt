@@ -159,7 +159,7 @@ pub fn play(
 ) -> Stepped
     ensures value { result ≡ play_answer (device_part device) device
         (lent memory.old identification.old) events.now out.old }
-    ensures outcome_value { number result.outcome ≡ play_number (device_part device) device
+    ensures as_number { number result.outcome ≡ play_number (device_part device) device
         (lent memory.old identification.old) events.now (length out.old) }
     ensures memory_after { memory.new ≡ play_memory (device_part device) device
         (lent memory.old identification.old) events.now out.old }

@@ -17,7 +17,7 @@ impl Device {
         ensures value { result
             ≡ answer (memory_outcome (device_part self) self (lent memory.old identification.old))
             (cut_device (device_part self) choice memory.old self) self }
-        ensures outcome_value { number result.outcome ≡ memory_number (device_part self) self
+        ensures as_number { number result.outcome ≡ memory_number (device_part self) self
             (lent memory.old identification.old) }
         ensures memory_after { memory.new
             ≡ answer_memory (memory_outcome (device_part self) self

@@ -32,7 +32,7 @@ pub fn power_up(
     memory: &[u8],
 ) -> Stepped
     ensures value { result ≡ powered part lock cycle srwd bp1 bp0 reading memory.now }
-    ensures outcome_value { number result.outcome ≡ power_up_number part cycle memory.now }
+    ensures as_number { number result.outcome ≡ power_up_number part cycle memory.now }
 {
     let p = chip::power_up(part, lock, cycle, srwd, bp1, bp0, reading, memory);
     let outcome = p.outcome;
@@ -65,7 +65,7 @@ impl Device {
     // S to a level. 2 for a device outside its ranges.
     pub fn set_s(self, level: bool) -> Stepped
         ensures value { result ≡ answer (record_outcome (device_part self) self) (on_s (device_part self) level self) self }
-        ensures outcome_value { number result.outcome ≡ record_number (device_part self) self }
+        ensures as_number { number result.outcome ≡ record_number (device_part self) self }
     {
         if self.in_ranges() {
             return self.on_s(level).done();
@@ -76,7 +76,7 @@ impl Device {
     // D to a level. 2 for a device outside its ranges.
     pub fn set_d(self, level: bool) -> Stepped
         ensures value { result ≡ answer (record_outcome (device_part self) self) (on_d level self) self }
-        ensures outcome_value { number result.outcome ≡ record_number (device_part self) self }
+        ensures as_number { number result.outcome ≡ record_number (device_part self) self }
     {
         if self.in_ranges() {
             return self.on_d(level).done();
@@ -87,7 +87,7 @@ impl Device {
     // W to a level. 2 for a device outside its ranges.
     pub fn set_w(self, level: bool) -> Stepped
         ensures value { result ≡ answer (record_outcome (device_part self) self) (on_w level self) self }
-        ensures outcome_value { number result.outcome ≡ record_number (device_part self) self }
+        ensures as_number { number result.outcome ≡ record_number (device_part self) self }
     {
         if self.in_ranges() {
             return self.on_w(level).done();
@@ -98,7 +98,7 @@ impl Device {
     // HOLD to a level. 2 for a device outside its ranges.
     pub fn set_hold(self, level: bool) -> Stepped
         ensures value { result ≡ answer (record_outcome (device_part self) self) (on_hold level self) self }
-        ensures outcome_value { number result.outcome ≡ record_number (device_part self) self }
+        ensures as_number { number result.outcome ≡ record_number (device_part self) self }
     {
         if self.in_ranges() {
             return self.on_hold(level).done();
@@ -112,7 +112,7 @@ impl Device {
         ensures value { result
             ≡ answer (memory_outcome (device_part self) self (lent memory.now identification.now))
             (on_c (device_part self) level (lent memory.now identification.now) self) self }
-        ensures outcome_value { number result.outcome ≡ memory_number (device_part self) self
+        ensures as_number { number result.outcome ≡ memory_number (device_part self) self
             (lent memory.now identification.now) }
     {
         if lent_fits(self.core.part, memory.len(), identification.len()) {
@@ -129,7 +129,7 @@ impl Device {
         ensures value { result
             ≡ answer (memory_outcome (device_part self) self (lent memory.old identification.old))
             (on_time (device_part self) reading memory.old self) self }
-        ensures outcome_value { number result.outcome ≡ memory_number (device_part self) self
+        ensures as_number { number result.outcome ≡ memory_number (device_part self) self
             (lent memory.old identification.old) }
         ensures memory_after { memory.new
             ≡ answer_memory (memory_outcome (device_part self) self
@@ -153,8 +153,8 @@ impl Device {
     // Q: 0, 1 or Z. 2 for a device outside its ranges.
     pub fn q(self) -> QAnswer
         ensures value { result ≡ q_answer (device_part self) self }
-        ensures result_value { q_number result ≡ record_number (device_part self) self }
-        ensures result_value_2 { q_value result ≡ q_asked (device_part self) self }
+        ensures as_number { q_number result ≡ record_number (device_part self) self }
+        ensures as_value { q_value result ≡ q_asked (device_part self) self }
     {
         if self.in_ranges() {
             return QAnswer::Shows(self.shows());
@@ -165,8 +165,8 @@ impl Device {
     // The status byte. 2 for a device outside its ranges.
     pub fn status(self) -> StatusAnswer
         ensures value { result ≡ status_answer (device_part self) self }
-        ensures result_value { status_number result ≡ record_number (device_part self) self }
-        ensures result_value_2 { status_value result ≡ status_asked (device_part self) self }
+        ensures as_number { status_number result ≡ record_number (device_part self) self }
+        ensures as_value { status_value result ≡ status_asked (device_part self) self }
     {
         let core = self.core;
         if self.in_ranges() {
@@ -178,8 +178,8 @@ impl Device {
     // How many cells the running cycle will touch, 0 where no latched bytes wait. 2 for a device outside its ranges.
     pub fn cells_touched(self) -> Touched
         ensures value { result ≡ touched_answer (device_fits (device_part self) self) self.core }
-        ensures result_value { touched_number result ≡ touched_choice (device_fits (device_part self) self) 2 0 }
-        ensures result_value_2 { touched_value result
+        ensures as_number { touched_number result ≡ touched_choice (device_fits (device_part self) self) 2 0 }
+        ensures as_value { touched_value result
             ≡ touched_choice (device_fits (device_part self) self) 0 (cells_marked (device_part self) self.core) }
     {
         let core = self.core;

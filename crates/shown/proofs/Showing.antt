@@ -13,7 +13,6 @@ use borrow.Author.Tests.{le-leb, lt-leb, leb-true}
 use Rattle.laws.specs.Pick.{pick, lt_so, ge_so, yes_so, no_so, at_yes, at_no, and_left, and_right, and_both, and_no_left}
 use Rattle.laws.specs.And.{failed, never}
 use Rattle.laws.specs.Spliced.{spliced, two_parts}
-use Rattle.laws.specs.Filled.{copied}
 use Rattle.laws.specs.Table.{table, table_is, table_cong, table_part, table_append, table_replicate}
 
 -- ---- the cells that a READ shows
@@ -55,27 +54,6 @@ module _ (m : List ℕ) (a : ℕ) where
             let round : (a + d) % length m ≡ 0 + (d - (length m - a)) = omega arith in
             sym (ge_so _ past (ap (λ (k : ℕ). get_or m k 0) round))
       ]
-
--- ---- two slices copied over all of a list, one after the other
-
-module _ (low high out : List ℕ) (k n : ℕ) (size : length out ≡ n) (first : length low ≡ k) (second : length high ≡ n - k) (h : k ≤ n) where
-  begun : length (low ++ drop k out) ≡ n
-  begun = simp (length-append, length-drop) (omega arith)
-
-  front : length low ≡ length (take k out)
-  front = first ∙ sym (length-take-le k out (omega arith))
-
-  back : length high ≡ length (take (n - k) (drop k (low ++ drop k out)))
-  back = second ∙ sym (length-take-le (n - k) (drop k (low ++ drop k out)) (simp length-drop (omega (arith, begun))))
-
-  pub both_copied :
-      spliced (spliced out (take (length low) low ++ drop (length low) (take k out)) 0 k)
-      (take (length high) high
-      ++ drop (length high) (take (n - k) (drop k (spliced out (take (length low) low ++ drop (length low) (take k out)) 0 k))))
-      k (n - k)
-      ≡ low ++ high
-  both_copied =
-      rw (copied low (take k out) front, copied high (take (n - k) (drop k (low ++ drop k out))) back) (two_parts out low high k n size first h)
 
 -- ---- the bytes of a whole frame
 

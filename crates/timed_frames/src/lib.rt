@@ -50,7 +50,7 @@ pub fn timed_frame(
 ) -> Framed
     ensures value { result ≡ framed_in_time (own_part core) core (lent memory.old identification.old) w
         bytes.now bits positions.now readings.now (length out.old) }
-    ensures answer_value { frame_reply_number result.answer
+    ensures as_number { frame_reply_number result.answer
         ≡ in_time_number (own_part core) core (lent memory.old identification.old)
         bytes.now bits positions.now readings.now (length out.old) }
     ensures memory_after { memory.new

@@ -35,7 +35,7 @@ pub fn feed(
 ) -> Fed
     ensures value { result ≡ feed_answer player (lent memory.old identification.old)
         text.now out.old }
-    ensures answer_value { feed_reply_number result.answer ≡ feed_number player
+    ensures as_number { feed_reply_number result.answer ≡ feed_number player
         (lent memory.old identification.old) text.now out.old }
     ensures memory_after { memory.new ≡ feed_memory player
         (lent memory.old identification.old) text.now out.old }
@@ -61,7 +61,7 @@ pub fn feed(
 // with everything as it was.
 pub fn finish(player: Player, out: &mut [u8]) -> Fed
     ensures value { result ≡ end_answer player out.old }
-    ensures answer_value { feed_reply_number result.answer ≡ end_number player out.old }
+    ensures as_number { feed_reply_number result.answer ≡ end_number player out.old }
     ensures out_after { out.new ≡ end_written player out.old }
     ensures written_in_bounds { result.written ≤ length out.old }
 {
