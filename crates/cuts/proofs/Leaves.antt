@@ -1,6 +1,6 @@
 -- What a cut leaves: a record inside its ranges, without WEL and without a cycle; and each cell as it was, but where it waited in a running cycle and
 -- was chosen. The number of blank cells moves as at a cycle's end.
-use Rattle.std.proofs.Common.{◌≡◌, ℕ, ◌+◌, ◌-◌, ◌*◌, ◌<◌, ◌≤◌, Bool, true, false, not, ◌&&◌, ltb, leb, List, length, get_or, sym, refl, ap, ◌∙◌, ap₂, arith, ltb-true, ne_eqb, eqb-true, leb-true}
+use Rattle.std.proofs.Common.{◌≡◌, ℕ, ◌+◌, ◌*◌, ◌<◌, ◌≤◌, Bool, true, false, not, ◌&&◌, ltb, leb, List, length, get_or, sym, refl, ap, ◌∙◌, ap₂, arith, ltb-true, ne_eqb, eqb-true, leb-true}
 use Rattle.laws.specs.Pick.{pick, pick_case, pick_ap, pick_cong, pick_and, pick_same, at_yes, at_no, and_left, and_right, and_no_left, and_no_right}
 use Rattle.laws.specs.Marks.{mark_and}
 use Rattle.laws.specs.Flags.{bit_on_law}

@@ -1,6 +1,6 @@
 -- The effect of an instruction that writes cells goes by its address and its latch alone, that of any other by its value alone.
 use mathlib.Core.Path.{◌≡◌, refl, sym}
-use mathlib.Core.Bool.{Bool, true, false, ◌||◌, true≢false}
+use mathlib.Core.Bool.{true, false, ◌||◌, true≢false}
 use Prim.Native.Nat.{ℕ, ◌/◌}
 use Rattle.laws.specs.Pick.{pick}
 use Rattle.codes.specs.Part.{Part}

@@ -1,6 +1,6 @@
 -- A frame that is not executed leaves the record as it was, WEL and what waits with it. (That a frame never touches the memory is in its type:
 -- the memory is lent for reading.)
-use mathlib.Core.Path.{◌≡◌, refl, ap, sym, ◌∙◌}
+use mathlib.Core.Path.{◌≡◌, ap, sym, ◌∙◌}
 use mathlib.Core.Bool.{Bool, true, false, not, ◌&&◌, true≢false}
 use mathlib.Core.List.{List}
 use Prim.Native.Nat.{ℕ, ◌+◌}

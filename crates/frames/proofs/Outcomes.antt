@@ -87,9 +87,12 @@ module _ (P : Part) (c : Core) (m i : List ℕ) (w : Bool) (s : List ℕ) (n : �
 
   abbrev pub HandsBack : Framed → ℕ → ℕ → List ℕ → Type 0
   HandsBack r k u o =
-      (r ≡ framed P c m i w s n (length out))
-      × ((k ≡ frame_number P c (length m) (length i) (length s) n (length out))
-      × ((u ≡ frame_undriven P c (length m) (length i) s n (length out)) × (o ≡ framed_output P c m i s n out)))
+      record {
+        value : r ≡ framed P c m i w s n (length out);
+        as_number : k ≡ frame_number P c (length m) (length i) (length s) n (length out);
+        as_undriven : u ≡ frame_undriven P c (length m) (length i) s n (length out);
+        out_after : o ≡ framed_output P c m i s n out;
+      }
 
   pub shown_frame : {o : Outcome} → o ≡ frame_outcome P c (length m) (length i) (length s) n (length out) → o ≡ Done
       → HandsBack (record { answer = reply.Shown (undriven P (instruction P s) (running c) n); core = after P (running c) w c s n }) 0
@@ -98,11 +101,21 @@ module _ (P : Part) (c : Core) (m i : List ℕ) (w : Bool) (s : List ℕ) (n : �
   shown_frame found done =
       let e = sym found ∙ done in
       let shows = taken_shown (taken P c (length m) (length i) (length s) n (length out) found done) in
-      (rw e, (frame_number_law P c (length m) (length i) (length s) n (length out) e, (rw e, shows ∙ rw e)))
+      record {
+        value = rw e;
+        as_number = frame_number_law P c (length m) (length i) (length s) n (length out) e;
+        as_undriven = rw e;
+        out_after = shows ∙ rw e;
+      }
 
   pub refused_frame : (r : Refusal) {o : Outcome} → o ≡ frame_outcome P c (length m) (length i) (length s) n (length out) → o ≡ Refused r
       → HandsBack (record { answer = reply.Refused r; core = c }) (refusal_number r) 0 out
   unfolding framed framed_output pick
   refused_frame r found refused =
       let e = sym found ∙ refused in
-      (rw e, (frame_number_law P c (length m) (length i) (length s) n (length out) e, (rw e, rw e)))
+      record {
+        value = rw e;
+        as_number = frame_number_law P c (length m) (length i) (length s) n (length out) e;
+        as_undriven = rw e;
+        out_after = rw e;
+      }
