@@ -1,15 +1,15 @@
 -- What a text says, from one record to the next.
 use mathlib.Core.Path.{◌≡◌, refl, ap, sym, ◌∙◌}
-use mathlib.Core.Bool.{Bool, true, false, true≢false}
+use mathlib.Core.Bool.{Bool, true, false}
 use mathlib.Core.List.{List, []}
-use Prim.Native.Nat.{ℕ, zero, suc, ◌+◌, ◌-◌, ◌*◌, ◌<◌, ◌≤◌}
+use Prim.Native.Nat.{ℕ, zero, suc, ◌+◌, ◌-◌, ◌<◌, ◌≤◌}
 use native.Mathlib.Omega.{arith}
 use lib.ListN.{length, take, drop, length-drop}
 use lib.Seq.{take_all}
 use Rattle.laws.specs.Pick.{pick, pick_case, pick_cong, at_yes, at_no}
 use Rattle.codes.specs.Part.{Part}
 use Rattle.intel_hex.specs.Writing.{end_line}
-use Rattle.intel_hex.specs.Reading.{data_length, line_length, record_at, says_record, Parted, parted_first, parted_none, parted_by, parted, same_bytes, is_good}
+use Rattle.intel_hex.specs.Reading.{line_length, record_at, says_record, Parted, parted_first, parted_none, parted_by, parted, same_bytes, is_good}
 use Rattle.intel_hex.proofs.Fronts.{by_test_law, too_short, front_length}
 
 -- ---- what is lent of a text from an index on

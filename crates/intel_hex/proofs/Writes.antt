@@ -7,7 +7,7 @@ use lib.ListN.{length, get_or, set, take, drop, length-append, length-drop}
 use lib.Seq.{take-suc, length-take-le, drop-length}
 use Rattle.laws.specs.Table.{from, table}
 use Rattle.printing.specs.Put.{put}
-use Rattle.printing.proofs.Puts.{put_nil, put_put, put_more, put_length}
+use Rattle.printing.proofs.Puts.{put_nil, put_put, put_more}
 use Rattle.intel_hex.specs.Writing.{HexRecord, byte_text, bytes_text, total, sum_byte, line_of, fields, record_line, records_text, record_of}
 use Rattle.intel_hex.proofs.Sums.{total_append, table_more}
 

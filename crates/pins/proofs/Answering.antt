@@ -38,16 +38,16 @@ module _ (P : Part) (x : Device) where
   record_number_law e = ap number (sym e) ∙ pick_ap number (device_fits P x) Done (Refused RecordRange)
 
   pub taken : {r : Stepped} {y y' : Device} → device_fits P x ≡ true → y' ≡ y → r ≡ stepped_to Done y'
-      → (r ≡ answer (record_outcome P x) y x) × (number r.outcome ≡ record_number P x)
+      → record { value : r ≡ answer (record_outcome P x) y x; as_number : number r.outcome ≡ record_number P x }
   taken h p q =
       let o : record_outcome P x ≡ Done = at_yes _ _ h in
-      (done_so x o p q, number_so q (record_number_law o))
+      record { value = done_so x o p q; as_number = number_so q (record_number_law o) }
 
   pub untaken : {r : Stepped} (y : Device) → device_fits P x ≡ false → r ≡ stepped_to (Refused RecordRange) x
-      → (r ≡ answer (record_outcome P x) y x) × (number r.outcome ≡ record_number P x)
+      → record { value : r ≡ answer (record_outcome P x) y x; as_number : number r.outcome ≡ record_number P x }
   untaken y h q =
       let o : record_outcome P x ≡ Refused RecordRange = at_no _ _ h in
-      (refused_so y o q, number_so q (record_number_law o))
+      record { value = refused_so y o q; as_number = number_so q (record_number_law o) }
 
 -- ---- refusal 1 before it
 
@@ -68,12 +68,12 @@ module _ (P : Part) (x : Device) (m : Lent) where
   memory_length l = at_no _ _ l
 
   pub lent_taken : {r : Stepped} {y y' : Device} → memory_outcome P x m ≡ Done → y' ≡ y → r ≡ stepped_to Done y'
-      → (r ≡ answer (memory_outcome P x m) y x) × (number r.outcome ≡ memory_number P x m)
-  lent_taken o p q = (done_so x o p q, number_so q (memory_number_law o))
+      → record { value : r ≡ answer (memory_outcome P x m) y x; as_number : number r.outcome ≡ memory_number P x m }
+  lent_taken o p q = record { value = done_so x o p q; as_number = number_so q (memory_number_law o) }
 
   pub lent_untaken : {r : Stepped} {f : Refusal} (y : Device) → memory_outcome P x m ≡ Refused f → r ≡ stepped_to (Refused f) x
-      → (r ≡ answer (memory_outcome P x m) y x) × (number r.outcome ≡ memory_number P x m)
-  lent_untaken y o q = (refused_so y o q, number_so q (memory_number_law o))
+      → record { value : r ≡ answer (memory_outcome P x m) y x; as_number : number r.outcome ≡ memory_number P x m }
+  lent_untaken y o q = record { value = refused_so y o q; as_number = number_so q (memory_number_law o) }
 
 -- what is left of lent cells
 pub kept_so : {o : Outcome} {f : Refusal} (n m : List ℕ) → o ≡ Refused f → m ≡ answer_memory o n m
