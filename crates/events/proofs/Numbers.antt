@@ -10,11 +10,10 @@ use lib.ListN.{length, take, get_or}
 use lib.Seq.{take-suc}
 use lib.Dec.{eqb, leb, ltb}
 use lib.Bits.{bit_or, or_zero_l, or_add_and, and_le_r}
-use borrow.Author.Tests.{le-leb, lt-leb, leb-true, lt-ltb, ltb-true, ltb-false, le-ltb, eq-eqb, ne_eqb}
+use borrow.Author.Tests.{le-leb, leb-true, lt-ltb, ltb-true, ltb-false, le-ltb, eq-eqb, ne_eqb}
 use Rattle.laws.specs.Pick.{pick, and_both}
 use Rattle.laws.specs.And.{or_left, or_right}
 use Rattle.laws.specs.Flags.{bit_on_law}
-use Rattle.codes.specs.Status.{bit, on}
 use Rattle.pins.specs.declared.Event.{Event}
 use Rattle.pins.specs.declared.Event.TheVariants.{S, C, D, W, Hold, Time}
 use Rattle.pins.specs.Events.{event_of}

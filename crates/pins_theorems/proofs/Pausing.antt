@@ -4,7 +4,7 @@ use mathlib.Core.List.{List, [], ◌∷◌}
 use mathlib.Core.Bool.{Bool, true, false, not, ◌&&◌, true≢false}
 use Prim.Native.Nat.{ℕ}
 use lib.Dec.{eqb}
-use borrow.Author.Tests.{not_true}
+use borrow.Author.Tests.{not-true}
 use Rattle.laws.specs.Pick.{pick, at_yes, at_no, pick_case, and_left, and_right, and_no_right}
 use Rattle.laws.specs.And.{never}
 use Rattle.codes.specs.Part.{Part}
@@ -91,7 +91,7 @@ module _ (P : Part) (x : Device) where
   pub begun : counting x ≡ true → on x.pins.c ≡ false → Paused x (on_hold false x)
   unfolding on_hold
   begun k c =
-      let s : on x.pins.s ≡ false = not_true _ (and_left (selected x) (not (on x.held)) k) in
+      let s : on x.pins.s ≡ false = not-true _ (and_left (selected x) (not (on x.held)) k) in
       pick_case (Paused x) (on x.pins.c) (λ e. absurd (never e c))
       (λ e. record { frame = refl; selected = s; low = refl; held = rw s refl })
 
@@ -132,7 +132,7 @@ module _ (P : Part) (m : Lent) where
   pub begun_late : (x : Device) → counting x ≡ true → x.pins.c ≡ 1 → Paused (on_c P false m x) (on_c P false m (on_hold false x))
   begun_late x k c =
       let y = with_pins (with_hold 0 x.pins) x in
-      let s : on x.pins.s ≡ false = not_true _ (and_left (selected x) (not (on x.held)) k) in
+      let s : on x.pins.s ≡ false = not-true _ (and_left (selected x) (not (on x.held)) k) in
       subst (Paused (on_c P false m x)) (sym (after false x c))
       (record {
         frame = fell_counted y k ∙ sym (ap (λ (z : Device). z.frame) (fell x c) ∙ fell_counted x k);

@@ -42,11 +42,15 @@ returns c =
     let given : Part → FrameBench → Framed = λ Q y. framed Q y.core y.memory y.identification a.w s a.bits (length a.out.now) in
     let told : f.result ≡ given P x = f.ensures.value ∙ ap₂ given part bench in
     let shows : Part → FrameBench → List ℕ = λ Q y. framed_output Q y.core y.memory y.identification s a.bits a.out.now in
-    let shown : f.new.out ≡ shows P x = f.ensures.out_after ∙ ap₂ shows part bench in record { answer_value = ap (λ (r : Framed). r.answer) told
+    let shown : f.new.out ≡ shows P x = f.ensures.out_after ∙ ap₂ shows part bench in record {
+      answer_value = ap (λ (r : Framed). r.answer) told
           ∙ plain_answer P x.core x.memory x.identification s a.bits (length a.out.now) done a.w
-          ∙ ap (λ (r : Bool). Shown (undriven P (instruction P s) r a.bits)) (calm.idle ∙ sym idle); identification_after = bench_of_law (frame_bench (after P (running x.core) a.w x.core s a.bits) x.memory x.identification)
-            (ap (λ (r : Framed). r.core) told ∙ plain_core P x.core x.memory x.identification s a.bits (length a.out.now) done a.w)
-            (ap (λ (y : FrameBench). y.memory) bench) (ap (λ (y : FrameBench). y.identification) bench)
-            ∙ left_quiet P ps ts b p.positions_len.1 idle a.w s a.bits; out_after = λ o. shown
-            ∙ plain_output P x.core x.memory x.identification s a.bits (length a.out.now) done a.out.now refl
-            ∙ shown_quiet P ps ts b p.positions_len.1 idle o s a.bits }
+          ∙ ap (λ (r : Bool). Shown (undriven P (instruction P s) r a.bits)) (calm.idle ∙ sym idle);
+      identification_after = bench_of_law (frame_bench (after P (running x.core) a.w x.core s a.bits) x.memory x.identification)
+          (ap (λ (r : Framed). r.core) told ∙ plain_core P x.core x.memory x.identification s a.bits (length a.out.now) done a.w)
+          (ap (λ (y : FrameBench). y.memory) bench) (ap (λ (y : FrameBench). y.identification) bench)
+          ∙ left_quiet P ps ts b p.positions_len.1 idle a.w s a.bits;
+      out_after = λ o. shown
+          ∙ plain_output P x.core x.memory x.identification s a.bits (length a.out.now) done a.out.now refl
+          ∙ shown_quiet P ps ts b p.positions_len.1 idle o s a.bits;
+    }

@@ -76,13 +76,17 @@ returns-then-is_rdsr c =
     (ap (λ (y : FrameBench). own_part y.core) w.bench ∙ bench_part P ps ts b w.place) ∙ bench in
     let part : own_part to.result.core ≡ P = ap (λ (y : FrameBench). own_part y.core) last ∙ bench_part P ps ts b (suc (n / 8)) in
     let left : c.after_ran.result ≡ after P true a.w x.core s n =
-    c.after_ran.ensures a.w ∙ ap₂ (λ (Q : Part) (y : FrameBench). after Q true a.w y.core s n) part last in record { answer_value = ap (λ (r : Framed). r.answer) f.ensures.value ∙ plain_answer P a.core a.memory.now a.identification.now s n (length a.out.now)
-          p.out_value a.w; identification_after = bench_of_law (frame_bench (after P true a.w x.core s n) x.memory x.identification) left (ap (λ (y : FrameBench). y.memory) last)
-            (ap (λ (y : FrameBench). y.identification) last)
-            ∙ left_ran P ps ts b p.positions_len.1 p.core_value a.w s n; out_after = sh.ensures.out_after
-            ∙ ap (statuses_over P ps ts b a.mode n) first
-            ∙ shown_polled P ps ts b p.positions_len.1 a.mode v s n rdsr
-            ∙ ap (λ (r : Bool). output P r (sights_in P ps ts b a.mode) s n) (sym p.core_value) }
+    c.after_ran.ensures a.w ∙ ap₂ (λ (Q : Part) (y : FrameBench). after Q true a.w y.core s n) part last in record {
+      answer_value = ap (λ (r : Framed). r.answer) f.ensures.value ∙ plain_answer P a.core a.memory.now a.identification.now s n (length a.out.now)
+          p.out_value a.w;
+      identification_after = bench_of_law (frame_bench (after P true a.w x.core s n) x.memory x.identification) left (ap (λ (y : FrameBench). y.memory) last)
+          (ap (λ (y : FrameBench). y.identification) last)
+          ∙ left_ran P ps ts b p.positions_len.1 p.core_value a.w s n;
+      out_after = sh.ensures.out_after
+          ∙ ap (statuses_over P ps ts b a.mode n) first
+          ∙ shown_polled P ps ts b p.positions_len.1 a.mode v s n rdsr
+          ∙ ap (λ (r : Bool). output P r (sights_in P ps ts b a.mode) s n) (sym p.core_value);
+    }
 
 pub returns : goal.returns
 returns c =
@@ -104,11 +108,15 @@ returns c =
     to.ensures.identification_after ∙ ap (λ (k : ℕ). passed P (take (due k ps) ts) b) next in
     let part : own_part to.result.core ≡ P = ap (λ (y : FrameBench). own_part y.core) last ∙ bench_part P ps ts b (suc (n / 8)) in
     let left : c.after_ran-2.result ≡ after P true a.w x.core s n =
-    c.after_ran-2.ensures a.w ∙ ap₂ (λ (Q : Part) (y : FrameBench). after Q true a.w y.core s n) part last in record { answer_value = ap (λ (r : Framed). r.answer) f.ensures.value ∙ plain_answer P a.core a.memory.now a.identification.now s n (length a.out.now)
-          p.out_value a.w; identification_after = bench_of_law (frame_bench (after P true a.w x.core s n) x.memory x.identification) left (ap (λ (y : FrameBench). y.memory) last)
-            (ap (λ (y : FrameBench). y.identification) last)
-            ∙ left_ran P ps ts b p.positions_len.1 p.core_value a.w s n; out_after = f.ensures.out_after
-            ∙ plain_output P a.core a.memory.now a.identification.now s n (length a.out.now) p.out_value a.out.now refl
-            ∙ ap (λ (r : Bool). output P r v s n) p.core_value
-            ∙ shown_other P ps ts b p.positions_len.1 a.mode v s n other
-            ∙ ap (λ (r : Bool). output P r (sights_in P ps ts b a.mode) s n) (sym p.core_value) }
+    c.after_ran-2.ensures a.w ∙ ap₂ (λ (Q : Part) (y : FrameBench). after Q true a.w y.core s n) part last in record {
+      answer_value = ap (λ (r : Framed). r.answer) f.ensures.value ∙ plain_answer P a.core a.memory.now a.identification.now s n (length a.out.now)
+          p.out_value a.w;
+      identification_after = bench_of_law (frame_bench (after P true a.w x.core s n) x.memory x.identification) left (ap (λ (y : FrameBench). y.memory) last)
+          (ap (λ (y : FrameBench). y.identification) last)
+          ∙ left_ran P ps ts b p.positions_len.1 p.core_value a.w s n;
+      out_after = f.ensures.out_after
+          ∙ plain_output P a.core a.memory.now a.identification.now s n (length a.out.now) p.out_value a.out.now refl
+          ∙ ap (λ (r : Bool). output P r v s n) p.core_value
+          ∙ shown_other P ps ts b p.positions_len.1 a.mode v s n other
+          ∙ ap (λ (r : Bool). output P r (sights_in P ps ts b a.mode) s n) (sym p.core_value);
+    }

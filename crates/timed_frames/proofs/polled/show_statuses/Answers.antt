@@ -1,4 +1,4 @@
-use Prim.Native.Nat.{ℕ, ◌+◌, ◌-◌, ◌<◌, ◌≤◌}
+use Prim.Native.Nat.{ℕ, ◌+◌, ◌<◌, ◌≤◌}
 use mathlib.Core.Path.{◌≡◌, refl, ap, ap₂, sym, ◌∙◌}
 use native.Mathlib.Omega.{arith}
 use native.Mathlib.Nat.{le_trans}
@@ -78,4 +78,4 @@ returns-clause-out_after c =
     let a = c.args in
     let all : l.j ≡ length a.out.now = omega (arith, l.invariant.0.1, c.loop-j-test.false, l.invariant.1) in
     table_is _ l.out (length a.out.now) 0 l.invariant.1
-          (λ i h. l.invariant.5 i ∙ all_shown i l.j _ _ (omega (arith, all, h)))
+    (λ i h. l.invariant.5 i ∙ all_shown i l.j _ _ (omega (arith, all, h)))

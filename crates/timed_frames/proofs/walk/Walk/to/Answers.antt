@@ -72,6 +72,9 @@ returns c =
     let l = c.loop-memory in
     let n₀ = a.self.next in
     let none = due_stop a.k l.next a.positions.now (sym c.is_due.ensures ∙ c.loop-memory-test.false) in
-    let all : l.next - n₀ ≡ due a.k (drop n₀ a.positions.now) = omega (arith, l.invariant.2, none) in record { next_value = omega (arith, all, l.invariant.0); identification_after = l.invariant.6
+    let all : l.next - n₀ ≡ due a.k (drop n₀ a.positions.now) = omega (arith, l.invariant.2, none) in record {
+      next_value = omega (arith, all, l.invariant.0);
+      identification_after = l.invariant.6
           ∙ ap (λ (j : ℕ). passed (own_part a.self.core) (take j (drop n₀ a.readings.now)) (frame_bench a.self.core a.memory.now
-          a.identification.now)) all }
+          a.identification.now)) all;
+    }

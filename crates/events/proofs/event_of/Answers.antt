@@ -1,0 +1,20 @@
+use Rattle.laws.specs.Pick.{arms}
+use Rattle.events.proofs.event_of.Goals as goal
+
+pub returns-in-0 : goal.returns-in-0
+returns-in-0 c = search arms depth 12
+
+pub returns-in-1 : goal.returns-in-1
+returns-in-1 c = search arms depth 12
+
+pub returns-in-2 : goal.returns-in-2
+returns-in-2 c = search arms depth 12
+
+pub returns-in-3 : goal.returns-in-3
+returns-in-3 c = search arms depth 12
+
+pub returns-in-4 : goal.returns-in-4
+returns-in-4 c = search arms depth 12
+
+pub returns-in_default : goal.returns-in_default
+returns-in_default c = search arms depth 12
