@@ -1,0 +1,66 @@
+-- WREN and then WRITE, each at the part of its own record: the first one's
+use Rattle.std.proofs.Common.{◌≡◌, ℕ, true, List, [], ◌∷◌, length, refl, ap, ◌∙◌, subst, arith, lt-ltb, le-leb}
+use Rattle.laws.specs.Pick.{at_yes, and_both}
+use Rattle.codes.specs.Part.{Part}
+use Rattle.chip.specs.Records.{own_part}
+use Rattle.chip.specs.declared.Core.{Core}
+use Rattle.codes.proofs.Parts.{longest_most}
+use Rattle.frames.specs.Play.{FrameBench, acted_all, frame_bench}
+use Rattle.sequence.specs.Sequence.{wren, wren_and_write, page_wait}
+use Rattle.frames.specs.Sent.{after_all, write_bytes, in_page, after_write}
+use Rattle.sequence.proofs.Ready.{bench_of_law, own_acted, at_own}
+use Rattle.driver.specs.Told.{Told}
+use Rattle.driver.specs.Answers.{LimitFits}
+use Rattle.sequence.proofs.Joined.{page_acts_law, page_most}
+use Rattle.driver.proofs.Told.{told}
+use Rattle.driver.proofs.pages.write_page.Goals as goal
+
+both : (d : FrameBench) (enabled begun : Core) (a : ℕ) (bytes : List ℕ) → in_page (own_part d.core) a (length bytes) ≡ true
+    → enabled ≡ (acted_all (own_part d.core) (wren ∷ []) d).core → begun ≡ after_write (own_part enabled) enabled a bytes
+    → begun ≡ (acted_all (own_part d.core) (wren_and_write (own_part d.core) a bytes) d).core
+both d enabled begun a bytes fits e h =
+    let P = own_part d.core in
+    h
+    ∙ ap (λ (Q : Part). after_write Q enabled a bytes) (own_acted P (wren ∷ []) d e)
+    ∙ at_yes _ _ fits
+    ∙ ap (λ (x : Core). after_all P x (write_bytes P a bytes)) e
+
+-- after the WRITE: the record
+begins : (w : tie.After-write) → let a = w.before.before.before.before.before.args in
+    let d : FrameBench = frame_bench a.core a.memory.now a.identification.now in
+    let P = own_part a.core in
+    w.write.result ≡ (acted_all P (wren_and_write P a.address a.bytes.now) d).core
+begins w =
+    let start = w.before.before.before.before.before in
+    let a = start.args in
+    let fits = and_both _ _ (lt-ltb _ _ start.requires.0) (le-leb _ _ start.requires.1.0) in
+    both (frame_bench a.core a.memory.now a.identification.now) _ _ a.address a.bytes.now fits w.before.wren.ensures w.write.ensures
+
+pub page_wait-requires : goal.page_wait-requires
+page_wait-requires c =
+    let a = c.args in
+    let d : FrameBench = frame_bench a.core a.memory.now a.identification.now in
+    let P = own_part a.core in
+    at_own (own_acted P (wren_and_write P a.address a.bytes.now) d (begins c)) (λ (Q : Part). LimitFits Q a.limit) c.requires.limit_fits
+
+pub and_sent-requires : goal.and_sent-requires
+and_sent-requires c =
+    let a = c.args in
+    let x : FrameBench = frame_bench c.write-begun.result a.memory.now a.identification.now in
+    let most = page_most (own_part x.core) a.interval a.limit x c.requires.limit_fits.0 in
+    omega (arith, c.page_wait.ensures.1.1.0, c.requires.limit_fits.1, longest_most a.core.part)
+
+pub returns : goal.returns
+returns c =
+    let wait = c.page_wait in
+    let a = c.args in
+    let d : FrameBench = frame_bench a.core a.memory.now a.identification.now in
+    let P = own_part a.core in
+    let x : FrameBench = frame_bench c.write-begun.result a.memory.now a.identification.now in
+    let acts = wren_and_write P a.address a.bytes.now in
+    let e = bench_of_law (acted_all P acts d) (begins c) refl refl in
+    let follows = page_acts_law P a.interval a.limit d x a.address a.bytes.now e in
+    let waited =
+    subst (λ (Q : Part). Told Q (page_wait Q a.interval a.limit x) x wait.result wait.new.memory wait.new.identification)
+    (own_acted P acts d (begins c)) wait.ensures in
+    told P _ d _ x 2 follows wait.result c.and_sent.result wait.new.memory wait.new.identification waited c.and_sent.ensures
