@@ -7,10 +7,9 @@ use borrow.Author.Tests.{eq-eqb}
 use Rattle.laws.specs.Pick.{pick_case, at_yes}
 use Rattle.codes.specs.Part.{part_of, is_part}
 use Rattle.codes.proofs.Parts.{row_plain, row_none}
-use Rattle.blanks.specs.Blanks.{blanks}
 use Rattle.chip.specs.Records.{own_part}
 use Rattle.chip.specs.Blanks.{Counted}
-use Rattle.chip.specs.Power.{quiet, delivered, delivered_memory, powered_up}
+use Rattle.chip.specs.Power.{quiet, delivered, delivered_memory}
 use Rattle.chip.specs.declared.Core.{Core}
 use Rattle.chip.specs.declared.PoweredUp.{PoweredUp}
 use Rattle.chip.proofs.Cases.{longest_fits, delivered_size, delivered_blanks}

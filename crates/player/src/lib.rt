@@ -51,7 +51,7 @@ pub fn memory() -> [u8; LARGE_SIZE]
 // The identification page as delivered: as many of these cells as the part's page has.
 pub fn identification(part: u8) -> [u8; ROOM]
     ensures value { result ≡ (part_of part).identity ++ replicate (room - length (part_of part).identity) 0xff }
-    ensures result_value { take (part_of part).page result ≡ delivered_identification (part_of part) }
+    ensures as_delivered { take (part_of part).page result ≡ delivered_identification (part_of part) }
 {
     let mut cells = [255; ROOM];
     if part == M95M01 {

@@ -14,9 +14,9 @@ front n k x =
 
 pub returns : goal.returns
 returns c =
-    (
-  refl,
-  λ n.
-      let all : room_cells ≡ (part_of n).size + (room_cells - (part_of n).size) = omega (arith, size_most n) in
-      ap (λ (k : ℕ). take (part_of n).size (replicate k 0xff)) all ∙ front (part_of n).size (room_cells - (part_of n).size) 0xff,
-)
+    record {
+      value = refl;
+      by_index = λ n.
+          let all : room_cells ≡ (part_of n).size + (room_cells - (part_of n).size) = omega (arith, size_most n) in
+          ap (λ (k : ℕ). take (part_of n).size (replicate k 0xff)) all ∙ front (part_of n).size (room_cells - (part_of n).size) 0xff;
+    }
