@@ -3,8 +3,9 @@
 
     tools/edits.py
 
-An edit names a file of its crate and a text that occurs in it exactly once. A change of that line leaves the edit
-behind, and the gate says so only when it comes to try it. This says so at once. It proves nothing.
+An edit names a file of its crate and texts that occur in it exactly once, each replaced before the next is looked for.
+A change of that line leaves the edit behind, and `rt ci` then only notes a bad edit. This says so at once and ends with
+a status that is not 0. It proves nothing.
 """
 import glob
 import os
@@ -12,27 +13,43 @@ import sys
 
 
 def pairs(path):
-    """(file of the crate, text to be replaced) of each pair of an edit"""
-    name = ""
+    """(file of the crate, text to be replaced, text in its place) of each pair of an edit"""
+    name = old = ""
     with open(path, encoding="utf-8") as edit:
-        for line in edit:
+        for line in edit.read().split("\n"):
             if line.startswith("file: "):
-                name = line[6:].rstrip("\n")
+                name = line[6:].strip()
             elif line.startswith("old: "):
-                yield name, line[5:].rstrip("\n")
+                old = line[5:]
+            elif line.startswith("new:"):
+                yield name, old, line[5:]
+
+
+def misfits(path):
+    """what is wrong with an edit, a line each"""
+    crate = os.path.dirname(os.path.dirname(path))
+    texts = {}
+    for name, old, new in pairs(path):
+        source = os.path.join(crate, name)
+        if name not in texts:
+            texts[name] = open(source, encoding="utf-8").read() if os.path.isfile(source) else ""
+        found = texts[name].count(old)
+        if found != 1:
+            yield f"{found} times in {name}: {old}"
+        elif old == new:
+            yield f"the same again in {name}: {old}"
+        texts[name] = texts[name].replace(old, new)
+    if not texts:
+        yield "it replaces nothing"
 
 
 def main():
     os.chdir(os.path.join(os.path.dirname(os.path.abspath(__file__)), ".."))
     edits, bad = sorted(glob.glob("crates/*/must-fail/*.edit")), 0
     for path in edits:
-        crate = os.path.dirname(os.path.dirname(path))
-        for name, old in pairs(path):
-            source = os.path.join(crate, name)
-            found = open(source, encoding="utf-8").read().count(old) if os.path.isfile(source) else 0
-            if found != 1:
-                bad += 1
-                print(f"{path}: {found} times in {name}: {old}")
+        for line in misfits(path):
+            bad += 1
+            print(f"{path}: {line}")
     print(f"{len(edits)} edits, {bad} texts that do not occur once")
     return 1 if bad else 0
 
