@@ -17,7 +17,7 @@ done
 mkdir -p "$out"
 [ -f "$root/target/staticlib/libbench.a" ] ||
     echo "bench/cplusplus.sh: proving bench, some minutes the first time (log: target/bench/bench.log)" >&2
-(cd "$root" && rt staticlib bench) >"$out/bench.log" 2>&1 || {
+"$root/tools/build.sh" bench >"$out/bench.log" 2>&1 || {
     cat "$out/bench.log" >&2
     exit 1
 }

@@ -7,7 +7,7 @@ here=$(cd "$(dirname "$0")" && pwd)
 root=$(dirname "$here")
 log=$root/target/hexfile.log
 mkdir -p "$root/target"
-(cd "$root" && rt check hexfile) >"$log" 2>&1 || {
+"$root/tools/build.sh" hexfile >"$log" 2>&1 || {
     cat "$log" >&2
     exit 1
 }
@@ -18,7 +18,7 @@ cd "$work"
 hexfile() {
     case $(uname -m) in
     aarch64)
-        kit=$(dirname "$(dirname "$(rt doc)")")/on/aarch64/toolchain
+        kit=$(dirname "$(rt doc)")/on/aarch64/toolchain
         "$kit/bin/qemu-x86_64" "$kit/lib/ld-linux-x86-64.so.2" --library-path "$kit/lib" \
             "$root/target/bin/hexfile" "$@"
         ;;

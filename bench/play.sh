@@ -8,7 +8,7 @@ here=$(cd "$(dirname "$0")" && pwd)
 root=$(dirname "$here")
 out=$root/target/bench
 mkdir -p "$out"
-(cd "$root" && rt check play) >"$out/play.log" 2>&1 || {
+"$root/tools/build.sh" play >"$out/play.log" 2>&1 || {
     cat "$out/play.log" >&2
     exit 1
 }
@@ -20,7 +20,7 @@ x86_64)
     "$out/playspeed" "$root/target/bin/play" "$out/plainplay" "$out"
     ;;
 aarch64)
-    kit=$(dirname "$(dirname "$(rt doc)")")/on/aarch64
+    kit=$(dirname "$(rt doc)")/on/aarch64
     tools=$kit/toolchain
     headers=$(cc -E -Wp,-v -xc /dev/null 2>&1 | sed -n 's/^ \(\/.*\)$/-isystem \1/p')
     for source in plainplay plain; do

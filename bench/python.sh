@@ -16,7 +16,7 @@ for tool in rt cc python3; do
     }
 done
 mkdir -p "$out"
-(cd "$root" && rt staticlib bench) >"$out/bench.log" 2>&1 || {
+"$root/tools/build.sh" bench >"$out/bench.log" 2>&1 || {
     cat "$out/bench.log" >&2
     exit 1
 }

@@ -30,7 +30,7 @@ while [ $# -gt 0 ]; do
 done
 [ -f "$root/target/staticlib/lib$crate.a" ] ||
     echo "bench/run.sh: proving $crate, some minutes the first time (log: target/bench/$crate.log)" >&2
-(cd "$root" && rt staticlib "$crate") >"$out/$crate.log" 2>&1 || {
+"$root/tools/build.sh" "$crate" >"$out/$crate.log" 2>&1 || {
     cat "$out/$crate.log" >&2
     exit 1
 }
@@ -43,7 +43,7 @@ x86_64)
     "$out/$program" "$@"
     ;;
 aarch64)
-    kit=$(dirname "$(dirname "$(rt doc)")")/on/aarch64
+    kit=$(dirname "$(rt doc)")/on/aarch64
     tools=$kit/toolchain
     need "$tools/bin/clang" "of the Rattle toolchain for Arm"
     need "$kit/bin/rattle-link" "of the Rattle toolchain for Arm"

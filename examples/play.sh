@@ -31,14 +31,14 @@ for trace in "$@"; do
 done
 mkdir -p "$root/target"
 [ -x "$root/target/bin/play" ] || echo "play.sh: proving the player, some minutes the first time (log: target/play.log)" >&2
-(cd "$root" && rt check play) >"$log" 2>&1 || {
+"$root/tools/build.sh" play >"$log" 2>&1 || {
     cat "$log" >&2
     exit 1
 }
 play() { # [--part PART] FILE
     case $(uname -m) in
     aarch64)
-        tools=$(dirname "$(dirname "$(rt doc)")")/on/aarch64/toolchain
+        tools=$(dirname "$(rt doc)")/on/aarch64/toolchain
         "$tools/bin/qemu-x86_64" "$tools/lib/ld-linux-x86-64.so.2" --library-path "$tools/lib" "$root/target/bin/play" "$@"
         ;;
     *) "$root/target/bin/play" "$@" ;;

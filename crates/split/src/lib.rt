@@ -1,6 +1,7 @@
-// The split of a run of bytes into page parts, for the bench's C program and the driver: how many parts a run has, and
-// where part k, from 0, starts and how long it is. A page write stores into one page, so a run that crosses an edge
-// has to go as several. The chip is the number of one of the three; any other number reads the M95512's sizes.
+// The split of a run of bytes into page parts, for the driver and, through the crates split_c and bench_c, for C
+// programs: how many parts a run has, and where part k, from 0, starts and how long it is. A page write stores into one
+// page, so a run that crosses an edge has to go as several. The chip is the number of one of the three; any other number
+// reads the M95512's sizes.
 //
 // Public calls, each for any four numbers: the refusal, the number of parts, the address and the length of one part.
 // The refusal is 7 where the run leaves the memory or has no such part, and the other three are 0 there.
@@ -75,8 +76,7 @@ fn end(chip: u8, address: u64, length: u64, part: u64) -> u64
 }
 
 // 7 where the run leaves the memory or has no such part, else 0.
-#[unsafe(no_mangle)]
-pub extern "C" fn cartvesper_split_refusal(chip: u8, address: u64, length: u64, part: u64) -> u64
+pub fn cartvesper_split_refusal(chip: u8, address: u64, length: u64, part: u64) -> u64
     ensures { result ≡ split_refusal (part_of chip).size (part_of chip).page address length part }
 {
     if count(chip, address, length) <= part {
@@ -86,8 +86,7 @@ pub extern "C" fn cartvesper_split_refusal(chip: u8, address: u64, length: u64, 
 }
 
 // How many page parts the run has; 0 where the refusal is 7.
-#[unsafe(no_mangle)]
-pub extern "C" fn cartvesper_split_parts(chip: u8, address: u64, length: u64, part: u64) -> u64
+pub fn cartvesper_split_parts(chip: u8, address: u64, length: u64, part: u64) -> u64
     ensures { result ≡ split_parts (part_of chip).size (part_of chip).page address length part }
 {
     let parts = count(chip, address, length);
@@ -98,8 +97,7 @@ pub extern "C" fn cartvesper_split_parts(chip: u8, address: u64, length: u64, pa
 }
 
 // Where part k starts; 0 where the refusal is 7.
-#[unsafe(no_mangle)]
-pub extern "C" fn cartvesper_split_address(chip: u8, address: u64, length: u64, part: u64) -> u64
+pub fn cartvesper_split_address(chip: u8, address: u64, length: u64, part: u64) -> u64
     ensures { result ≡ split_address (part_of chip).size (part_of chip).page address length part }
 {
     if part < count(chip, address, length) {
@@ -109,8 +107,7 @@ pub extern "C" fn cartvesper_split_address(chip: u8, address: u64, length: u64, 
 }
 
 // How long part k is; 0 where the refusal is 7.
-#[unsafe(no_mangle)]
-pub extern "C" fn cartvesper_split_length(chip: u8, address: u64, length: u64, part: u64) -> u64
+pub fn cartvesper_split_length(chip: u8, address: u64, length: u64, part: u64) -> u64
     ensures { result ≡ split_length (part_of chip).size (part_of chip).page address length part }
 {
     if part < count(chip, address, length) {
