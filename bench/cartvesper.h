@@ -1,5 +1,5 @@
 /* The bench library for C and C++: both models of the M95512, the M95512-D and the M95M01, the driver, the split, one
- * page write laid over another and images as Intel HEX, proved. Build the archive with `rt staticlib bench` (x86-64).
+ * page write laid over another and images as Intel HEX, proved. Build the archive with `tools/build.sh bench` (x86-64).
  * docs/LINKING.md says how to link it, and bench/example.c shows each kind of call.
  *
  * The device is a record, whose `part` says which of the three it is. Its cells are the caller's: the memory and, right
