@@ -26,8 +26,7 @@ pub(crate) fn bad_flag(part: u8, size: usize) -> u32
 // Power-up: the blank cells of the memory are counted. Refusal 1 for a memory that is not as long as the part has it,
 // then 2 for a part that is none, a lock or a flag that is not 0 or 1, then 6 for the cycle length; each leaves the
 // M95512 with no cell counted.
-#[unsafe(no_mangle)]
-pub extern "C" fn cartvesper_power_up(
+pub fn cartvesper_power_up(
     part: u8,
     lock: u8,
     cycle: u32,
@@ -64,8 +63,7 @@ pub extern "C" fn cartvesper_power_up(
 }
 
 // A clock reading, which may end a cycle and store its page. Refusals 1, 2.
-#[unsafe(no_mangle)]
-pub extern "C" fn cartvesper_clock_reading(
+pub fn cartvesper_clock_reading(
     core: Core,
     reading: u32,
     memory: &mut [u8],
@@ -88,8 +86,7 @@ pub extern "C" fn cartvesper_clock_reading(
 }
 
 // Value 1 for a record inside its ranges; refusal 2 for one outside them.
-#[unsafe(no_mangle)]
-pub extern "C" fn cartvesper_core_in_ranges(core: Core) -> Value
+pub fn cartvesper_core_in_ranges(core: Core) -> Value
     ensures { result ≡ in_ranges_call (own_part core) core }
 {
     if core.in_ranges() {
@@ -99,8 +96,7 @@ pub extern "C" fn cartvesper_core_in_ranges(core: Core) -> Value
 }
 
 // The status byte. Refusal 2.
-#[unsafe(no_mangle)]
-pub extern "C" fn cartvesper_core_status(core: Core) -> Value
+pub fn cartvesper_core_status(core: Core) -> Value
     ensures { result ≡ status_call (own_part core) core }
 {
     if core.in_ranges() {
@@ -110,8 +106,7 @@ pub extern "C" fn cartvesper_core_status(core: Core) -> Value
 }
 
 // The lowest protected address, the memory's size for none. Refusal 2.
-#[unsafe(no_mangle)]
-pub extern "C" fn cartvesper_core_lowest_protected(core: Core) -> Value
+pub fn cartvesper_core_lowest_protected(core: Core) -> Value
     ensures { result ≡ lowest_protected_call (own_part core) core }
 {
     let answer = core.protected_from();
@@ -119,8 +114,7 @@ pub extern "C" fn cartvesper_core_lowest_protected(core: Core) -> Value
 }
 
 // How many cells the running cycle will touch, 0 where no latched bytes wait. Refusal 2.
-#[unsafe(no_mangle)]
-pub extern "C" fn cartvesper_core_touched(core: Core) -> Value
+pub fn cartvesper_core_touched(core: Core) -> Value
     ensures { result ≡ touched_call (own_part core) (in_ranges (own_part core) core) core }
 {
     let answer = core.cells_touched();
@@ -128,8 +122,7 @@ pub extern "C" fn cartvesper_core_touched(core: Core) -> Value
 }
 
 // Value 1 where the address is protected. Refusals 2, then 7.
-#[unsafe(no_mangle)]
-pub extern "C" fn cartvesper_core_protected(core: Core, address: u32) -> Value
+pub fn cartvesper_core_protected(core: Core, address: u32) -> Value
     ensures { result ≡ protected_call (own_part core) core address }
 {
     let answer = core.protection(address);

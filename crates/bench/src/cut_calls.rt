@@ -14,8 +14,7 @@ use cuts::Choice;
 use pins::Device;
 
 // The cut of a record. Refusals 1, 2.
-#[unsafe(no_mangle)]
-pub extern "C" fn cartvesper_cut(
+pub fn cartvesper_cut(
     core: Core,
     choice: Choice,
     memory: &mut [u8],
@@ -38,8 +37,7 @@ pub extern "C" fn cartvesper_cut(
 }
 
 // The cut of a device, whose pins are at rest then. Refusals 1, 2.
-#[unsafe(no_mangle)]
-pub extern "C" fn cartvesper_device_cut(
+pub fn cartvesper_device_cut(
     device: Device,
     choice: Choice,
     memory: &mut [u8],

@@ -45,8 +45,7 @@ fn refused(number: u32, device: Device) -> DeviceAnswer
 // Power-up, at rest: the blank cells of the memory are counted. Refusal 1 for a memory that is not as long as the part
 // has it, then 2 for a part that is none, a lock or a flag that is not 0 or 1, then 6 for the cycle length; each leaves
 // the M95512 with no cell counted.
-#[unsafe(no_mangle)]
-pub extern "C" fn cartvesper_device_power_up(
+pub fn cartvesper_device_power_up(
     part: u8,
     lock: u8,
     cycle: u32,
@@ -77,8 +76,7 @@ pub extern "C" fn cartvesper_device_power_up(
 }
 
 // S to a level. Refusal 2 for a level that is not 0 or 1, or a device outside its ranges.
-#[unsafe(no_mangle)]
-pub extern "C" fn cartvesper_device_set_s(device: Device, level: u8) -> DeviceAnswer
+pub fn cartvesper_device_set_s(device: Device, level: u8) -> DeviceAnswer
     ensures { result ≡ pin_call (device_part device) level (on_s (device_part device) (on level) device) device }
 {
     if level <= 1 {
@@ -88,8 +86,7 @@ pub extern "C" fn cartvesper_device_set_s(device: Device, level: u8) -> DeviceAn
 }
 
 // D to a level. Refusal 2.
-#[unsafe(no_mangle)]
-pub extern "C" fn cartvesper_device_set_d(device: Device, level: u8) -> DeviceAnswer
+pub fn cartvesper_device_set_d(device: Device, level: u8) -> DeviceAnswer
     ensures { result ≡ pin_call (device_part device) level (on_d (on level) device) device }
 {
     if level <= 1 {
@@ -99,8 +96,7 @@ pub extern "C" fn cartvesper_device_set_d(device: Device, level: u8) -> DeviceAn
 }
 
 // W to a level. Refusal 2.
-#[unsafe(no_mangle)]
-pub extern "C" fn cartvesper_device_set_w(device: Device, level: u8) -> DeviceAnswer
+pub fn cartvesper_device_set_w(device: Device, level: u8) -> DeviceAnswer
     ensures { result ≡ pin_call (device_part device) level (on_w (on level) device) device }
 {
     if level <= 1 {
@@ -110,8 +106,7 @@ pub extern "C" fn cartvesper_device_set_w(device: Device, level: u8) -> DeviceAn
 }
 
 // HOLD to a level. Refusal 2.
-#[unsafe(no_mangle)]
-pub extern "C" fn cartvesper_device_set_hold(device: Device, level: u8) -> DeviceAnswer
+pub fn cartvesper_device_set_hold(device: Device, level: u8) -> DeviceAnswer
     ensures { result ≡ pin_call (device_part device) level (on_hold (on level) device) device }
 {
     if level <= 1 {
@@ -131,8 +126,7 @@ pub(crate) fn bad_level(part: u8, size: usize, cells: usize) -> u32
 }
 
 // C to a level. Refusals 1, then 2.
-#[unsafe(no_mangle)]
-pub extern "C" fn cartvesper_device_set_c(
+pub fn cartvesper_device_set_c(
     device: Device,
     level: u8,
     memory: &[u8],
@@ -153,8 +147,7 @@ pub extern "C" fn cartvesper_device_set_c(
 }
 
 // A clock reading, which may end a cycle and store its page. Refusals 1, 2.
-#[unsafe(no_mangle)]
-pub extern "C" fn cartvesper_device_read_clock(
+pub fn cartvesper_device_read_clock(
     device: Device,
     reading: u32,
     memory: &mut [u8],
@@ -176,8 +169,7 @@ pub extern "C" fn cartvesper_device_read_clock(
 }
 
 // Value 1 for a device inside its ranges; refusal 2 for one outside them.
-#[unsafe(no_mangle)]
-pub extern "C" fn cartvesper_device_in_ranges(device: Device) -> Value
+pub fn cartvesper_device_in_ranges(device: Device) -> Value
     ensures { result ≡ device_in_ranges_call (device_part device) device }
 {
     if device.in_ranges() {
@@ -187,8 +179,7 @@ pub extern "C" fn cartvesper_device_in_ranges(device: Device) -> Value
 }
 
 // What Q shows: value 0, 1, or 2 for Z. Refusal 2.
-#[unsafe(no_mangle)]
-pub extern "C" fn cartvesper_device_q(device: Device) -> Value
+pub fn cartvesper_device_q(device: Device) -> Value
     ensures { result ≡ q_call (device_part device) device }
 {
     let answer = device.q();
@@ -196,8 +187,7 @@ pub extern "C" fn cartvesper_device_q(device: Device) -> Value
 }
 
 // The status byte. Refusal 2.
-#[unsafe(no_mangle)]
-pub extern "C" fn cartvesper_device_status(device: Device) -> Value
+pub fn cartvesper_device_status(device: Device) -> Value
     ensures { result ≡ device_status_call (device_part device) device }
 {
     let answer = device.status();
@@ -205,8 +195,7 @@ pub extern "C" fn cartvesper_device_status(device: Device) -> Value
 }
 
 // How many cells the running cycle will touch, 0 where no latched bytes wait. Refusal 2.
-#[unsafe(no_mangle)]
-pub extern "C" fn cartvesper_device_touched(device: Device) -> Value
+pub fn cartvesper_device_touched(device: Device) -> Value
     ensures { result ≡ touched_call (device_part device) (device_fits (device_part device) device) device.core }
 {
     let answer = device.cells_touched();
@@ -214,8 +203,7 @@ pub extern "C" fn cartvesper_device_touched(device: Device) -> Value
 }
 
 // A list of events, each a number, and Q after each in the output. Refusals 1, 2, 5.
-#[unsafe(no_mangle)]
-pub extern "C" fn cartvesper_device_play(
+pub fn cartvesper_device_play(
     device: Device,
     memory: &mut [u8],
     identification: &mut [u8],

@@ -8,8 +8,7 @@ use crate::DriverAnswer;
 use chip::Core;
 
 // A run of bytes written as page writes. Refusals 1, 2, 7, 8; else 0, 9 or 13, with pages done and frames sent.
-#[unsafe(no_mangle)]
-pub extern "C" fn cartvesper_write(
+pub fn cartvesper_write(
     core: Core,
     memory: &mut [u8],
     identification: &mut [u8],

@@ -8,8 +8,7 @@ use crate::device_calls::bad_level;
 use chip::Core;
 
 // A whole frame, with the level of W. Refusals 1, 2, 3, 4, 5; a level that is not 0 or 1 gets 2 too.
-#[unsafe(no_mangle)]
-pub extern "C" fn cartvesper_frame(
+pub fn cartvesper_frame(
     core: Core,
     memory: &[u8],
     identification: &[u8],

@@ -6,8 +6,7 @@ use crate::LatchAnswer;
 use latch::Latch;
 
 // The later page write laid over the earlier. Refusal 2 where either is outside its ranges, with the earlier one.
-#[unsafe(no_mangle)]
-pub extern "C" fn cartvesper_lay(earlier: Latch, later: Latch) -> LatchAnswer
+pub fn cartvesper_lay(earlier: Latch, later: Latch) -> LatchAnswer
     ensures { result ≡ lay_call earlier later }
 {
     let laid = laying::lay(earlier, later);

@@ -10,32 +10,28 @@ use split::{
 };
 
 // 7 where the run leaves the memory or has no such part, else 0.
-#[unsafe(no_mangle)]
-pub extern "C" fn cartvesper_part_refusal(chip: u8, address: u64, length: u64, part: u64) -> u64
+pub fn cartvesper_part_refusal(chip: u8, address: u64, length: u64, part: u64) -> u64
     ensures { result ≡ split_refusal (part_of chip).size (part_of chip).page address length part }
 {
     cartvesper_split_refusal(chip, address, length, part)
 }
 
 // How many page parts the run has; 0 where the refusal is 7.
-#[unsafe(no_mangle)]
-pub extern "C" fn cartvesper_part_count(chip: u8, address: u64, length: u64, part: u64) -> u64
+pub fn cartvesper_part_count(chip: u8, address: u64, length: u64, part: u64) -> u64
     ensures { result ≡ split_parts (part_of chip).size (part_of chip).page address length part }
 {
     cartvesper_split_parts(chip, address, length, part)
 }
 
 // Where part k starts; 0 where the refusal is 7.
-#[unsafe(no_mangle)]
-pub extern "C" fn cartvesper_part_address(chip: u8, address: u64, length: u64, part: u64) -> u64
+pub fn cartvesper_part_address(chip: u8, address: u64, length: u64, part: u64) -> u64
     ensures { result ≡ split_address (part_of chip).size (part_of chip).page address length part }
 {
     cartvesper_split_address(chip, address, length, part)
 }
 
 // How long part k is; 0 where the refusal is 7.
-#[unsafe(no_mangle)]
-pub extern "C" fn cartvesper_part_length(chip: u8, address: u64, length: u64, part: u64) -> u64
+pub fn cartvesper_part_length(chip: u8, address: u64, length: u64, part: u64) -> u64
     ensures { result ≡ split_length (part_of chip).size (part_of chip).page address length part }
 {
     cartvesper_split_length(chip, address, length, part)

@@ -22,8 +22,7 @@ fn mode_of(mode: u8) -> Mode
 
 // A whole frame with clock readings inside it, each at its byte position. Refusals 1, 2, 3, 4, 5; a level that is not 0
 // or 1 and a mode that is not 0 or 3 get 2 too. With empty lists it is the plain frame.
-#[unsafe(no_mangle)]
-pub extern "C" fn cartvesper_timed_frame(
+pub fn cartvesper_timed_frame(
     core: Core,
     memory: &mut [u8],
     identification: &mut [u8],
