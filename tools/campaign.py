@@ -112,8 +112,9 @@ def main():
     pick = random.Random(seed)
     copy = os.path.join(ROOT, "target", "campaign", crate)
     shutil.rmtree(copy, ignore_errors=True)
-    shutil.copytree(ROOT, copy, ignore=lambda d, names: [n for n in names if n in (".git", "campaign")])
-    src = os.path.join(copy, "crates", crate, "src")
+    shutil.copytree(ROOT, copy, ignore=lambda d, names: [n for n in names if n in (".git", "target", "out")])
+    folder = os.path.join(copy, "crates", crate)
+    src = os.path.join(folder, "src")
     texts, functions_of, bodies, public, choices = {}, [], {}, [], {}
     for name in sorted(os.listdir(src)):
         lines, found = functions(os.path.join(src, name))
@@ -153,11 +154,11 @@ def main():
             i, edit = choices[key].pop()
             with open(path, "w", encoding="utf-8") as f:
                 f.write("\n".join(lines[:i] + [edit] + lines[i + 1:]))
-            run = subprocess.run(["rt", "dev", crate], cwd=copy, stdout=subprocess.PIPE, stderr=subprocess.STDOUT)
+            run = subprocess.run(["rt", "check"], cwd=folder, stdout=subprocess.PIPE, stderr=subprocess.STDOUT)
             with open(path, "w", encoding="utf-8") as f:
                 f.write("\n".join(lines))
             text = run.stdout.decode("utf-8", "replace")
-            if "logic=" not in text and "proof" not in text:
+            if "logic=" not in text:
                 unbuilt += 1
                 continue
             tried[key] += 1
