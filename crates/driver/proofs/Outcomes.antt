@@ -98,11 +98,14 @@ module _ (P : Part) (c : Core) (m i : List ℕ) (a : ℕ) (bytes : List ℕ) (in
 
   abbrev pub HandsBack : Driven → List ℕ → List ℕ → Type 0
   HandsBack r m' i' =
-      (r ≡ driven P c m i a bytes interval limit)
-      × ((run_reply_number r.answer ≡ drive_number P c (length m) (length i) a (length bytes) interval limit whole.ending)
-      × ((run_reply_pages r.answer ≡ drive_pages P c m i a bytes interval limit)
-      × ((run_reply_frames r.answer ≡ drive_frames P c m i a bytes interval limit)
-      × ((m' ≡ driven_memory P c m i a bytes interval limit) × (i' ≡ driven_identification P c m i a bytes interval limit)))))
+      record {
+        value : r ≡ driven P c m i a bytes interval limit;
+        as_number : run_reply_number r.answer ≡ drive_number P c (length m) (length i) a (length bytes) interval limit whole.ending;
+        as_pages : run_reply_pages r.answer ≡ drive_pages P c m i a bytes interval limit;
+        as_frames : run_reply_frames r.answer ≡ drive_frames P c m i a bytes interval limit;
+        memory_after : m' ≡ driven_memory P c m i a bytes interval limit;
+        identification_after : i' ≡ driven_identification P c m i a bytes interval limit;
+      }
 
   by : (f : RunReply → ℕ) {n : ℕ} (o : Outcome) → drive_outcome P c (length m) (length i) a (length bytes) interval limit ≡ o → f (run_answer whole) ≡ n
       → f (run_reply o whole)
@@ -127,11 +130,26 @@ module _ (P : Part) (c : Core) (m i : List ℕ) (a : ℕ) (bytes : List ℕ) (in
   unfolding driven driven_memory driven_identification pick
   drove r m' i' found done told =
       let e = sym found ∙ done in
-      rw (told.0, told.1.0, told.1.1) (rw e, (numbers outcome.Done e, (pages outcome.Done e, (frames outcome.Done e, (rw e, rw e)))))
+      rw (told.0, told.1.0, told.1.1)
+      (record {
+        value = rw e;
+        as_number = numbers outcome.Done e;
+        as_pages = pages outcome.Done e;
+        as_frames = frames outcome.Done e;
+        memory_after = rw e;
+        identification_after = rw e;
+      })
 
   pub refused : (n : Refusal) {o : Outcome} → o ≡ drive_outcome P c (length m) (length i) a (length bytes) interval limit → o ≡ outcome.Refused n
       → HandsBack (record { answer = Refused n; core = c }) m i
   unfolding driven driven_memory driven_identification pick
   refused n found refuses =
       let e = sym found ∙ refuses in
-      (rw e, (numbers (outcome.Refused n) e, (pages (outcome.Refused n) e, (frames (outcome.Refused n) e, (rw e, rw e)))))
+      record {
+        value = rw e;
+        as_number = numbers (outcome.Refused n) e;
+        as_pages = pages (outcome.Refused n) e;
+        as_frames = frames (outcome.Refused n) e;
+        memory_after = rw e;
+        identification_after = rw e;
+      }

@@ -51,15 +51,35 @@ module _ (P : Part) (x : Device) (m : Lent) (es : List ℕ) (room : ℕ) where
   play_length l = at_no _ _ l
 
   pub play_taken : {y y' : Device} {n n' d d' v v' : List ℕ} (out : List ℕ) → play_outcome P x m es room ≡ Done → y' ≡ y → n' ≡ n → d' ≡ d → v' ≡ v
-      → (stepped_to Done y' ≡ answer (play_outcome P x m es room) y x)
-      × ((0 ≡ play_number P x m es room) × ((n' ≡ answer_memory (play_outcome P x m es room) n m.memory)
-      × ((d' ≡ answer_memory (play_outcome P x m es room) d m.identification) × (v' ≡ answer_memory (play_outcome P x m es room) v out))))
+      → record {
+        value : stepped_to Done y' ≡ answer (play_outcome P x m es room) y x;
+        as_number : 0 ≡ play_number P x m es room;
+        memory_after : n' ≡ answer_memory (play_outcome P x m es room) n m.memory;
+        identification_after : d' ≡ answer_memory (play_outcome P x m es room) d m.identification;
+        out_after : v' ≡ answer_memory (play_outcome P x m es room) v out;
+      }
   play_taken out o p q i r =
-      (done_so x o p refl, (play_number_law o, (left_so m.memory o q, (left_so m.identification o i, left_so out o r))))
+      record {
+        value = done_so x o p refl;
+        as_number = play_number_law o;
+        memory_after = left_so m.memory o q;
+        identification_after = left_so m.identification o i;
+        out_after = left_so out o r;
+      }
 
   pub play_untaken : {f : Refusal} (y : Device) (n d v out : List ℕ) → play_outcome P x m es room ≡ Refused f
-      → (stepped_to (Refused f) x ≡ answer (play_outcome P x m es room) y x)
-      × ((refusal_number f ≡ play_number P x m es room) × ((m.memory ≡ answer_memory (play_outcome P x m es room) n m.memory)
-      × ((m.identification ≡ answer_memory (play_outcome P x m es room) d m.identification) × (out ≡ answer_memory (play_outcome P x m es room) v out))))
+      → record {
+        value : stepped_to (Refused f) x ≡ answer (play_outcome P x m es room) y x;
+        as_number : refusal_number f ≡ play_number P x m es room;
+        memory_after : m.memory ≡ answer_memory (play_outcome P x m es room) n m.memory;
+        identification_after : m.identification ≡ answer_memory (play_outcome P x m es room) d m.identification;
+        out_after : out ≡ answer_memory (play_outcome P x m es room) v out;
+      }
   play_untaken y n d v out o =
-      (refused_so y o refl, (play_number_law o, (kept_so n m.memory o, (kept_so d m.identification o, kept_so v out o))))
+      record {
+        value = refused_so y o refl;
+        as_number = play_number_law o;
+        memory_after = kept_so n m.memory o;
+        identification_after = kept_so d m.identification o;
+        out_after = kept_so v out o;
+      }

@@ -9,7 +9,7 @@ drive-requires c =
     let t =
     taken (own_part a.core) a.core a.memory.now a.identification.now a.address (length a.bytes.now) a.interval a.limit
     c.outcome.ensures c.in-Done.is in
-    (t.inside, t.limits)
+    record { bytes_bound = t.inside; limit_fits = t.limits }
 
 pub returns-in-Done : goal.returns-in-Done
 returns-in-Done c =

@@ -1,5 +1,4 @@
--- WREN and then WRITE, each at the part of its own record: the first one's
-use Rattle.std.proofs.Common.{◌≡◌, ℕ, true, List, [], ◌∷◌, length, refl, ap, ◌∙◌, subst, arith, lt-ltb, le-leb}
+use Rattle.std.proofs.Common.{◌≡◌, ℕ, ◌+◌, ◌%◌, ◌<◌, ◌≤◌, true, List, [], ◌∷◌, length, refl, ap, ◌∙◌, subst, arith, lt-ltb, le-leb}
 use Rattle.laws.specs.Pick.{at_yes, and_both}
 use Rattle.codes.specs.Part.{Part}
 use Rattle.chip.specs.Records.{own_part}
@@ -15,6 +14,7 @@ use Rattle.sequence.proofs.Joined.{page_acts_law, page_most}
 use Rattle.driver.proofs.Told.{told}
 use Rattle.driver.proofs.pages.write_page.Goals as goal
 
+-- WREN and then WRITE, each at the part of its own record: the first one's
 both : (d : FrameBench) (enabled begun : Core) (a : ℕ) (bytes : List ℕ) → in_page (own_part d.core) a (length bytes) ≡ true
     → enabled ≡ (acted_all (own_part d.core) (wren ∷ []) d).core → begun ≡ after_write (own_part enabled) enabled a bytes
     → begun ≡ (acted_all (own_part d.core) (wren_and_write (own_part d.core) a bytes) d).core
@@ -26,22 +26,20 @@ both d enabled begun a bytes fits e h =
     ∙ ap (λ (x : Core). after_all P x (write_bytes P a bytes)) e
 
 -- after the WRITE: the record
-begins : (w : tie.After-write) → let a = w.before.before.before.before.before.args in
-    let d : FrameBench = frame_bench a.core a.memory.now a.identification.now in
-    let P = own_part a.core in
-    w.write.result ≡ (acted_all P (wren_and_write P a.address a.bytes.now) d).core
-begins w =
-    let start = w.before.before.before.before.before in
-    let a = start.args in
-    let fits = and_both _ _ (lt-ltb _ _ start.requires.0) (le-leb _ _ start.requires.1.0) in
-    both (frame_bench a.core a.memory.now a.identification.now) _ _ a.address a.bytes.now fits w.before.wren.ensures w.write.ensures
+begins : (d : FrameBench) (enabled begun : Core) (a : ℕ) (bytes : List ℕ) → a < (own_part d.core).size
+    → a % (own_part d.core).page + length bytes ≤ (own_part d.core).page
+    → enabled ≡ (acted_all (own_part d.core) (wren ∷ []) d).core → begun ≡ after_write (own_part enabled) enabled a bytes
+    → begun ≡ (acted_all (own_part d.core) (wren_and_write (own_part d.core) a bytes) d).core
+begins d enabled begun a bytes inside fits = both d enabled begun a bytes (and_both _ _ (lt-ltb _ _ inside) (le-leb _ _ fits))
 
 pub page_wait-requires : goal.page_wait-requires
 page_wait-requires c =
     let a = c.args in
     let d : FrameBench = frame_bench a.core a.memory.now a.identification.now in
     let P = own_part a.core in
-    at_own (own_acted P (wren_and_write P a.address a.bytes.now) d (begins c)) (λ (Q : Part). LimitFits Q a.limit) c.requires.limit_fits
+    let begun = begins d c.wren-enabled.result c.write-begun.result a.address a.bytes.now c.requires.address_bound c.requires.bytes_bound
+    c.wren-enabled.ensures c.write-begun.ensures in
+    at_own (own_acted P (wren_and_write P a.address a.bytes.now) d begun) (λ (Q : Part). LimitFits Q a.limit) c.requires.limit_fits
 
 pub and_sent-requires : goal.and_sent-requires
 and_sent-requires c =
@@ -57,10 +55,12 @@ returns c =
     let d : FrameBench = frame_bench a.core a.memory.now a.identification.now in
     let P = own_part a.core in
     let x : FrameBench = frame_bench c.write-begun.result a.memory.now a.identification.now in
+    let begun = begins d c.wren-enabled.result c.write-begun.result a.address a.bytes.now c.requires.address_bound c.requires.bytes_bound
+    c.wren-enabled.ensures c.write-begun.ensures in
     let acts = wren_and_write P a.address a.bytes.now in
-    let e = bench_of_law (acted_all P acts d) (begins c) refl refl in
+    let e = bench_of_law (acted_all P acts d) begun refl refl in
     let follows = page_acts_law P a.interval a.limit d x a.address a.bytes.now e in
     let waited =
     subst (λ (Q : Part). Told Q (page_wait Q a.interval a.limit x) x wait.result wait.new.memory wait.new.identification)
-    (own_acted P acts d (begins c)) wait.ensures in
+    (own_acted P acts d begun) wait.ensures in
     told P _ d _ x 2 follows wait.result c.and_sent.result wait.new.memory wait.new.identification waited c.and_sent.ensures

@@ -5,19 +5,8 @@ use Rattle.split.specs.Pieces.{piece}
 use Rattle.frames.specs.Play.{FrameBench, frame_bench}
 use Rattle.sequence.specs.Sequence.{page_acts}
 use Rattle.driver.specs.Told.{Told}
-use Rattle.sequence.proofs.Parts.{Lies, lies, part_bytes}
+use Rattle.sequence.proofs.Parts.{lies, part_bytes}
 use Rattle.driver.proofs.pages.write_part.Goals as goal
-
--- the part's place and length are known: where it lies
-lying : (w : tie.After-cartvesper-split-length) → let a = w.before.before.before.before.before.args in
-    Lies (own_part a.core) a.address (length a.bytes.now) w.before.cartvesper-split-address.result w.cartvesper-split-length.result
-lying w =
-    let start = w.before.before.before.before.before in
-    let a = start.args in
-    let at = w.before.cartvesper-split-address in
-    let long = w.cartvesper-split-length in
-    lies (own_part a.core) (sound_of a.core.part) a.address a.bytes.now a.k at.result long.result
-    start.requires.1 at.ensures long.ensures
 
 pub overflow_sub-from : goal.overflow_sub-from
 overflow_sub-from c =
@@ -29,19 +18,28 @@ overflow_sub-from c =
 
 pub overflow_add-end : goal.overflow_add-end
 overflow_add-end c =
-    let to = (lying c).to in
-    let inside = (lying c).inside in
-    omega arith
+    let a = c.args in
+    let l = lies (own_part a.core) (sound_of a.core.part) a.address a.bytes.now a.k c.cartvesper_split_address-start.result c.cartvesper_split_length.result
+    c.requires.k_bound c.cartvesper_split_address-start.ensures c.cartvesper_split_length.ensures in
+    omega (arith, l.to, l.inside)
 
 pub slice_bounds-write_page-end : goal.slice_bounds-write_page-end
 slice_bounds-write_page-end c =
-    let l = lying c in
+    let a = c.args in
+    let l = lies (own_part a.core) (sound_of a.core.part) a.address a.bytes.now a.k c.cartvesper_split_address-start.result c.cartvesper_split_length.result
+    c.requires.k_bound c.cartvesper_split_address-start.ensures c.cartvesper_split_length.ensures in
     omega (arith, l.from, l.to)
 
 pub write_page-requires : goal.write_page-requires
 write_page-requires c =
-    let l = lying c in
-    (l.memory, (simp (length-take, length-drop) (omega (arith, l.from, l.to, l.page)), c.requires.limit_fits))
+    let a = c.args in
+    let l = lies (own_part a.core) (sound_of a.core.part) a.address a.bytes.now a.k c.cartvesper_split_address-start.result c.cartvesper_split_length.result
+    c.requires.k_bound c.cartvesper_split_address-start.ensures c.cartvesper_split_length.ensures in
+    record {
+      address_bound = l.memory;
+      bytes_bound = simp (length-take, length-drop) (omega (arith, l.from, l.to, l.page));
+      limit_fits = c.requires.limit_fits;
+    }
 
 pub returns : goal.returns
 returns c =

@@ -1,46 +1,29 @@
-use Rattle.std.proofs.Common.{◌≡◌, ℕ, ◌+◌, ◌-◌, ◌≤◌, length, sym, refl, ◌∙◌, arith}
+use Rattle.std.proofs.Common.{◌≡◌, ℕ, ◌+◌, ◌-◌, ◌≤◌, List, length, sym, refl, ◌∙◌, arith}
 use Rattle.chip.specs.Records.{own_part}
-use Rattle.codes.specs.Part.{part_of}
+use Rattle.codes.specs.Part.{Part, part_of}
 use Rattle.codes.proofs.Parts.{longest_most}
 use Rattle.codes.proofs.Sound.{sound_of}
 use Rattle.split.specs.Split.{count, split_address}
 use Rattle.split.specs.Pieces.{piece}
 use Rattle.split.proofs.Numbers.{parts_asked}
 use Rattle.frames.specs.Play.{FrameBench, frame_bench}
+use Rattle.driver.specs.declared.waiting.Waited.{Waited}
 use Rattle.driver.proofs.Left.{Left}
 use Rattle.sequence.proofs.Joined.{acts_most}
 use Rattle.sequence.proofs.Runs.{part_acts, rest_first, pages_few, parts_few}
 use Rattle.driver.proofs.Ended.{part_left, rest_on, rest_late, rest_done}
 use Rattle.driver.proofs.pages.write_parts.Goals as goal
 
--- after part k: what it left
-went : (w : tie.After-write-part invariant-loop decreases-loop) → let a = w.before.before.before.before.before.before.before.before.before.args in
-    let l = w.before.before.before.before.loop in
-    let P = own_part a.core in
-    let d : FrameBench = frame_bench l.next l.memory l.identification in
-    Left P (part_acts P a.interval a.limit a.address a.bytes.now l.k d) d w.write_part.result w.write_part.new.1.0
-    w.write_part.new.1.1.0
-went w =
-    let a = w.before.before.before.before.before.before.before.before.before.args in
-    let inv = w.before.before.before.before.loop.invariant in
-    part_left (own_part a.core) a.interval a.limit a.address a.bytes.now _ _ _ _ _ inv.1.1.1.0 w.write_part.ensures
-
--- and that it sent few frames
-few-frames : (w : tie.After-write-part invariant-loop decreases-loop)
-    → w.write_part.result.frames ≤ w.before.before.before.before.before.before.before.before.before.args.limit + 2
-few-frames w =
-    let a = w.before.before.before.before.before.before.before.before.before.args in
-    let l = w.before.before.before.before.loop in
-    let sends =
-    acts_most (own_part a.core) a.interval a.limit
-    (split_address (own_part a.core).size (own_part a.core).page a.address (length a.bytes.now) l.k)
-    (piece (own_part a.core).size (own_part a.core).page a.address a.bytes.now l.k) (frame_bench l.next l.memory l.identification)
-    w.before.before.before.before.before.before.before.before.before.requires.0.0 in
-    omega (arith, (went w).told.1.1.0)
+-- part k sent few frames
+few_frames : (P : Part) (i limit a : ℕ) (bytes : List ℕ) (k : ℕ) (d : FrameBench) (w : Waited) (m p : List ℕ) → 1 ≤ limit
+    → Left P (part_acts P i limit a bytes k d) d w m p → w.frames ≤ limit + 2
+few_frames P i limit a bytes k d w m p some went =
+    let sends = acts_most P i limit (split_address P.size P.page a (length bytes) k) (piece P.size P.page a bytes k) d some in
+    omega (arith, went.told.1.1.0)
 
 -- a run has at most 512 parts
-few-parts : (n a len : ℕ) {parts : ℕ} → parts ≡ count (part_of n).size (part_of n).page a len → parts ≤ 512
-few-parts n a len e = omega (arith, parts_few (part_of n) (sound_of n) a len, pages_few n)
+few_parts : (n a len : ℕ) {parts : ℕ} → parts ≡ count (part_of n).size (part_of n).page a len → parts ≤ 512
+few_parts n a len e = omega (arith, parts_few (part_of n) (sound_of n) a len, pages_few n)
 
 pub loop-k-init : goal.loop-k-init
 loop-k-init c =
@@ -57,8 +40,10 @@ pub overflow_add-frames : goal.overflow_add-frames
 overflow_add-frames c =
     let a = c.args in
     let l = c.loop-k in
-    let most = few-frames c in
-    let few = few-parts a.core.part a.address (length a.bytes.now) l.invariant.1.1.0 in
+    let went = part_left (own_part c.args.core) c.args.interval c.args.limit c.args.address c.args.bytes.now _ _ _ _ _ c.loop-k.invariant.1.1.1.0
+    c.write_part-page.ensures in
+    let most = few_frames _ _ c.args.limit _ _ _ _ c.write_part-page.result _ _ c.requires.limit_fits.0 went in
+    let few = few_parts a.core.part a.address (length a.bytes.now) l.invariant.1.1.0 in
     let below = c.loop-k-test.true in
     omega (arith, l.invariant.1.0, c.requires.limit_fits.1, longest_most a.core.part)
 
@@ -66,32 +51,36 @@ pub overflow_cast-result : goal.overflow_cast-result
 overflow_cast-result c =
     let l = c.loop-k in
     let a = c.args in
-    let few = few-parts a.core.part a.address (length a.bytes.now) l.invariant.1.1.0 in
+    let few = few_parts a.core.part a.address (length a.bytes.now) l.invariant.1.1.0 in
     omega (arith, l.invariant.0)
 
 pub returns-then-wip : goal.returns-then-wip
 returns-then-wip c =
     let l = c.loop-k in
-    rest_late l.invariant.1.1.1.1.1 c.loop-k-test.true (went c) (sym c.wip.ensures ∙ c.if-wip.true) l.invariant.1.1.0
+    let went = part_left (own_part c.args.core) c.args.interval c.args.limit c.args.address c.args.bytes.now _ _ _ _ _ c.loop-k.invariant.1.1.1.0
+    c.write_part-page.ensures in
+    rest_late l.invariant.1.1.1.1.1 c.loop-k-test.true went (sym c.wip.ensures ∙ c.if-wip.true) l.invariant.1.1.0
 
 pub loop-k-preserved : goal.loop-k-preserved
 loop-k-preserved c =
     let l = c.loop-k in
     let below = c.loop-k-test.true in
-    let most = few-frames c in
+    let went = part_left (own_part c.args.core) c.args.interval c.args.limit c.args.address c.args.bytes.now _ _ _ _ _ c.loop-k.invariant.1.1.1.0
+    c.write_part-page.ensures in
+    let most = few_frames _ _ c.args.limit _ _ _ _ c.write_part-page.result _ _ c.requires.limit_fits.0 went in
     let lengths = l.invariant.1.1.1.1.0 in
-    let rest = rest_on l.invariant.1.1.1.1.1 below (went c) (sym c.wip.ensures ∙ c.if-wip.false) in (
+    let rest = rest_on l.invariant.1.1.1.1.1 below went (sym c.wip.ensures ∙ c.if-wip.false) in (
       omega arith,
       (
         omega (arith, l.invariant.1.0, c.requires.limit_fits.1, longest_most c.args.core.part),
-        (l.invariant.1.1.0, ((went c).stays, (((went c).whole ∙ lengths.0, (went c).page ∙ lengths.1), rest))),
+        (l.invariant.1.1.0, (went.stays, ((went.whole ∙ lengths.0, went.page ∙ lengths.1), rest))),
       ),
     )
 
 pub overflow_cast-result-2 : goal.overflow_cast-result-2
 overflow_cast-result-2 c =
     let a = c.args in
-    let few = few-parts a.core.part a.address (length a.bytes.now) c.loop-k.invariant.1.1.0 in
+    let few = few_parts a.core.part a.address (length a.bytes.now) c.loop-k.invariant.1.1.0 in
     omega (arith, c.loop-k.invariant.0)
 
 pub returns : goal.returns

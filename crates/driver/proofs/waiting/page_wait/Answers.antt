@@ -9,12 +9,6 @@ use Rattle.sequence.proofs.Polls.{poll_idle}
 use Rattle.driver.specs.Told.{Told}
 use Rattle.driver.proofs.waiting.page_wait.Goals as goal
 
--- the last reading is a number of 32 bits
-read_low : (s : tie.Start) → s.args.core.last < 2 ^ 32
-read_low s =
-    let good = s.well-formed in
-    omega arith
-
 pub returns-then-running : goal.returns-then-running
 returns-then-running c =
     let wait = c.poll_on in
@@ -28,15 +22,16 @@ pub returns : goal.returns
 returns c =
     let a = c.args in
     let P = own_part a.core in
-    let good = c.well-formed in
     let d : FrameBench = frame_bench a.core a.memory.now a.identification.now in
+    -- the last reading is a number of 32 bits
+    let read_low : a.core.last < 2 ^ 32 = omega (arith, c.well_formed) in
     let x : FrameBench = frame_bench c.with_time-next.result a.memory.now a.identification.now in
     let free : running a.core ≡ _ = sym c.running.ensures ∙ c.if-running.false in
     let none : 0 ≡ a.core.left - a.interval = omega (arith, ltb-false 0 a.core.left free) in
     let e : x ≡ acted_all P (late_poll a.interval d) d =
     ap (λ (y : Core). frame_bench y a.memory.now a.identification.now) c.with_time-next.ensures
-    ∙ ap₂ (λ (t n : ℕ). frame_bench (with_time t n a.core) a.memory.now a.identification.now) c.wrapping_add_u32-reading.ensures none
-    ∙ poll_idle P a.interval (omega arith) d (read_low c) free in
+    ∙ ap₂ (λ (t n : ℕ). frame_bench (with_time t n a.core) a.memory.now a.identification.now) c.wrapping_add_u32-reading.ensures.value none
+    ∙ poll_idle P a.interval (omega arith) d read_low free in
     let after : running (acted_all P (late_poll a.interval d) d).core ≡ _ =
     sym (ap (λ (y : FrameBench). running y.core) e) ∙ ap (λ (y : Core). running y) c.with_time-next.ensures ∙ le-ltb 0 0 (omega arith) in
     let same = page_idle P a.interval a.limit d d after in

@@ -4,7 +4,6 @@ use mathlib.Core.Path.{◌≡◌}
 use Prim.Native.Nat.{◌≤◌, ◌-◌}
 use lib.ListN.{length}
 use Rattle.codes.specs.Part.{Part}
-use Rattle.pins.specs.Devices.{q}
 use Rattle.lists.specs.Stretches.{Steady, counted, moving, Leads, Shows}
 use Rattle.lists.proofs.stretches.stretch.Given as goal
 
