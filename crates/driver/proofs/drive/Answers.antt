@@ -1,4 +1,4 @@
-use Rattle.std.proofs.Common.{◌≡◌, ℕ, ◌+◌, ◌-◌, ◌≤◌, List, length, sym, refl, ◌∙◌, arith}
+use Rattle.std.proofs.Common.{◌≡◌, ℕ, ◌+◌, ◌-◌, ◌≤◌, List, sym, refl, ◌∙◌, arith}
 use Rattle.codes.specs.Part.{Part}
 use Rattle.chip.specs.Records.{own_part}
 use Rattle.frames.specs.Play.{FrameBench, frame_bench}
@@ -38,7 +38,10 @@ and_sent-first-requires c =
     omega (arith, polls, sent_most (own_part a.core) a.interval (a.limit - 1) d, longest_most a.core.part)
 
 pub returns-then-wip : goal.returns-then-wip
-returns-then-wip c = drove_late _ _ _ _ _ _ c.if-bytes-eq0.false rest (sym c.wip.ensures ∙ c.if-wip.true)
+returns-then-wip c =
+    let rest = went c.args.interval c.args.limit (frame_bench c.args.core c.args.memory.now c.args.identification.now) _ _ _ _
+    c.poll_on.ensures c.and_sent-first.ensures in
+    drove_late _ _ _ _ _ _ c.if-bytes-eq0.false rest (sym c.wip.ensures ∙ c.if-wip.true)
 
 pub returns-then-block_touched : goal.returns-then-block_touched
 returns-then-block_touched c =

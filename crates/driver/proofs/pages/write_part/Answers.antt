@@ -1,4 +1,4 @@
-use Rattle.std.proofs.Common.{ℕ, ◌+◌, ◌-◌, List, length, refl, subst, arith, length-drop, length-take}
+use Rattle.std.proofs.Common.{ℕ, ◌+◌, ◌-◌, List, refl, subst, arith, length-drop, length-take}
 use Rattle.chip.specs.Records.{own_part}
 use Rattle.codes.proofs.Sound.{sound_of}
 use Rattle.split.specs.Pieces.{piece}

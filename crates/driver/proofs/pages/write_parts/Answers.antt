@@ -1,4 +1,4 @@
-use Rattle.std.proofs.Common.{◌≡◌, ℕ, ◌+◌, ◌-◌, ◌≤◌, List, length, sym, refl, ◌∙◌, arith}
+use Rattle.std.proofs.Common.{◌≡◌, ℕ, ◌+◌, ◌≤◌, List, length, sym, refl, ◌∙◌, arith}
 use Rattle.chip.specs.Records.{own_part}
 use Rattle.codes.specs.Part.{Part, part_of}
 use Rattle.codes.proofs.Parts.{longest_most}
@@ -6,7 +6,7 @@ use Rattle.codes.proofs.Sound.{sound_of}
 use Rattle.split.specs.Split.{count, split_address}
 use Rattle.split.specs.Pieces.{piece}
 use Rattle.split.proofs.Numbers.{parts_asked}
-use Rattle.frames.specs.Play.{FrameBench, frame_bench}
+use Rattle.frames.specs.Play.{FrameBench}
 use Rattle.driver.specs.declared.waiting.Waited.{Waited}
 use Rattle.driver.proofs.Left.{Left}
 use Rattle.sequence.proofs.Joined.{acts_most}

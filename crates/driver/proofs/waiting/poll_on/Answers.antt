@@ -1,4 +1,4 @@
-use Rattle.std.proofs.Common.{◌≡◌, ℕ, ◌+◌, ◌-◌, ◌^◌, ◌<◌, ◌≤◌, true, false, ◌&&◌, ltb, ap, ◌∙◌, ap₂, arith, ltb-false, ltb-true, lt-ltb}
+use Rattle.std.proofs.Common.{◌≡◌, ℕ, ◌+◌, ◌-◌, ◌<◌, ◌≤◌, true, false, ◌&&◌, ltb, ap, ◌∙◌, ap₂, arith, ltb-false, ltb-true, lt-ltb}
 use Rattle.laws.specs.Pick.{and_left, and_right}
 use Rattle.laws.specs.And.{and_other}
 use Rattle.chip.specs.Records.{own_part, with_time}

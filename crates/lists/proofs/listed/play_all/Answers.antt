@@ -2,7 +2,6 @@ use native.Mathlib.Omega.{arith}
 use Prim.Native.Nat.{ℕ, ◌+◌, ◌-◌}
 use mathlib.Core.Bool.{Bool, false}
 use mathlib.Core.List.{List}
-use mathlib.Core.Logic.{⊎_elim}
 use mathlib.Core.Path.{◌≡◌, refl, ap, sym, subst, ◌∙◌}
 use lib.ListN.{length, take, get_or, set, length-set}
 use Rattle.laws.specs.Pick.{yes_so, no_so}
@@ -11,7 +10,7 @@ use Rattle.codes.specs.Part.{Part, part_of}
 use Rattle.latch.specs.Latches.{zeros}
 use Rattle.pins.specs.Answers.{PinBench, lent_to, next, after_event, pin_bench}
 use Rattle.lists.specs.Answers.{played_q}
-use Rattle.lists.specs.Stretches.{Reached}
+use Rattle.lists.specs.Stretches.{Reached, Shows}
 use Rattle.lists.specs.Ways.{whole, without_frame, is_whole, after_way, after_way_cells}
 use Rattle.pins.specs.Devices.{device_part, q}
 use Rattle.edges.specs.Falling.{level_number}
@@ -23,10 +22,13 @@ use Rattle.pins.specs.declared.Device.{Device}
 use Rattle.pins.specs.declared.Event.{Event}
 use Rattle.lists.specs.declared.Front.{Front}
 use Rattle.lists.specs.declared.Way.{Way}
+use Rattle.lists.specs.declared.Way.TheVariants.{Whole}
+use Rattle.pins.specs.Events.{stepped, stepped_cells}
 use Rattle.pins.proofs.Kept.{played_part}
 use Rattle.lists.proofs.InPlace.{none_shown}
 use Rattle.lists.proofs.Moves.{reached_more}
 use Rattle.lists.proofs.Playing.{played_none, q_length}
+use Rattle.lists.proofs.listed.play_all.Goals.{in-Data, in-Set, in-Rise, in-Latched, in-Fall, in-Clear, in-Pass, in-Whole}
 use Rattle.lists.proofs.listed.play_all.Goals as goal
 
 abbrev joined : Front → List ℕ → List ℕ → Core → Device
@@ -36,140 +38,66 @@ joined f b k c = whole f (record { bytes = b; marks = k }) c
 abbrev apart : Front → List ℕ → List ℕ → Core → List ℕ → List ℕ → PinBench
 apart f b k c m d = pin_bench (joined f b k c) m d
 
--- the bench at the loop's head, and what was read there
-abbrev Head : tie.At-match-branch invariant-loop decreases-loop → PinBench
-Head c =
-    let l = c.before.before.before.before.before.before.loop in
-    apart l.front l.bytes l.marks l.core l.memory l.identification
-
--- the bench that the loop starts from
-abbrev Begun : tie.At-match-branch invariant-loop decreases-loop → PinBench
-Begun c =
-    let h = c.before.before.before.before.before.before in
-    let a = h.before.before.before.before.before.before.before.before.before.before.before.before.args in
-    apart h.before.before.before.before.before.front_of.result a.device.frame.latch.bytes a.device.frame.latch.marks
-    a.device.core a.memory.now a.identification.now
-
--- the device behind the match
-abbrev Moved : tie.At-match-branch invariant-loop decreases-loop → Device
-Moved c = joined c.match.front c.match.bytes c.match.marks c.match.core
-
--- .. and what is lent
-abbrev Left : tie.At-match-branch invariant-loop decreases-loop → PinBench
-Left c = pin_bench (Moved c) c.match.memory c.match.identification
-
 -- no bit is shown
-no-q : (P : Part) {x : Device} (y : Device) {s h : ℕ} → x ≡ without_frame s h y → 2 ≡ level_number (q x)
+no_q : {x : Device} (y : Device) {s h : ℕ} → x ≡ without_frame s h y → 2 ≡ level_number (q x)
 unfolding q
-no-q P y {s = s} {h = h} e = rw e (sym (none_shown s h 0))
+no_q y {s = s} {h = h} e = rw e (sym (none_shown s h 0))
 
--- what a way leaves of lent cells: those after it, and as many
-abbrev Cells : (Waiting → Bool) → Event → Way → Device → List ℕ → List ℕ → Type 0
-Cells theirs e w x m n = (n ≡ after_way_cells theirs (device_part x) e w x m) × (length n ≡ length m)
-
--- of both that are lent
+-- what a way leaves of both that are lent
 abbrev Lents : Event → Way → PinBench → List ℕ → List ℕ → Type 0
-Lents e w b m d = Cells waits_page e w b.device b.memory m × Cells waits_identification e w b.device b.identification d
+Lents e w h m d =
+    (m ≡ after_way_cells waits_page (device_part h.device) e w h.device h.memory)
+    × (d ≡ after_way_cells waits_identification (device_part h.device) e w h.device h.identification)
 
 -- by an arm that hands them on
-cells_same : (theirs : Waiting → Bool) (e : Event) (w : Way) (x : Device) {m n : List ℕ} → is_whole w ≡ false → n ≡ m
-    → Cells theirs e w x m n
-cells_same theirs e w x h p = (no_so _ h p, ap length p)
+lents_same : (e : Event) (w : Way) (h : PinBench) {m d : List ℕ} → is_whole w ≡ false → m ≡ h.memory → d ≡ h.identification → Lents e w h m d
+lents_same e w h part p r = (no_so _ part p, no_so _ part r)
 
-lents-same : (e : Event) (w : Way) (b : PinBench) {m d : List ℕ} → is_whole w ≡ false → m ≡ b.memory → d ≡ b.identification
-    → Lents e w b m d
-lents-same e w b h p r = (cells_same waits_page e w b.device h p, cells_same waits_identification e w b.device h r)
+-- what is shown of an arm, where w is the way of e at a bench h: the device in its parts and what is lent are those after
+-- the way, and Q is what the device shows
+abbrev Gone : Event → Way → PinBench → Front → List ℕ → List ℕ → Core → List ℕ → List ℕ → ℕ → Type 0
+Gone e w h f b k c m d v =
+    (joined f b k c ≡ after_way (device_part h.device) (lent_to h) e w h.device)
+    × (v ≡ level_number (q (joined f b k c))) × Lents e w h m d
 
--- what is shown of an arm: the device and what is lent are those after the way, and Q is what the device shows
-abbrev Gone : tie.At-match-branch invariant-loop decreases-loop → Type 0
-Gone c =
-    let e = c.before.before.before.event-of.result in
-    let w = c.before.way-for.result in
-    (Moved c ≡ after_way (device_part (Head c).device) (lent_to (Head c)) e w (Head c).device)
-    × (c.match.q ≡ level_number (q (Moved c))) × Lents e w (Head c) c.match.memory c.match.identification
+-- of one that hands on what is lent: w is its way, and f, b, k and c are what it leaves of the device
+handed_on : (e : Event) (h : PinBench) {r w : Way} {g f : Front} {bs b ks k m d : List ℕ} {x c : Core} {v : ℕ} → r ≡ w → is_whole w ≡ false
+    → m ≡ h.memory → d ≡ h.identification → g ≡ f → bs ≡ b → ks ≡ k → x ≡ c
+    → joined f b k c ≡ after_way (device_part h.device) (lent_to h) e w h.device
+    → v ≡ level_number (q (joined f b k c)) → Gone e r h g bs ks x m d v
+handed_on e h {r = r} way part m d front bytes marks core after shows =
+    (
+      rw (front, bytes, marks, core, way) after,
+      rw (front, bytes, marks, core) shows,
+      lents_same e r h (ap is_whole way ∙ part) m d,
+    )
 
--- of one that hands on what is lent: w is its way, and f, b, k and x are what it leaves of the device
-handed-on : (c : tie.At-match-branch invariant-loop decreases-loop) {w : Way} {f : Front} {b k : List ℕ} {x : Core} → c.before.way-for.result ≡ w
-    → is_whole w ≡ false → c.match.memory ≡ (Head c).memory → c.match.identification ≡ (Head c).identification → c.match.front ≡ f
-    → c.match.bytes ≡ b → c.match.marks ≡ k → c.match.core ≡ x
-    → joined f b k x ≡ after_way (device_part (Head c).device) (lent_to (Head c)) c.before.before.before.event-of.result w (Head c).device
-    → c.match.q ≡ level_number (q (joined f b k x)) → Gone c
-handed-on c way part m d front bytes marks core after shows =
-    let event = c.before.before.before.event-of.result in
-    let lents = lents-same event c.before.way-for.result (Head c) (ap is_whole way ∙ part) m d in
-    (rw (front, bytes, marks, core, way) after, rw (front, bytes, marks, core) shows, lents)
-
--- by each arm
-gone : (c : tie.At-match-branch invariant-loop decreases-loop) → Gone c
-unfolding q zeros
-gone c =
-    let l = c.before.before.before.before.before.before.loop in
-    let a : Latch = record { bytes = l.bytes; marks = l.marks } in
-    ⊎_elim
-    -- Data
-    (λ w. handed-on c w.1.given.1 refl w.3 w.4 w.5 w.6 w.7 w.8 refl (w.9 ∙ l.invariant.5))
-    (⊎_elim
-    -- Set
-    (λ w. handed-on c w.1.given.1 refl w.4 w.5 w.6 w.7 w.8 w.9 refl (w.10 ∙ w.3.ensures a l.core))
-    (⊎_elim
-    -- Rise
-    (λ w. handed-on c w.1.given.1 refl w.3 w.4 w.5 w.6 w.7 w.8 refl (w.9 ∙ l.invariant.5))
-    (⊎_elim
-    -- Latched
-    (λ w. handed-on c w.1.given.1 refl w.7 w.8 w.9 (w.10 ∙ w.6.ensures.0) (w.11 ∙ w.6.ensures.1) w.12 refl (w.13 ∙ l.invariant.5))
-    (⊎_elim
-    -- Fall
-    (λ w. handed-on c w.1.given.1 refl w.4 w.5 w.6 w.7 w.8 w.9 refl (w.10 ∙ w.3.ensures a l.core))
-    (⊎_elim
-    -- Clear
-    (λ w. handed-on c w.1.given.1 refl w.4 w.5 w.6 w.7 w.8 w.9 (w.3.ensures _)
-    (w.10 ∙ no-q (device_part (Head c).device) (Head c).device (w.3.ensures l.core)))
-    (⊎_elim
-    -- Pass
-    (λ w. handed-on c w.1.given.1 refl w.3 w.4 w.5 w.6 w.7 w.8 refl (w.9 ∙ l.invariant.5))
-    -- Whole
-    (λ w. (
-      rw (w.19, w.20, w.21, w.22, w.12.ensures, w.5.ensures.0, w.2.ensures, w.1.given.1) refl,
-      rw (w.23, w.19) (w.16.ensures a l.core),
-      (
-        (rw (w.17, w.5.ensures.1.0, w.2.ensures) (yes_so _ (ap is_whole w.1.given.1) refl), rw w.17 (omega (arith, w.6.given))),
-        (rw (w.18, w.5.ensures.1.1, w.2.ensures) (yes_so _ (ap is_whole w.1.given.1) refl), rw w.18 (omega (arith, w.8.given))),
-      ),
-    ))))))))
-    c.match.branch
+-- of the whole event
+whole_on : (e : Event) (h : PinBench) {r : Way} {g f : Front} {bs b ks k m d : List ℕ} {x c : Core} {v : ℕ} → r ≡ Whole
+    → m ≡ stepped_cells waits_page (device_part h.device) e h.device h.memory
+    → d ≡ stepped_cells waits_identification (device_part h.device) e h.device h.identification
+    → g ≡ f → bs ≡ b → ks ≡ k → x ≡ c
+    → joined f b k c ≡ stepped (device_part h.device) (lent_to h) e h.device
+    → v ≡ level_number (q (joined f b k c)) → Gone e r h g bs ks x m d v
+whole_on e h way m d front bytes marks core after shows =
+    (
+      rw (front, bytes, marks, core, way) after,
+      rw (front, bytes, marks, core) shows,
+      (yes_so _ (ap is_whole way) m, yes_so _ (ap is_whole way) d),
+    )
 
 -- and that is what the event does
-after-event : (c : tie.At-match-branch invariant-loop decreases-loop) → let h = c.before.before.before.before.before.before in
-    let a = h.before.before.before.before.before.before.before.before.before.before.before.before.args in
-    Left c ≡ after_event (device_part (Head c).device) (get_or a.events.now h.loop.i 0) (Head c)
-after-event c =
-    let l = c.before.before.before.before.before.before.loop in
-    let a : Latch = record { bytes = l.bytes; marks = l.marks } in
-    let does = c.before.way-for.ensures in
-    let after : Event → PinBench = λ e. next (own_part l.core) e (Head c) in
-    let told : Left c ≡ after c.before.before.before.event-of.result =
-    rw (
-      (gone c).0 ∙ does.0 l.identification a,
-      (gone c).2.0.0 ∙ does.1 waits_page a l.memory,
-      (gone c).2.1.0 ∙ does.1 waits_identification a l.identification,
-    ) refl in
-    told ∙ ap after c.before.before.before.event-of.ensures
+told : (e : Event) (h : PinBench) (w : Way) {f : Front} {b k m d : List ℕ} {c : Core} {v : ℕ} → Gone e w h f b k c m d v
+    → after_way (device_part h.device) (lent_to h) e w h.device ≡ stepped (device_part h.device) (lent_to h) e h.device
+    → after_way_cells waits_page (device_part h.device) e w h.device h.memory ≡ stepped_cells waits_page (device_part h.device) e h.device h.memory
+    → after_way_cells waits_identification (device_part h.device) e w h.device h.identification
+        ≡ stepped_cells waits_identification (device_part h.device) e h.device h.identification
+    → apart f b k c m d ≡ next (device_part h.device) e h
+told e h w g x m d = rw (g.0 ∙ x, g.2.0 ∙ m, g.2.1 ∙ d) refl
 
--- so that one event more is taken
-one_more : (c : tie.At-match-branch invariant-loop decreases-loop) → let h = c.before.before.before.before.before.before in
-    let a = h.before.before.before.before.before.before.before.before.before.before.before.before.args in
-    Reached (own_part a.device.core) a.events.now (Begun c) a.out.now (h.loop.i + 1) (Left c) (set h.loop.out h.loop.i c.match.q)
-one_more c =
-    let h = c.before.before.before.before.before.before in
-    let l = h.loop in
-    let below = c.before.before.before.before.before.loop-test.true in
-    let a = h.before.before.before.before.before.before.before.before.before.before.before.before.args in
-    let es = a.events.now in
-    let P = own_part a.device.core in
-    let kept : l.core.part ≡ a.device.core.part =
-    ap (λ (x : PinBench). x.device.core.part) l.invariant.4.1 ∙ played_part P (take l.i es) (Begun c) in
-    reached_more P es (Begun c) a.out.now l.i (Head c) (Left c) l.out c.match.q (omega arith) l.invariant.4
-    (after-event c ∙ ap (λ (n : ℕ). after_event (part_of n) (get_or es l.i 0) (Head c)) kept) (gone c).1
+-- Q and the front that shows it, by what an arm leaves
+shown : {f g : Front} {u v : ℕ} → g ≡ f → v ≡ u → Shows f u → Shows g v
+shown front same shows = rw (front, same) shows
 
 pub loop-i-init : goal.loop-i-init
 loop-i-init c =
@@ -186,35 +114,85 @@ loop-i-init c =
   c.q-q.ensures _ _,
 )
 
-pub stretch_on-stretch-requires : goal.stretch_on-stretch-requires
+pub stretch_on-stretch-requires-clause-shows : goal.stretch_on-stretch-requires-clause-shows
 unfolding q
-stretch_on-stretch-requires c =
-    let below = c.loop-i-test.true in
-    let same = c.requires in
-    ((omega arith, length-set c.loop-i.out c.loop-i.i c.in-Data.q ∙ c.loop-i.invariant.1 ∙ same), λ a k. (gone c).1)
+stretch_on-stretch-requires-clause-shows c =
+    let l = c.loop-i in
+    elim c.match-way.branch [
+      in-Data w ↦ shown w.front-is w.q-is (λ a k. l.invariant.5)
+    | in-Set w ↦ shown w.front-is w.q-is w.q-q-in-Set.ensures
+    | in-Rise w ↦ shown w.front-is w.q-is (λ a k. l.invariant.5)
+    | in-Latched w ↦ shown w.front-is w.q-is (λ a k. l.invariant.5)
+    | in-Fall w ↦ shown w.front-is w.q-is w.q-q-in-Fall.ensures
+    | in-Clear w ↦ shown w.front-is w.q-is (λ a k. no_q (joined l.front l.bytes l.marks l.core) (w.without_frame-front.ensures l.core))
+    | in-Pass w ↦ shown w.front-is w.q-is (λ a k. l.invariant.5)
+    | in-Whole w ↦ shown w.front-is w.q-is w.q-q-in-Whole.ensures
+    ]
 
--- the stretch behind it leads on, at the part that no event changes
+-- by each arm one event more is taken, and the stretch behind it leads on, at the part that no event changes
 pub loop-i-preserved : goal.loop-i-preserved
+unfolding q zeros
 loop-i-preserved c =
     let l = c.loop-i in
-    let a = c.args in
-    let es = a.events.now in
-    let P = own_part a.device.core in
+    let args = c.args in
+    let es = args.events.now in
+    let a : Latch = record { bytes = l.bytes; marks = l.marks } in
+    let P = own_part args.device.core in
     let r = c.stretch_on-stretch in
-    let kept : c.in-Data.core.part ≡ a.device.core.part =
-    ap (λ (x : PinBench). x.device.core.part) (one_more c).1 ∙ played_part P (take (l.i + 1) es) (Begun c) in
-    let on : PinBench = apart r.result.front c.in-Data.bytes c.in-Data.marks c.in-Data.core c.in-Data.memory c.in-Data.identification in (
+    let e = c.event_of-event.result in
+    let n = c.match-way in
+    -- the bench that the loop starts from, the one at its head, and the one behind the match
+    let begun : PinBench = apart c.front_of-front.result args.device.frame.latch.bytes args.device.frame.latch.marks args.device.core
+    args.memory.now args.identification.now in
+    let head : PinBench = apart l.front l.bytes l.marks l.core l.memory l.identification in
+    let left : PinBench = apart n.front n.bytes n.marks n.core n.memory n.identification in
+    let gone : Gone e c.way_for-way.result head n.front n.bytes n.marks n.core n.memory n.identification n.q = elim c.match-way.branch [
+      in-Data w ↦ handed_on e head w.in-Data.is refl w.memory-is w.identification-is w.front-is w.bytes-is w.marks-is w.core-is refl
+        (w.q-is ∙ l.invariant.5)
+    | in-Set w ↦ handed_on e head w.in-Set.is refl w.memory-is w.identification-is w.front-is w.bytes-is w.marks-is w.core-is refl
+        (w.q-is ∙ w.q-q-in-Set.ensures a l.core)
+    | in-Rise w ↦ handed_on e head w.in-Rise.is refl w.memory-is w.identification-is w.front-is w.bytes-is w.marks-is w.core-is refl
+        (w.q-is ∙ l.invariant.5)
+    | in-Latched w ↦ handed_on e head w.in-Latched.is refl w.memory-is w.identification-is w.front-is
+        (w.bytes-is ∙ w.latch_byte.ensures.bytes_after) (w.marks-is ∙ w.latch_byte.ensures.marks_after) w.core-is refl
+        (w.q-is ∙ l.invariant.5)
+    | in-Fall w ↦ handed_on e head w.in-Fall.is refl w.memory-is w.identification-is w.front-is w.bytes-is w.marks-is w.core-is refl
+        (w.q-is ∙ w.q-q-in-Fall.ensures a l.core)
+    | in-Clear w ↦ handed_on e head w.in-Clear.is refl w.memory-is w.identification-is w.front-is w.bytes-is w.marks-is w.core-is
+        (w.without_frame-front.ensures _)
+        (w.q-is ∙ no_q head.device (w.without_frame-front.ensures l.core))
+    | in-Pass w ↦ handed_on e head w.in-Pass.is refl w.memory-is w.identification-is w.front-is w.bytes-is w.marks-is w.core-is refl
+        (w.q-is ∙ l.invariant.5)
+    | in-Whole w ↦ whole_on e head w.in-Whole.is
+        (rw (w.memory-is, w.stepped-next.ensures.memory_after, w.whole.ensures) refl)
+        (rw (w.identification-is, w.stepped-next.ensures.identification_after, w.whole.ensures) refl)
+        w.front-is w.bytes-is w.marks-is w.core-is
+        (rw (w.front_of-front-in-Whole.ensures, w.stepped-next.ensures.value, w.whole.ensures) refl)
+        (w.q-is ∙ w.q-q-in-Whole.ensures a l.core)
+    ] in
+    let does = c.way_for-way.ensures in
+    let after : left ≡ after_event (own_part l.core) (get_or es l.i 0) head =
+    told e head c.way_for-way.result gone (does.by_index l.identification a) (does.m_value waits_page a l.memory) (does.m_value waits_identification a l.identification)
+    ∙ ap (λ (x : Event). next (own_part l.core) x head) c.event_of-event.ensures in
+    let kept : l.core.part ≡ args.device.core.part =
+    ap (λ (x : PinBench). x.device.core.part) l.invariant.4.1 ∙ played_part P (take l.i es) begun in
+    let one_more : Reached P es begun args.out.now (l.i + 1) left (set l.out l.i n.q) =
+    reached_more P es begun args.out.now l.i head left l.out n.q (omega arith) l.invariant.4
+    (after ∙ ap (λ (p : ℕ). after_event (part_of p) (get_or es l.i 0) head) kept) gone.1 in
+    let kept_on : n.core.part ≡ args.device.core.part =
+    ap (λ (x : PinBench). x.device.core.part) one_more.1 ∙ played_part P (take (l.i + 1) es) begun in
+    let on : PinBench = apart r.result.front n.bytes n.marks n.core n.memory n.identification in (
       r.ensures.start_le_i.1,
-      c.out-1.given ∙ length-set l.out l.i c.in-Data.q ∙ l.invariant.1,
-      (gone c).2.0.1 ∙ l.invariant.2,
-      (gone c).2.1.1 ∙ l.invariant.3,
+      omega (arith, length-set {A = ℕ}),
+      omega arith,
+      omega arith,
       subst
-          (λ (Q : Part). Reached Q es (Begun c) a.out.now (l.i + 1) (Left c) (set l.out l.i c.in-Data.q)
-          → Reached Q es (Begun c) a.out.now r.result.i on r.new.out)
-          (ap part_of kept)
-          (r.ensures.leads _ _ _ _ _ (Begun c))
-          (one_more c),
-      r.ensures.shows_2 _ _,
+          (λ (Q : Part). Reached Q es begun args.out.now (l.i + 1) left (set l.out l.i n.q)
+          → Reached Q es begun args.out.now r.result.i on r.new.out)
+          (ap part_of kept_on)
+          (r.ensures.leads _ _ _ _ _ begun)
+          one_more,
+      r.ensures.shows_2 a l.core,
     )
 
 pub returns-clause-out_after : goal.returns-clause-out_after
