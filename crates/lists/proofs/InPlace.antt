@@ -1,6 +1,5 @@
 -- An edge of C that moves a few numbers of the device: which, and that this is what the edge does.
 use mathlib.Core.Path.{◌≡◌, refl, ap, sym, ◌∙◌}
-use mathlib.Core.List.{List}
 use mathlib.Core.Bool.{Bool, true, false, not, ◌&&◌}
 use Prim.Native.Nat.{ℕ, ◌+◌, ◌%◌, ◌<◌, ◌≤◌}
 use lib.Dec.{leb, ltb}
@@ -11,7 +10,6 @@ use Rattle.codes.specs.Status.{bit, on, bit_of}
 use Rattle.codes.specs.Verdicts.{is_executed}
 use Rattle.chip.specs.Records.{running, status, with_wel}
 use Rattle.chip.specs.Effects.{effect}
-use Rattle.latch.specs.declared.Latch.{Latch}
 use Rattle.codes.specs.Instructions.{decode}
 use Rattle.chip.specs.Lents.{Lent}
 use Rattle.chip.specs.declared.Core.{Core}
@@ -26,8 +24,6 @@ use Rattle.edges.specs.Rising.{shifted_in, whole_byte, risen}
 use Rattle.codes.specs.Output.{outputs}
 use Rattle.edges.specs.declared.Level.TheVariants.{Z}
 use Rattle.edges.specs.Falling.{loading, fallen, level_of, level_shown, level_number}
-use Rattle.pins.specs.declared.Event.{Event}
-use Rattle.lists.specs.declared.Way.{Way}
 use Rattle.pins.specs.Events.{judged_now, decided, renewed, on_s, on_c}
 
 -- ---- the frame over a counted rising edge

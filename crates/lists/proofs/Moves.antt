@@ -1,28 +1,21 @@
 -- Events within a byte: which event a number stands for, and one event more of a list.
 use mathlib.Core.Path.{◌≡◌, refl, ap, sym, ◌∙◌}
 use mathlib.Core.List.{List}
-use mathlib.Core.Bool.{true, not, ◌&&◌}
 use Prim.Native.Nat.{ℕ, ◌+◌, ◌/◌, ◌%◌, ◌^◌, ◌<◌}
 use native.Mathlib.Numerals.{add-one}
 use native.Mathlib.Omega.{arith}
 use lib.ListN.{length, get_or, set}
-use lib.Dec.{eqb}
-use borrow.Author.Tests.{eqb-true}
-use Rattle.laws.specs.Pick.{pick, and_left, and_right}
+use Rattle.laws.specs.Pick.{pick}
 use Rattle.laws.specs.Filled.{filled_more}
 use Rattle.codes.specs.Part.{Part}
-use Rattle.codes.specs.Status.{bit, on}
-use Rattle.latch.specs.declared.Latch.{Latch}
-use Rattle.chip.specs.declared.Core.{Core}
+use Rattle.codes.specs.Status.{on}
 use Rattle.edges.specs.Falling.{level_number}
 use Rattle.pins.specs.declared.Event.TheVariants.{C, D}
-use Rattle.pins.specs.Devices.{q, selected, counting}
+use Rattle.pins.specs.Devices.{q}
 use Rattle.pins.specs.Events.{event_of}
 use Rattle.pins.specs.Answers.{PinBench, after_event}
-use Rattle.lists.specs.declared.Front.{Front}
 use Rattle.lists.specs.Answers.{played_q}
-use Rattle.lists.specs.Ways.{whole}
-use Rattle.lists.specs.Stretches.{Steady, Reached}
+use Rattle.lists.specs.Stretches.{Reached}
 use Rattle.lists.proofs.Playing.{played_more, q_length, q_at}
 
 -- ---- a number of each of the two kinds

@@ -1,9 +1,9 @@
 use native.Mathlib.Omega.{arith}
-use Prim.Native.Nat.{ℕ, ◌+◌, ◌-◌}
-use mathlib.Core.Bool.{Bool, false}
+use Prim.Native.Nat.{ℕ, ◌+◌}
+use mathlib.Core.Bool.{false}
 use mathlib.Core.List.{List}
 use mathlib.Core.Path.{◌≡◌, refl, ap, sym, subst, ◌∙◌}
-use lib.ListN.{length, take, get_or, set, length-set}
+use lib.ListN.{take, get_or, set, length-set}
 use Rattle.laws.specs.Pick.{yes_so, no_so}
 use Rattle.laws.specs.Filled.{filled, filled_none, filled_all}
 use Rattle.codes.specs.Part.{Part, part_of}
@@ -16,7 +16,6 @@ use Rattle.pins.specs.Devices.{device_part, q}
 use Rattle.edges.specs.Falling.{level_number}
 use Rattle.chip.specs.Records.{own_part, waits_page, waits_identification}
 use Rattle.chip.specs.declared.Core.{Core}
-use Rattle.chip.specs.declared.Waiting.{Waiting}
 use Rattle.latch.specs.declared.Latch.{Latch}
 use Rattle.pins.specs.declared.Device.{Device}
 use Rattle.pins.specs.declared.Event.{Event}
@@ -65,12 +64,11 @@ handed_on : (e : Event) (h : PinBench) {r w : Way} {g f : Front} {bs b ks k m d 
     → m ≡ h.memory → d ≡ h.identification → g ≡ f → bs ≡ b → ks ≡ k → x ≡ c
     → joined f b k c ≡ after_way (device_part h.device) (lent_to h) e w h.device
     → v ≡ level_number (q (joined f b k c)) → Gone e r h g bs ks x m d v
-handed_on e h {r = r} way part m d front bytes marks core after shows =
-    (
-      rw (front, bytes, marks, core, way) after,
-      rw (front, bytes, marks, core) shows,
-      lents_same e r h (ap is_whole way ∙ part) m d,
-    )
+handed_on e h {r = r} way part m d front bytes marks core after shows = (
+  rw (front, bytes, marks, core, way) after,
+  rw (front, bytes, marks, core) shows,
+  lents_same e r h (ap is_whole way ∙ part) m d,
+)
 
 -- of the whole event
 whole_on : (e : Event) (h : PinBench) {r : Way} {g f : Front} {bs b ks k m d : List ℕ} {x c : Core} {v : ℕ} → r ≡ Whole
@@ -79,19 +77,18 @@ whole_on : (e : Event) (h : PinBench) {r : Way} {g f : Front} {bs b ks k m d : L
     → g ≡ f → bs ≡ b → ks ≡ k → x ≡ c
     → joined f b k c ≡ stepped (device_part h.device) (lent_to h) e h.device
     → v ≡ level_number (q (joined f b k c)) → Gone e r h g bs ks x m d v
-whole_on e h way m d front bytes marks core after shows =
-    (
-      rw (front, bytes, marks, core, way) after,
-      rw (front, bytes, marks, core) shows,
-      (yes_so _ (ap is_whole way) m, yes_so _ (ap is_whole way) d),
-    )
+whole_on e h way m d front bytes marks core after shows = (
+  rw (front, bytes, marks, core, way) after,
+  rw (front, bytes, marks, core) shows,
+  (yes_so _ (ap is_whole way) m, yes_so _ (ap is_whole way) d),
+)
 
 -- and that is what the event does
 told : (e : Event) (h : PinBench) (w : Way) {f : Front} {b k m d : List ℕ} {c : Core} {v : ℕ} → Gone e w h f b k c m d v
     → after_way (device_part h.device) (lent_to h) e w h.device ≡ stepped (device_part h.device) (lent_to h) e h.device
     → after_way_cells waits_page (device_part h.device) e w h.device h.memory ≡ stepped_cells waits_page (device_part h.device) e h.device h.memory
     → after_way_cells waits_identification (device_part h.device) e w h.device h.identification
-        ≡ stepped_cells waits_identification (device_part h.device) e h.device h.identification
+    ≡ stepped_cells waits_identification (device_part h.device) e h.device h.identification
     → apart f b k c m d ≡ next (device_part h.device) e h
 told e h w g x m d = rw (g.0 ∙ x, g.2.0 ∙ m, g.2.1 ∙ d) refl
 
@@ -100,8 +97,7 @@ shown : {f g : Front} {u v : ℕ} → g ≡ f → v ≡ u → Shows f u → Show
 shown front same shows = rw (front, same) shows
 
 pub loop-i-init : goal.loop-i-init
-loop-i-init c =
-    (
+loop-i-init c = (
   omega arith,
   omega arith,
   omega arith,
@@ -119,14 +115,14 @@ unfolding q
 stretch_on-stretch-requires-clause-shows c =
     let l = c.loop-i in
     elim c.match-way.branch [
-      in-Data w ↦ shown w.front-is w.q-is (λ a k. l.invariant.5)
-    | in-Set w ↦ shown w.front-is w.q-is w.q-q-in-Set.ensures
-    | in-Rise w ↦ shown w.front-is w.q-is (λ a k. l.invariant.5)
-    | in-Latched w ↦ shown w.front-is w.q-is (λ a k. l.invariant.5)
-    | in-Fall w ↦ shown w.front-is w.q-is w.q-q-in-Fall.ensures
-    | in-Clear w ↦ shown w.front-is w.q-is (λ a k. no_q (joined l.front l.bytes l.marks l.core) (w.without_frame-front.ensures l.core))
-    | in-Pass w ↦ shown w.front-is w.q-is (λ a k. l.invariant.5)
-    | in-Whole w ↦ shown w.front-is w.q-is w.q-q-in-Whole.ensures
+      | in-Data w ↦ shown w.front-is w.q-is (λ a k. l.invariant.5)
+      | in-Set w ↦ shown w.front-is w.q-is w.q-q-in-Set.ensures
+      | in-Rise w ↦ shown w.front-is w.q-is (λ a k. l.invariant.5)
+      | in-Latched w ↦ shown w.front-is w.q-is (λ a k. l.invariant.5)
+      | in-Fall w ↦ shown w.front-is w.q-is w.q-q-in-Fall.ensures
+      | in-Clear w ↦ shown w.front-is w.q-is (λ a k. no_q (joined l.front l.bytes l.marks l.core) (w.without_frame-front.ensures l.core))
+      | in-Pass w ↦ shown w.front-is w.q-is (λ a k. l.invariant.5)
+      | in-Whole w ↦ shown w.front-is w.q-is w.q-q-in-Whole.ensures
     ]
 
 -- by each arm one event more is taken, and the stretch behind it leads on, at the part that no event changes
@@ -147,28 +143,28 @@ loop-i-preserved c =
     let head : PinBench = apart l.front l.bytes l.marks l.core l.memory l.identification in
     let left : PinBench = apart n.front n.bytes n.marks n.core n.memory n.identification in
     let gone : Gone e c.way_for-way.result head n.front n.bytes n.marks n.core n.memory n.identification n.q = elim c.match-way.branch [
-      in-Data w ↦ handed_on e head w.in-Data.is refl w.memory-is w.identification-is w.front-is w.bytes-is w.marks-is w.core-is refl
-        (w.q-is ∙ l.invariant.5)
-    | in-Set w ↦ handed_on e head w.in-Set.is refl w.memory-is w.identification-is w.front-is w.bytes-is w.marks-is w.core-is refl
-        (w.q-is ∙ w.q-q-in-Set.ensures a l.core)
-    | in-Rise w ↦ handed_on e head w.in-Rise.is refl w.memory-is w.identification-is w.front-is w.bytes-is w.marks-is w.core-is refl
-        (w.q-is ∙ l.invariant.5)
-    | in-Latched w ↦ handed_on e head w.in-Latched.is refl w.memory-is w.identification-is w.front-is
-        (w.bytes-is ∙ w.latch_byte.ensures.bytes_after) (w.marks-is ∙ w.latch_byte.ensures.marks_after) w.core-is refl
-        (w.q-is ∙ l.invariant.5)
-    | in-Fall w ↦ handed_on e head w.in-Fall.is refl w.memory-is w.identification-is w.front-is w.bytes-is w.marks-is w.core-is refl
-        (w.q-is ∙ w.q-q-in-Fall.ensures a l.core)
-    | in-Clear w ↦ handed_on e head w.in-Clear.is refl w.memory-is w.identification-is w.front-is w.bytes-is w.marks-is w.core-is
-        (w.without_frame-front.ensures _)
-        (w.q-is ∙ no_q head.device (w.without_frame-front.ensures l.core))
-    | in-Pass w ↦ handed_on e head w.in-Pass.is refl w.memory-is w.identification-is w.front-is w.bytes-is w.marks-is w.core-is refl
-        (w.q-is ∙ l.invariant.5)
-    | in-Whole w ↦ whole_on e head w.in-Whole.is
-        (rw (w.memory-is, w.stepped-next.ensures.memory_after, w.whole.ensures) refl)
-        (rw (w.identification-is, w.stepped-next.ensures.identification_after, w.whole.ensures) refl)
-        w.front-is w.bytes-is w.marks-is w.core-is
-        (rw (w.front_of-front-in-Whole.ensures, w.stepped-next.ensures.value, w.whole.ensures) refl)
-        (w.q-is ∙ w.q-q-in-Whole.ensures a l.core)
+      | in-Data w ↦ handed_on e head w.in-Data.is refl w.memory-is w.identification-is w.front-is w.bytes-is w.marks-is w.core-is refl
+          (w.q-is ∙ l.invariant.5)
+      | in-Set w ↦ handed_on e head w.in-Set.is refl w.memory-is w.identification-is w.front-is w.bytes-is w.marks-is w.core-is refl
+          (w.q-is ∙ w.q-q-in-Set.ensures a l.core)
+      | in-Rise w ↦ handed_on e head w.in-Rise.is refl w.memory-is w.identification-is w.front-is w.bytes-is w.marks-is w.core-is refl
+          (w.q-is ∙ l.invariant.5)
+      | in-Latched w ↦ handed_on e head w.in-Latched.is refl w.memory-is w.identification-is w.front-is
+          (w.bytes-is ∙ w.latch_byte.ensures.bytes_after) (w.marks-is ∙ w.latch_byte.ensures.marks_after) w.core-is refl
+          (w.q-is ∙ l.invariant.5)
+      | in-Fall w ↦ handed_on e head w.in-Fall.is refl w.memory-is w.identification-is w.front-is w.bytes-is w.marks-is w.core-is refl
+          (w.q-is ∙ w.q-q-in-Fall.ensures a l.core)
+      | in-Clear w ↦ handed_on e head w.in-Clear.is refl w.memory-is w.identification-is w.front-is w.bytes-is w.marks-is w.core-is
+          (w.without_frame-front.ensures _)
+          (w.q-is ∙ no_q head.device (w.without_frame-front.ensures l.core))
+      | in-Pass w ↦ handed_on e head w.in-Pass.is refl w.memory-is w.identification-is w.front-is w.bytes-is w.marks-is w.core-is refl
+          (w.q-is ∙ l.invariant.5)
+      | in-Whole w ↦ whole_on e head w.in-Whole.is
+          (rw (w.memory-is, w.stepped-next.ensures.memory_after, w.whole.ensures) refl)
+          (rw (w.identification-is, w.stepped-next.ensures.identification_after, w.whole.ensures) refl)
+          w.front-is w.bytes-is w.marks-is w.core-is
+          (rw (w.front_of-front-in-Whole.ensures, w.stepped-next.ensures.value, w.whole.ensures) refl)
+          (w.q-is ∙ w.q-q-in-Whole.ensures a l.core)
     ] in
     let does = c.way_for-way.ensures in
     let after : left ≡ after_event (own_part l.core) (get_or es l.i 0) head =
@@ -208,4 +204,4 @@ returns-clause-out_after c =
     c.front_of-front.ensures in
     let P = own_part a.device.core in
     l.invariant.4.2 ∙ ap (λ (x : PinBench). filled a.out.now (played_q P es x) l.i) start
-              ∙ filled_all a.out.now (played_q P es b) 0 l.i (sym (q_length P es b ∙ sym same)) (omega arith)
+    ∙ filled_all a.out.now (played_q P es b) 0 l.i (sym (q_length P es b ∙ sym same)) (omega arith)

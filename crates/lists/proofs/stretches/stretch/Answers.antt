@@ -40,7 +40,7 @@ loop-i-preserved c =
     let es = c.args.events.now in
     -- by each arm
     let g : Gone l.front c.move_for-moved.result c.match-moved.front c.match-moved.q = elim c.match-moved.branch [
-        in-Data w ↦ moved_to l.front w.in-Data.is refl w.front-is l.invariant.3 refl (λ P. refl) (λ a k. refl) (λ a k. w.q-is ∙ l.invariant.6 a k)
+      | in-Data w ↦ moved_to l.front w.in-Data.is refl w.front-is l.invariant.3 refl (λ P. refl) (λ a k. refl) (λ a k. w.q-is ∙ l.invariant.6 a k)
       | in-Bit w ↦ moved_to l.front w.in-Bit.is refl w.front-is l.invariant.3 refl (λ P. refl) (λ a k. refl) (λ a k. w.q-is ∙ l.invariant.6 a k)
       | in-Shown w ↦ moved_to l.front w.in-Shown.is refl w.front-is l.invariant.3 refl (λ P. refl) (λ a k. refl) (λ a k. w.q-is ∙ w.q-q.ensures a k)
     ] in (

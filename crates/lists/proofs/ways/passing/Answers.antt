@@ -20,5 +20,8 @@ returns c =
     let core = c.args.core in
     let t = c.args.reading in
     let stays : ends t core ≡ false = sym
-    (c.ends.ensures ∙ ap (λ n. running core && leb core.left n) c.elapsed-passed.ensures) ∙ c.if-ends.false in record { core_value = λ m f l. ap (λ (k : Core). with_core k (whole f l core))
-          (rw (c.left_after-left.ensures, c.elapsed-passed.ensures) (sym (timed_on (own_part core) t core m.memory stays))); m_value = λ i m f l. at_no _ _ refl ∙ no_so _ stays refl }
+    (c.ends.ensures ∙ ap (λ n. running core && leb core.left n) c.elapsed-passed.ensures) ∙ c.if-ends.false in record {
+      core_value = λ m f l. ap (λ (k : Core). with_core k (whole f l core))
+          (rw (c.left_after-left.ensures, c.elapsed-passed.ensures) (sym (timed_on (own_part core) t core m.memory stays)));
+      m_value = λ i m f l. at_no _ _ refl ∙ no_so _ stays refl;
+    }
