@@ -1,6 +1,6 @@
 -- However a text is cut into chunks, the outputs together with that of its end are the output of the text, and the device and what is lent to it are
 -- those after its last good line.
-use mathlib.Core.Path.{◌≡◌, refl, ap, sym, subst, ◌∙◌}
+use mathlib.Core.Path.{◌≡◌, refl, ap, sym, ◌∙◌}
 use mathlib.Core.Bool.{Bool, true, false}
 use mathlib.Core.List.{List, [], ◌∷◌, ◌++◌, append_assoc, append-nil}
 use Prim.Native.Nat.{ℕ, ◌+◌}
@@ -17,7 +17,6 @@ use Rattle.lists.specs.Answers.{played_q}
 use Rattle.pins.specs.Ranges.{device_fits}
 use Rattle.codes.proofs.Sound.{sound_of}
 use Rattle.pins.specs.Devices.{device_part}
-use Rattle.pins.specs.declared.Device.{Device}
 use Rattle.pins_theorems.proofs.Fits.{Sized, played_sized, delivered_fits, delivered_sized}
 use Rattle.lines.specs.declared.Line.{Line}
 use Rattle.player.specs.declared.Player.{Player}

@@ -1,7 +1,7 @@
 -- Refusal 11, exactly: however a text is cut into chunks, one of its calls gives 11 where the text has a bad line, and none where it has not. A chunk gives it
 -- as soon as no bytes that may follow make the text good.
 use mathlib.Core.Path.{◌≡◌, refl, ap, ap₂, sym, ◌∙◌}
-use mathlib.Core.Bool.{Bool, true, false, ◌||◌, or-false, true≢false}
+use mathlib.Core.Bool.{Bool, true, false, or-false, true≢false}
 use mathlib.Core.List.{List, [], ◌∷◌, ◌++◌}
 use Prim.Native.Nat.{ℕ, zero, suc, ◌≤◌}
 use native.Mathlib.Omega.{arith}
@@ -27,11 +27,10 @@ use Rattle.lines.specs.declared.Line.{Line}
 use Rattle.lines.specs.Reading.{line_at, fresh, stopped, is_stopped, next, read, found, ended, line_fits}
 use Rattle.lines.proofs.Hand.{read_fits, fresh_fits, past_fits}
 use Rattle.lines.proofs.Runs.{read_append, read_still}
-use Rattle.player.specs.declared.Player.{Player}
-use Rattle.player.specs.Players.{start_bench, start_player, player_fits}
+use Rattle.player.specs.Players.{start_bench, player_fits}
 use Rattle.player.proofs.Starts.{start_row}
 use Rattle.trace.specs.Texts.{text_is_bad}
-use Rattle.trace.specs.Chunks.{bench_of, played_lines, chunk_bench, chunk_player, end_player, player_number, room, feed_number}
+use Rattle.trace.specs.Chunks.{bench_of, played_lines, chunk_player, end_player, player_number, room, feed_number}
 use Rattle.trace.specs.Chunks.{end_number, SoFar, after_chunk, after_chunks, before_text, joined, numbers_given, has11}
 use Rattle.trace.proofs.Choosing.{feed_done, end_done}
 use Rattle.trace.proofs.Whole.{split, text_ended}
