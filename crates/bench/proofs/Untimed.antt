@@ -60,18 +60,20 @@ pub plain_call : (P : Part) (c : Core) (m : Lent) (w k : ℕ) (s : List ℕ) (n 
     → timed_taken w k ≡ true → length ps ≡ 0 → length ts ≡ 0
     → r ≡ framed_answer (framed P c m.memory m.identification (on w) s n (length out))
     → shown ≡ framed_output P c m.memory m.identification s n out
-    → (r ≡ timed_call P c m w k s n ps ts (length out))
-    × ((m.memory ≡ timed_call_memory P c m w k s n ps ts (length out))
-    × ((m.identification ≡ timed_call_identification P c m w k s n ps ts (length out))
-    × (shown ≡ timed_call_output P c m w k s n ps ts out)))
+    → record {
+      value : r ≡ timed_call P c m w k s n ps ts (length out);
+      memory_after : m.memory ≡ timed_call_memory P c m w k s n ps ts (length out);
+      identification_after : m.identification ≡ timed_call_identification P c m w k s n ps ts (length out);
+      out_after : shown ≡ timed_call_output P c m w k s n ps ts out;
+    }
 plain_call P c m w k s n [] [] out is i j e h =
     let level = and_left (leb w 1) (eqb k 0 || eqb k 3) is in
-    let taken = is ∙ sym level in (
-      yes_so _ level e ∙ sym (same_answer P c m w k s n taken (length out)),
-      (
-        sym (same_memory P c m w k s n taken (length out)),
-        (sym (same_identification P c m w k s n taken (length out)), yes_so _ level h ∙ sym (same_output P c m w k s n taken out)),
-      ),
-    )
+    let taken = is ∙ sym level in
+    record {
+      value = yes_so _ level e ∙ sym (same_answer P c m w k s n taken (length out));
+      memory_after = sym (same_memory P c m w k s n taken (length out));
+      identification_after = sym (same_identification P c m w k s n taken (length out));
+      out_after = yes_so _ level h ∙ sym (same_output P c m w k s n taken out);
+    }
 plain_call P c m w k s n [] (t ∷ ts) out is i j e h = absurd (omega arith)
 plain_call P c m w k s n (p ∷ ps) ts out is i j e h = absurd (omega arith)
