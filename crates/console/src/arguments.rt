@@ -1,5 +1,5 @@
 // The words that a program was started with, and room for bytes.
-ghost use Rattle.std.specs.Prelude.{◌≡◌, length};
+ghost use Rattle.std.specs.Prelude.{◌≡◌, [], length, slice_get, string_bytes, MatchOption};
 
 use std::env::Env;
 use std::{env, io};
@@ -10,7 +10,9 @@ pub fn words<R: Env + AllocGlobal>(rt: &R) -> io::Result<Vec<String>> {
 }
 
 // The word at a place, or an empty one where there is none.
-pub fn word(words: &[String], at: usize) -> &str {
+pub fn word(words: &[String], at: usize) -> &str
+    ensures { MatchOption (slice_get words.now at) (result.now ≡ []) (λ w. result.now ≡ string_bytes w) }
+{
     match words.get(at) {
         Some(word) => word.as_str(),
         None => "",

@@ -7,6 +7,8 @@
 mod arguments;
 mod lines;
 mod messages;
+#[cfg(test)]
+mod tests;
 
 pub use arguments::{buffer, large_buffer, word, words};
 pub use lines::{put_number, say};

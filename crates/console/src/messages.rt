@@ -1,8 +1,12 @@
 // Messages on standard error.
+ghost use Rattle.std.specs.Io.{StartsWith};
+
 use std::io;
 
 // The text of an error, without the number that std puts after it.
-fn without_number(text: &str) -> &str {
+fn without_number(text: &str) -> &str
+    ensures { StartsWith text.now result.now }
+{
     match text.split_once(" (os error ") {
         Some((before, _)) => before,
         None => text,
