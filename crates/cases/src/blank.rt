@@ -4,31 +4,40 @@ use crate::boards::{Board, Memory, after, blanks, counted, first, over, passed, 
 use crate::{powered, say};
 use chip::{Core, power_up};
 use codes::{LARGE_SIZE, M95M01, M95512, M95512D, longest_of, wide};
+use std::io;
+use std::io::Write;
 
 // ---- delivery
 
-fn delivered(what: &[u8], part: u8) {
+fn delivered(to: &mut impl Write, what: &[u8], part: u8) -> io::Result<()> {
     let core = Core::delivered(part);
-    say(what, core.blank);
+    say(to, what, core.blank)
 }
 
-fn deliveries() {
-    delivered(b"blank: M95512 as delivered", M95512);
-    delivered(b"blank: M95512-D as delivered", M95512D);
-    delivered(b"blank: M95M01 as delivered", M95M01);
-    delivered(b"blank: part 3 as delivered", 3);
+fn deliveries(to: &mut impl Write) -> io::Result<()> {
+    delivered(to, b"blank: M95512 as delivered", M95512)?;
+    delivered(to, b"blank: M95512-D as delivered", M95512D)?;
+    delivered(to, b"blank: M95M01 as delivered", M95M01)?;
+    delivered(to, b"blank: part 3 as delivered", 3)
 }
 
 // ---- power-up
 
 // The number of the outcome, and the number of blank cells, where the memory's first cells are lent.
-fn power(what: &[u8], part: u8, cycle: u32, memory: Memory, size: usize) {
+fn power(
+    to: &mut impl Write,
+    what: &[u8],
+    part: u8,
+    cycle: u32,
+    memory: Memory,
+    size: usize,
+) -> io::Result<()> {
     let n = first(size, LARGE_SIZE);
     let p = power_up(part, true, cycle, true, true, true, 7, &memory[..n]);
     let outcome = p.outcome;
     let core = p.core;
-    say(what, outcome.number());
-    say(b"  blank cells", core.blank);
+    say(to, what, outcome.number())?;
+    say(to, b"  blank cells", core.blank)
 }
 
 // FFh but for the first and the last cell of the M95512, and one between.
@@ -49,28 +58,35 @@ fn large(last: u8) -> Memory {
     memory
 }
 
-fn powers() {
+fn powers(to: &mut impl Write) -> io::Result<()> {
     let mut one = zeros();
     one[65535] = 0xff;
     let some = b"blank: power-up, cells 0, 128 and 65535 not FFh";
-    power(some, M95512, 5000, small(), 65536);
+    power(to, some, M95512, 5000, small(), 65536)?;
     let two = b"blank: M95M01, cells 65535 and 65536 not FFh";
-    power(two, M95M01, 4000, large(0xff), 131072);
+    power(to, two, M95M01, 4000, large(0xff), 131072)?;
     let three = b"blank: M95M01, cell 131071 too";
-    power(three, M95M01, 4000, large(0xfe), 131072);
-    power(b"blank: one cell FFh", M95512, 5000, one, 65536);
+    power(to, three, M95M01, 4000, large(0xfe), 131072)?;
+    power(to, b"blank: one cell FFh", M95512, 5000, one, 65536)
 }
 
 // The first in the order decides: 1, then 2, then 6. No cell is counted.
-fn powers_refused() {
+fn powers_refused(to: &mut impl Write) -> io::Result<()> {
     let all = blanks();
-    power(b"blank: a memory one short, cycle 0", M95512, 0, all, 65535);
+    power(
+        to,
+        b"blank: a memory one short, cycle 0",
+        M95512,
+        0,
+        all,
+        65535,
+    )?;
     let unknown = b"blank: part 3, a memory one short, cycle 0";
-    power(unknown, 3, 0, all, 65535);
-    power(b"blank: part 3, cycle 0", 3, 0, all, 65536);
-    power(b"blank: cycle 0", M95512, 0, all, 65536);
+    power(to, unknown, 3, 0, all, 65535)?;
+    power(to, b"blank: part 3, cycle 0", 3, 0, all, 65536)?;
+    power(to, b"blank: cycle 0", M95512, 0, all, 65536)?;
     let half = b"blank: M95M01, a memory of 65536";
-    power(half, M95M01, 4000, all, 65536);
+    power(to, half, M95M01, 4000, all, 65536)
 }
 
 // ---- page cycles
@@ -94,64 +110,85 @@ fn ended(board: Board) -> Board {
 }
 
 // A frame that begins a cycle, and the number once it is over.
-fn write(what: &[u8], board: Board, number: u64, bits: usize) -> Board {
+fn write(
+    to: &mut impl Write,
+    what: &[u8],
+    board: Board,
+    number: u64,
+    bits: usize,
+) -> io::Result<Board> {
     let next = ended(begun(board, number, bits));
-    say(what, next.core.blank);
-    next
+    say(to, what, next.core.blank)?;
+    Ok(next)
 }
 
 // The number moves at the end of the cycle, not at its start.
-fn first_write() -> Board {
+fn first_write(to: &mut impl Write) -> io::Result<Board> {
     let busy = begun(board(M95512, small()), 0x0200021122ff33, 56);
     say(
+        to,
         b"blank: 11h 22h FFh 33h at 2, in the cycle",
         busy.core.blank,
-    );
+    )?;
     let next = ended(busy);
-    say(b"blank: at its end", next.core.blank);
-    next
+    say(to, b"blank: at its end", next.core.blank)?;
+    Ok(next)
 }
 
 // From three cells not FFh: 0, 128 and 65535.
-fn small_cycles() {
-    let mut board = first_write();
-    board = write(b"blank: FFh FFh at 2", board, 0x020002ffff, 40);
+fn small_cycles(to: &mut impl Write) -> io::Result<()> {
+    let mut board = first_write(to)?;
+    board = write(to, b"blank: FFh FFh at 2", board, 0x020002ffff, 40)?;
     board = write(
+        to,
         b"blank: 00h FFh at 0, as the cells are",
         board,
         0x02000000ff,
         40,
-    );
-    board = write(b"blank: 44h at 5, 33h before", board, 0x02000544, 32);
-    board = write(b"blank: FFh 55h 55h FFh at 0", board, 0x020000ff5555ff, 56);
-    board = write(b"blank: 66h 66h at 127, on to 0", board, 0x02007f6666, 40);
-    board = write(b"blank: FFh at 65535", board, 0x02ffffff, 32);
-    board = write(b"blank: WRSR", board, 0x0100, 16);
-    say(b"blank: counted afresh", counted(board));
+    )?;
+    board = write(to, b"blank: 44h at 5, 33h before", board, 0x02000544, 32)?;
+    board = write(
+        to,
+        b"blank: FFh 55h 55h FFh at 0",
+        board,
+        0x020000ff5555ff,
+        56,
+    )?;
+    board = write(
+        to,
+        b"blank: 66h 66h at 127, on to 0",
+        board,
+        0x02007f6666,
+        40,
+    )?;
+    board = write(to, b"blank: FFh at 65535", board, 0x02ffffff, 32)?;
+    board = write(to, b"blank: WRSR", board, 0x0100, 16)?;
+    say(to, b"blank: counted afresh", counted(board))
 }
 
 // The M95M01: pages of 256 cells. From three cells not FFh: 65535, 65536 and 131071.
-fn large_cycles() {
+fn large_cycles(to: &mut impl Write) -> io::Result<()> {
     let mut board = board(M95M01, large(0));
     let below = b"blank: M95M01, FFh 00h at FFFFh, on to FF00h";
-    board = write(below, board, 0x0200ffffff00, 48);
+    board = write(to, below, board, 0x0200ffffff00, 48)?;
     board = write(
+        to,
         b"blank: M95M01, FFh FFh at 10000h",
         board,
         0x02010000ffff,
         48,
-    );
+    )?;
     let last = b"blank: M95M01, 77h 77h at 1FFFFh, on to 1FF00h";
-    board = write(last, board, 0x0201ffff7777, 48);
-    say(b"blank: M95M01, counted afresh", counted(board));
+    board = write(to, last, board, 0x0201ffff7777, 48)?;
+    say(to, b"blank: M95M01, counted afresh", counted(board))
 }
 
 // The identification page is not counted.
-fn identification_cycle() {
+fn identification_cycle(to: &mut impl Write) -> io::Result<()> {
     let what = b"blank: M95512-D, 5Ah in the identification page";
-    let next = write(what, board(M95512D, blanks()), 0x8200005a, 32);
+    let next = write(to, what, board(M95512D, blanks()), 0x8200005a, 32)?;
     let page = next.page;
-    say(b"  its cell 0", wide(page[0]));
+    say(to, b"  its cell 0", wide(page[0]))
 }
 
 // ---- wrong numbers
@@ -164,57 +201,61 @@ fn with_blank(part: u8, blank: u32) -> Core {
 }
 
 // Three blank cells go, of a record with so many.
-fn lost(what: &[u8], blank: u32) {
+fn lost(to: &mut impl Write, what: &[u8], blank: u32) -> io::Result<()> {
     write(
+        to,
         what,
         over(with_blank(M95512, blank), blanks()),
         0x020000000000,
         48,
-    );
+    )?;
+    Ok(())
 }
 
 // Three blank cells come.
-fn gained(what: &[u8], blank: u32) {
+fn gained(to: &mut impl Write, what: &[u8], blank: u32) -> io::Result<()> {
     write(
+        to,
         what,
         over(with_blank(M95512, blank), zeros()),
         0x020000ffffff,
         48,
-    );
+    )?;
+    Ok(())
 }
 
-fn wrong_numbers() {
-    lost(b"blank: 0 before, three go", 0);
-    lost(b"blank: 2 before, three go", 2);
-    lost(b"blank: 100 before, three go", 100);
-    gained(b"blank: 65536 before, three come", 65536);
-    gained(b"blank: 65534 before, three come", 65534);
-    gained(b"blank: 100 before, three come", 100);
+fn wrong_numbers(to: &mut impl Write) -> io::Result<()> {
+    lost(to, b"blank: 0 before, three go", 0)?;
+    lost(to, b"blank: 2 before, three go", 2)?;
+    lost(to, b"blank: 100 before, three go", 100)?;
+    gained(to, b"blank: 65536 before, three come", 65536)?;
+    gained(to, b"blank: 65534 before, three come", 65534)?;
+    gained(to, b"blank: 100 before, three come", 100)
 }
 
 // ---- numbers above the size
 
 // The number of a clock reading's outcome, and the number of blank cells then.
-fn read(what: &[u8], part: u8, blank: u32) {
+fn read(to: &mut impl Write, what: &[u8], part: u8, blank: u32) -> io::Result<()> {
     let then = passed(over(with_blank(part, blank), blanks()), 1);
-    say(what, then.number);
-    say(b"  blank cells", then.board.core.blank);
+    say(to, what, then.number)?;
+    say(to, b"  blank cells", then.board.core.blank)
 }
 
-fn ranges() {
-    read(b"blank: 65536 of 65536 cells", M95512, 65536);
-    read(b"blank: 65537 of 65536 cells", M95512, 65537);
-    read(b"blank: M95M01, 131072 of 131072", M95M01, 131072);
-    read(b"blank: M95M01, 131073 of 131072", M95M01, 131073);
+fn ranges(to: &mut impl Write) -> io::Result<()> {
+    read(to, b"blank: 65536 of 65536 cells", M95512, 65536)?;
+    read(to, b"blank: 65537 of 65536 cells", M95512, 65537)?;
+    read(to, b"blank: M95M01, 131072 of 131072", M95M01, 131072)?;
+    read(to, b"blank: M95M01, 131073 of 131072", M95M01, 131073)
 }
 
-pub(crate) fn all() {
-    deliveries();
-    powers();
-    powers_refused();
-    small_cycles();
-    large_cycles();
-    identification_cycle();
-    wrong_numbers();
-    ranges();
+pub(crate) fn all(to: &mut impl Write) -> io::Result<()> {
+    deliveries(to)?;
+    powers(to)?;
+    powers_refused(to)?;
+    small_cycles(to)?;
+    large_cycles(to)?;
+    identification_cycle(to)?;
+    wrong_numbers(to)?;
+    ranges(to)
 }

@@ -6,30 +6,28 @@ use boards::{Board, Memory, asked, lent, over, passed, sent, zeros};
 use chip::{Core, PoweredUp, power_up};
 use codes::{M95512, longest_of, size_of, wide};
 use frames::frame;
-use libc::STDOUT_FILENO;
+use std::io;
+use std::io::Write;
 
 mod blank;
 mod boards;
 mod driven;
 mod parts;
 
-pub(crate) fn say(what: &[u8], number: u32) {
-    io::write_all(STDOUT_FILENO, what);
-    io::write_all(STDOUT_FILENO, b"\t");
-    io::print_decimal(STDOUT_FILENO, number as u64);
-    io::write_all(STDOUT_FILENO, b"\n");
+pub(crate) fn say(to: &mut impl Write, what: &[u8], number: u32) -> io::Result<()> {
+    console::say(to, what, number as u64)
 }
 
-pub(crate) fn say_status(core: Core) {
-    say(b"  its status byte", wide(core.status()));
+pub(crate) fn say_status(to: &mut impl Write, core: Core) -> io::Result<()> {
+    say(to, b"  its status byte", wide(core.status()))
 }
 
-pub(crate) fn say_left(core: Core) {
-    say(b"  time left", core.left);
+pub(crate) fn say_left(to: &mut impl Write, core: Core) -> io::Result<()> {
+    say(to, b"  time left", core.left)
 }
 
-pub(crate) fn say_last(core: Core) {
-    say(b"  its last reading", core.last);
+pub(crate) fn say_last(to: &mut impl Write, core: Core) -> io::Result<()> {
+    say(to, b"  its last reading", core.last)
 }
 
 // ---- power-up and protection
@@ -48,20 +46,20 @@ pub(crate) fn powered(
     power_up(part, false, cycle, srwd, bp1, bp0, reading, &memory[..size])
 }
 
-pub(crate) fn power(what: &[u8], part: u8, cycle: u32) {
+pub(crate) fn power(to: &mut impl Write, what: &[u8], part: u8, cycle: u32) -> io::Result<()> {
     let p = powered(zeros(), part, cycle, true, true, true, 7);
     let outcome = p.outcome;
     let core = p.core;
-    say(what, outcome.number());
-    say_status(core);
-    say_last(core);
+    say(to, what, outcome.number())?;
+    say_status(to, core)?;
+    say_last(to, core)
 }
 
-fn powers() {
-    power(b"power-up, cycle 0", M95512, 0);
-    power(b"power-up, cycle 1", M95512, 1);
-    power(b"power-up, cycle 5000", M95512, 5000);
-    power(b"power-up, cycle 5001", M95512, 5001);
+fn powers(to: &mut impl Write) -> io::Result<()> {
+    power(to, b"power-up, cycle 0", M95512, 0)?;
+    power(to, b"power-up, cycle 1", M95512, 1)?;
+    power(to, b"power-up, cycle 5000", M95512, 5000)?;
+    power(to, b"power-up, cycle 5001", M95512, 5001)
 }
 
 // A part with the given bits, no lock and its longest cycle.
@@ -69,36 +67,41 @@ pub(crate) fn with_bp(part: u8, bp1: bool, bp0: bool) -> Core {
     powered(zeros(), part, longest_of(part), false, bp1, bp0, 0).core
 }
 
-pub(crate) fn protect(what: &[u8], core: Core, address: u32) {
+pub(crate) fn protect(
+    to: &mut impl Write,
+    what: &[u8],
+    core: Core,
+    address: u32,
+) -> io::Result<()> {
     let answer = core.protection(address);
-    say(what, answer.number());
-    say(b"  protected", answer.value());
+    say(to, what, answer.number())?;
+    say(to, b"  protected", answer.value())
 }
 
-fn protections() {
+fn protections(to: &mut impl Write) -> io::Result<()> {
     let none = with_bp(M95512, false, false);
     let quarter = with_bp(M95512, false, true);
     let half = with_bp(M95512, true, false);
-    protect(b"BP 01, BFFFh", quarter, 0xbfff);
-    protect(b"BP 01, C000h", quarter, 0xc000);
-    protect(b"BP 10, 7FFFh", half, 0x7fff);
-    protect(b"BP 10, 8000h", half, 0x8000);
-    protect(b"BP 11, 0000h", with_bp(M95512, true, true), 0);
-    protect(b"BP 00, FFFFh", none, 0xffff);
-    protect(b"BP 00, 10000h", none, 0x10000);
+    protect(to, b"BP 01, BFFFh", quarter, 0xbfff)?;
+    protect(to, b"BP 01, C000h", quarter, 0xc000)?;
+    protect(to, b"BP 10, 7FFFh", half, 0x7fff)?;
+    protect(to, b"BP 10, 8000h", half, 0x8000)?;
+    protect(to, b"BP 11, 0000h", with_bp(M95512, true, true), 0)?;
+    protect(to, b"BP 00, FFFFh", none, 0xffff)?;
+    protect(to, b"BP 00, 10000h", none, 0x10000)
 }
 
-pub(crate) fn lowest(what: &[u8], core: Core) {
+pub(crate) fn lowest(to: &mut impl Write, what: &[u8], core: Core) -> io::Result<()> {
     let answer = core.protected_from();
-    say(what, answer.number());
-    say(b"  protected from", answer.value());
+    say(to, what, answer.number())?;
+    say(to, b"  protected from", answer.value())
 }
 
-fn lowest_cells() {
-    lowest(b"BP 00", Core::delivered(M95512));
-    lowest(b"BP 01", with_bp(M95512, false, true));
-    lowest(b"BP 10", with_bp(M95512, true, false));
-    lowest(b"BP 11", with_bp(M95512, true, true));
+fn lowest_cells(to: &mut impl Write) -> io::Result<()> {
+    lowest(to, b"BP 00", Core::delivered(M95512))?;
+    lowest(to, b"BP 01", with_bp(M95512, false, true))?;
+    lowest(to, b"BP 10", with_bp(M95512, true, false))?;
+    lowest(to, b"BP 11", with_bp(M95512, true, true))
 }
 
 // ---- clock readings
@@ -119,40 +122,46 @@ fn waiting(wel: u8) -> Core {
     core
 }
 
-fn time(what: &[u8], core: Core, reading: u32) {
+fn time(to: &mut impl Write, what: &[u8], core: Core, reading: u32) -> io::Result<()> {
     let then = passed(over(core, zeros()), reading);
     let board = then.board;
     let memory = board.memory;
-    say(what, then.number);
-    say_status(board.core);
-    say_left(board.core);
-    say(b"  cell 128", wide(memory[128]));
+    say(to, what, then.number)?;
+    say_status(to, board.core)?;
+    say_left(to, board.core)?;
+    say(to, b"  cell 128", wide(memory[128]))
 }
 
-fn times() {
+fn times(to: &mut impl Write) -> io::Result<()> {
     let broken = waiting(2);
-    time(b"16 microseconds later", waiting(1), 10);
-    time(b"4999 microseconds later", waiting(1), 4993);
-    time(b"5000 microseconds later", waiting(1), 4994);
-    time(b"a WEL of 2", broken, 4994);
-    lowest(b"a WEL of 2", broken);
+    time(to, b"16 microseconds later", waiting(1), 10)?;
+    time(to, b"4999 microseconds later", waiting(1), 4993)?;
+    time(to, b"5000 microseconds later", waiting(1), 4994)?;
+    time(to, b"a WEL of 2", broken, 4994)?;
+    lowest(to, b"a WEL of 2", broken)?;
     let short = lent(over(broken, zeros()), 128);
-    say(b"a memory of 128 bytes", passed(short, 0).number);
+    say(to, b"a memory of 128 bytes", passed(short, 0).number)
 }
 
 // ---- frames
 
 // A frame with W high: its number, the undriven count, output bytes 1 and 3 (counted from 0; 0 where the frame has
 // none) and the status that it leaves.
-fn send(what: &[u8], core: Core, number: u64, bits: usize) -> Core {
+fn send(
+    to: &mut impl Write,
+    what: &[u8],
+    core: Core,
+    number: u64,
+    bits: usize,
+) -> io::Result<Core> {
     let s = sent(over(core, zeros()), number, bits);
     let out = s.out;
-    say(what, s.number);
-    say(b"  undriven", (s.undriven % 65536) as u32);
-    say(b"  output byte 1", wide(out[1]));
-    say(b"  output byte 3", wide(out[3]));
-    say_status(s.core);
-    s.core
+    say(to, what, s.number)?;
+    say(to, b"  undriven", (s.undriven % 65536) as u32)?;
+    say(to, b"  output byte 1", wide(out[1]))?;
+    say(to, b"  output byte 3", wide(out[3]))?;
+    say_status(to, s.core)?;
+    Ok(s.core)
 }
 
 fn guarded(core: Core) -> Core {
@@ -163,82 +172,93 @@ fn guarded(core: Core) -> Core {
 }
 
 // In the cycle that a WRITE has begun: k.
-fn in_cycle(busy: Core) {
-    send(b"k: READ in a cycle", busy, 0x03007e0000, 40);
-    send(b"RDSR in a cycle", busy, 0x0500, 16);
-    send(b"WREN in a cycle", busy, 0x06, 8);
+fn in_cycle(to: &mut impl Write, busy: Core) -> io::Result<()> {
+    send(to, b"k: READ in a cycle", busy, 0x03007e0000, 40)?;
+    send(to, b"RDSR in a cycle", busy, 0x0500, 16)?;
+    send(to, b"WREN in a cycle", busy, 0x06, 8)?;
+    Ok(())
 }
 
 // A WRITE that is cut short, ignored and taken.
-fn writes(enabled: Core) {
+fn writes(to: &mut impl Write, enabled: Core) -> io::Result<()> {
     let all = guarded(enabled);
-    send(b"b: WRITE with 55 bits", enabled, 0x02007e11223344, 55);
-    send(b"WRITE to a protected address", all, 0x02007e11, 32);
-    in_cycle(send(b"a: WRITE with 56 bits", enabled, 0x02007e11223344, 56));
+    send(to, b"b: WRITE with 55 bits", enabled, 0x02007e11223344, 55)?;
+    send(to, b"WRITE to a protected address", all, 0x02007e11, 32)?;
+    let busy = send(to, b"a: WRITE with 56 bits", enabled, 0x02007e11223344, 56)?;
+    in_cycle(to, busy)
 }
 
 // Cases of the frame model: a, b, j and k among them.
-fn frames_sent() {
+fn frames_sent(to: &mut impl Write) -> io::Result<()> {
     let fresh = Core::delivered(M95512);
-    send(b"j: WREN with 16 bits", fresh, 0x0600, 16);
-    let enabled = send(b"WREN", fresh, 0x06, 8);
-    writes(enabled);
-    send(b"READ, idle", enabled, 0x03007e0000, 40);
-    send(b"READ of 29 bits", enabled, 0x03007e00, 29);
-    send(b"three bits", fresh, 0x06, 3);
-    send(b"no bits", fresh, 0, 0);
+    send(to, b"j: WREN with 16 bits", fresh, 0x0600, 16)?;
+    let enabled = send(to, b"WREN", fresh, 0x06, 8)?;
+    writes(to, enabled)?;
+    send(to, b"READ, idle", enabled, 0x03007e0000, 40)?;
+    send(to, b"READ of 29 bits", enabled, 0x03007e00, 29)?;
+    send(to, b"three bits", fresh, 0x06, 3)?;
+    send(to, b"no bits", fresh, 0, 0)?;
+    Ok(())
 }
 
 // What is refused, and that the first in the order decides: RDSR in so many bytes, so many bits, and room for so many
 // bytes.
-fn refused(what: &[u8], board: Board, count: usize, bits: usize, room: usize) {
-    say(what, asked(board, 0x0500, count, bits, room).number);
+fn refused(
+    to: &mut impl Write,
+    what: &[u8],
+    board: Board,
+    count: usize,
+    bits: usize,
+    room: usize,
+) -> io::Result<()> {
+    say(to, what, asked(board, 0x0500, count, bits, room).number)
 }
 
-fn bad_memory(fresh: Board, broken: Board) {
-    refused(b"memory of 65537", lent(fresh, 65537), 2, 16, 2);
-    refused(b"memory of 65535", lent(fresh, 65535), 2, 16, 2);
-    refused(b"all of them", lent(broken, 65537), 2, 99, 1);
+fn bad_memory(to: &mut impl Write, fresh: Board, broken: Board) -> io::Result<()> {
+    refused(to, b"memory of 65537", lent(fresh, 65537), 2, 16, 2)?;
+    refused(to, b"memory of 65535", lent(fresh, 65535), 2, 16, 2)?;
+    refused(to, b"all of them", lent(broken, 65537), 2, 99, 1)
 }
 
-fn bad_lengths(fresh: Board) {
-    refused(b"a bit too many", fresh, 2, 17, 2);
-    refused(b"a bit too few", fresh, 2, 8, 2);
-    refused(b"a bit of no bytes", fresh, 0, 1, 0);
-    refused(b"an output too long", fresh, 2, 16, 3);
-    refused(b"an output too short", fresh, 2, 16, 1);
+fn bad_lengths(to: &mut impl Write, fresh: Board) -> io::Result<()> {
+    refused(to, b"a bit too many", fresh, 2, 17, 2)?;
+    refused(to, b"a bit too few", fresh, 2, 8, 2)?;
+    refused(to, b"a bit of no bytes", fresh, 0, 1, 0)?;
+    refused(to, b"an output too long", fresh, 2, 16, 3)?;
+    refused(to, b"an output too short", fresh, 2, 16, 1)
 }
 
-fn frames_refused() {
+fn frames_refused(to: &mut impl Write) -> io::Result<()> {
     let mut core = Core::delivered(M95512);
     let fresh = over(core, zeros());
     core.srwd = 2;
     let broken = over(core, zeros());
-    bad_memory(fresh, broken);
-    refused(b"SRWD 2", broken, 2, 16, 2);
-    refused(b"all but the memory", broken, 2, 99, 1);
-    bad_lengths(fresh);
+    bad_memory(to, fresh, broken)?;
+    refused(to, b"SRWD 2", broken, 2, 16, 2)?;
+    refused(to, b"all but the memory", broken, 2, 99, 1)?;
+    bad_lengths(to, fresh)
 }
 
-fn too_long() {
-    let memory = io::large_buffer();
+fn too_long(to: &mut impl Write) -> io::Result<()> {
+    let memory = console::large_buffer();
     let page = [0xffu8; 128];
     let bytes = [5u8; 65541];
     let mut out = [0u8; 8];
     let core = Core::delivered(M95512);
     let answer = frame(core, &memory, &page, true, &bytes, 1, &mut out).answer;
-    say(b"65541 bytes", answer.number());
+    say(to, b"65541 bytes", answer.number())
 }
 
-fn main() {
-    powers();
-    protections();
-    lowest_cells();
-    times();
-    frames_sent();
-    frames_refused();
-    too_long();
-    driven::all();
-    parts::all();
-    blank::all();
+fn main(rt: HostRuntime) -> io::Result<()> {
+    let mut out = io::writer(&rt);
+    powers(&mut out)?;
+    protections(&mut out)?;
+    lowest_cells(&mut out)?;
+    times(&mut out)?;
+    frames_sent(&mut out)?;
+    frames_refused(&mut out)?;
+    too_long(&mut out)?;
+    driven::all(&mut out)?;
+    parts::all(&mut out)?;
+    blank::all(&mut out)
 }

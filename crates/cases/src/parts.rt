@@ -5,6 +5,8 @@ use crate::driven::{refused, run};
 use crate::{lowest, power, protect, say, say_left, with_bp};
 use chip::Core;
 use codes::{M95M01, M95512, M95512D, address_bytes_of, longest_of, wide};
+use std::io;
+use std::io::Write;
 
 // ---- WRDI in a cycle
 
@@ -17,91 +19,114 @@ fn written(core: Core) -> Board {
     after(enabled, 0x02000011, 32)
 }
 
-fn say_core(what: &[u8], core: Core) {
-    say(what, wide(core.status()));
-    say_left(core);
+fn say_core(to: &mut impl Write, what: &[u8], core: Core) -> io::Result<()> {
+    say(to, what, wide(core.status()))?;
+    say_left(to, core)
 }
 
 // The status byte after a WRDI in a cycle, then after a WREN there and at the cycle's end.
-fn wrdi(what: &[u8], part: u8) {
+fn wrdi(to: &mut impl Write, what: &[u8], part: u8) -> io::Result<()> {
     let disabled = after(written(with_bp(part, false, false)), 0x04, 8);
-    say_core(what, disabled.core);
+    say_core(to, what, disabled.core)?;
     let again = after(disabled, 0x06, 8);
-    say_core(b"  status after WREN", again.core);
+    say_core(to, b"  status after WREN", again.core)?;
     let ended = passed(again, longest_of(part)).board;
-    say_core(b"  status at the end", ended.core);
+    say_core(to, b"  status at the end", ended.core)?;
     let memory = ended.memory;
-    say(b"  cell 0", wide(memory[0]));
+    say(to, b"  cell 0", wide(memory[0]))
 }
 
-fn wrdi_in_cycle() {
-    wrdi(b"M95512: WRDI in a cycle", M95512);
-    wrdi(b"M95512-D: WRDI in a cycle", M95512D);
-    wrdi(b"M95M01: WRDI in a cycle", M95M01);
+fn wrdi_in_cycle(to: &mut impl Write) -> io::Result<()> {
+    wrdi(to, b"M95512: WRDI in a cycle", M95512)?;
+    wrdi(to, b"M95512-D: WRDI in a cycle", M95512D)?;
+    wrdi(to, b"M95M01: WRDI in a cycle", M95M01)
 }
 
 // ---- the M95M01
 
-fn large_power() {
-    power(b"M95M01: power-up, cycle 4000", M95M01, 4000);
-    power(b"M95M01: power-up, cycle 4001", M95M01, 4001);
+fn large_power(to: &mut impl Write) -> io::Result<()> {
+    power(to, b"M95M01: power-up, cycle 4000", M95M01, 4000)?;
+    power(to, b"M95M01: power-up, cycle 4001", M95M01, 4001)
 }
 
-fn large_protection() {
+fn large_protection(to: &mut impl Write) -> io::Result<()> {
     let quarter = with_bp(M95M01, false, true);
     let none = with_bp(M95M01, false, false);
-    protect(b"M95M01: BP 01, 17FFFh", quarter, 0x17fff);
-    protect(b"M95M01: BP 01, 18000h", quarter, 0x18000);
-    protect(b"M95M01: BP 00, 1FFFFh", none, 0x1ffff);
-    protect(b"M95M01: BP 00, 20000h", none, 0x20000);
+    protect(to, b"M95M01: BP 01, 17FFFh", quarter, 0x17fff)?;
+    protect(to, b"M95M01: BP 01, 18000h", quarter, 0x18000)?;
+    protect(to, b"M95M01: BP 00, 1FFFFh", none, 0x1ffff)?;
+    protect(to, b"M95M01: BP 00, 20000h", none, 0x20000)
 }
 
-fn large_lowest() {
-    lowest(b"M95M01: BP 00", with_bp(M95M01, false, false));
-    lowest(b"M95M01: BP 01", with_bp(M95M01, false, true));
-    lowest(b"M95M01: BP 10", with_bp(M95M01, true, false));
-    lowest(b"M95M01: BP 11", with_bp(M95M01, true, true));
+fn large_lowest(to: &mut impl Write) -> io::Result<()> {
+    lowest(to, b"M95M01: BP 00", with_bp(M95M01, false, false))?;
+    lowest(to, b"M95M01: BP 01", with_bp(M95M01, false, true))?;
+    lowest(to, b"M95M01: BP 10", with_bp(M95M01, true, false))?;
+    lowest(to, b"M95M01: BP 11", with_bp(M95M01, true, true))
 }
 
 // 300 bytes from FF9Ch on: 100 in page 255, 200 in page 256. The cells at their edges and at 10000h.
-fn large_run(what: &[u8], core: Core, interval: u32, limit: u32) {
-    let memory = run(what, core, 0xff9c, 300, interval, limit);
-    say(b"  cell FF9Ch", wide(memory[0xff9c]));
-    say(b"  cell FFFFh", wide(memory[0xffff]));
-    say(b"  cell 10000h", wide(memory[0x10000]));
-    say(b"  cell 100C7h", wide(memory[0x100c7]));
-    say(b"  cell 100C8h", wide(memory[0x100c8]));
+fn large_run(
+    to: &mut impl Write,
+    what: &[u8],
+    core: Core,
+    interval: u32,
+    limit: u32,
+) -> io::Result<()> {
+    let memory = run(to, what, core, 0xff9c, 300, interval, limit)?;
+    say(to, b"  cell FF9Ch", wide(memory[0xff9c]))?;
+    say(to, b"  cell FFFFh", wide(memory[0xffff]))?;
+    say(to, b"  cell 10000h", wide(memory[0x10000]))?;
+    say(to, b"  cell 100C7h", wide(memory[0x100c7]))?;
+    say(to, b"  cell 100C8h", wide(memory[0x100c8]))
 }
 
-fn large_runs() {
+fn large_runs(to: &mut impl Write) -> io::Result<()> {
     let none = with_bp(M95M01, false, false);
     let half = with_bp(M95M01, true, false);
     large_run(
+        to,
         b"M95M01: 300 bytes at FF9Ch, interval 1000",
         none,
         1000,
         4001,
-    );
-    large_run(b"M95M01: interval 700", none, 700, 4001);
-    large_run(b"M95M01: interval 1000, limit 3", none, 1000, 3);
-    large_run(b"M95M01: BP 10, 300 bytes at FF9Ch", half, 1000, 4001);
+    )?;
+    large_run(to, b"M95M01: interval 700", none, 700, 4001)?;
+    large_run(to, b"M95M01: interval 1000, limit 3", none, 1000, 3)?;
+    large_run(to, b"M95M01: BP 10, 300 bytes at FF9Ch", half, 1000, 4001)
 }
 
-fn large_refusals() {
+fn large_refusals(to: &mut impl Write) -> io::Result<()> {
     let fresh = over(with_bp(M95M01, false, false), zeros());
     let short = lent(fresh, 65536);
-    refused(b"M95M01: one byte at 131071", fresh, 131071, 1, 4000, 4001);
-    refused(b"M95M01: one byte at 131072", fresh, 131072, 1, 4000, 4001);
-    refused(b"M95M01: interval 4001", fresh, 0, 1, 4001, 4001);
-    refused(b"M95M01: limit 4002", fresh, 0, 1, 4000, 4002);
-    refused(b"M95M01: a memory of 65536", short, 0, 1, 4000, 4001);
+    refused(
+        to,
+        b"M95M01: one byte at 131071",
+        fresh,
+        131071,
+        1,
+        4000,
+        4001,
+    )?;
+    refused(
+        to,
+        b"M95M01: one byte at 131072",
+        fresh,
+        131072,
+        1,
+        4000,
+        4001,
+    )?;
+    refused(to, b"M95M01: interval 4001", fresh, 0, 1, 4001, 4001)?;
+    refused(to, b"M95M01: limit 4002", fresh, 0, 1, 4000, 4002)?;
+    refused(to, b"M95M01: a memory of 65536", short, 0, 1, 4000, 4001)
 }
 
-pub(crate) fn all() {
-    wrdi_in_cycle();
-    large_power();
-    large_protection();
-    large_lowest();
-    large_runs();
-    large_refusals();
+pub(crate) fn all(to: &mut impl Write) -> io::Result<()> {
+    wrdi_in_cycle(to)?;
+    large_power(to)?;
+    large_protection(to)?;
+    large_lowest(to)?;
+    large_runs(to)?;
+    large_refusals(to)
 }

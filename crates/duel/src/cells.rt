@@ -37,60 +37,48 @@ fn filling(patterned: bool, cell: usize) -> u8 {
 // An identification page at the start. Its pattern is that of the largest memory's last page.
 pub fn filled_page(patterned: bool) -> Page {
     let mut page: Page = [255; ROOM];
-    let mut i: usize = 0;
-    while i < ROOM {
+    for i in 0..ROOM {
         page[i] = filling(patterned, MOST - ROOM + i);
-        i += 1;
     }
     page
 }
 
 pub fn fill(memory: &mut Memory, patterned: bool) {
-    let mut i: usize = 0;
-    while i < MOST {
+    for i in 0..MOST {
         memory[i] = filling(patterned, i);
-        i += 1;
     }
 }
 
 // The whole memories.
 pub fn memories(frame_side: &mut Memory, pin_side: &mut Memory, run: &mut Run) {
-    let mut i: usize = 0;
-    while i < MOST {
+    for i in 0..MOST {
         same_at(differing::CELL, i, frame_side[i], pin_side[i], run);
-        i += 1;
     }
 }
 
 // The whole identification pages.
 pub fn pages(frame_side: Page, pin_side: Page, run: &mut Run) {
-    let mut i: usize = 0;
-    while i < ROOM {
+    for i in 0..ROOM {
         same_at(differing::PAGE_CELL, i, frame_side[i], pin_side[i], run);
-        i += 1;
     }
 }
 
 // The first n cells scanned: how many hold FFh.
 pub fn blanks(memory: &mut Memory, n: usize) -> u32 {
     let mut sum: u32 = 0;
-    let mut i: usize = 0;
-    while i < MOST {
+    for i in 0..MOST {
         if (i < n) & (memory[i] == 255) {
             sum = std::num::wrapping_add_u32(sum, 1);
         }
-        i += 1;
     }
     sum
 }
 
 // The cells that are not as the round filled them.
 pub fn changed(memory: &mut Memory, patterned: bool, run: &mut Run) {
-    let mut i: usize = 0;
-    while i < MOST {
+    for i in 0..MOST {
         if memory[i] != filling(patterned, i) {
             count(CELLS, run);
         }
-        i += 1;
     }
 }

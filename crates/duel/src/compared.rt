@@ -44,8 +44,7 @@ pub fn padding(out: &[u8], bits: usize, run: &mut Run) {
 }
 
 fn latches(frame_side: Latch, pin_side: Latch, run: &mut Run) {
-    let mut i: usize = 0;
-    while i < ROOM {
+    for i in 0..ROOM {
         same_at(
             differing::LATCHED,
             i,
@@ -53,7 +52,6 @@ fn latches(frame_side: Latch, pin_side: Latch, run: &mut Run) {
             pin_side.bytes[i],
             run,
         );
-        i += 1;
     }
     word(0, frame_side.marks[0], pin_side.marks[0], run);
     word(1, frame_side.marks[1], pin_side.marks[1], run);

@@ -104,10 +104,8 @@ fn move_one(side: PinSide, free: bool, memory: &Memory, run: &mut Run) -> PinSid
 
 fn move_some(side: PinSide, free: bool, moves: u64, memory: &Memory, run: &mut Run) -> PinSide {
     let mut next = side;
-    let mut left = moves;
-    while left > 0 {
+    for _ in 0..moves {
         next = move_one(next, free, memory, run);
-        left -= 1;
     }
     next
 }
@@ -143,12 +141,10 @@ fn read_at(
 ) -> PinSide {
     let readings = schedule.readings;
     let mut next = side;
-    let mut i: usize = 0;
-    while i < MANY {
+    for i in 0..MANY {
         if is_due(schedule, i, k, mode3) {
             next = read_pins(next, readings[i], memory, run);
         }
-        i += 1;
     }
     next
 }
@@ -190,11 +186,9 @@ fn draw_bits(
     run: &mut Run,
 ) -> PinSide {
     let mut next = side;
-    let mut k: usize = 0;
-    while k < bits {
+    for k in 0..bits {
         let sent = bit_at(bytes, k);
         next = draw_bit(next, k, sent, bit_at(out, k), schedule, memory, run);
-        k += 1;
     }
     next
 }

@@ -165,10 +165,8 @@ fn address(run: &mut Run) -> u64
 fn scatter(bytes: &mut Bytes, n: usize, run: &mut Run)
     requires { n ≤ 65536 }
 {
-    let mut i: usize = 0;
-    while i < n {
+    for i in 0..n {
         bytes[i] = byte(run);
-        i += 1;
     }
 }
 

@@ -8,6 +8,7 @@ use crate::cells::{Memory, blank, changed, fill};
 use crate::chance::percent;
 use crate::rounds::{Pair, act, cells_alike, powered};
 use crate::run::{DIFFERENCES, ROUNDS, Run, count};
+use std::io;
 
 mod cells;
 mod chance;
@@ -24,10 +25,8 @@ mod schedules;
 // Acts one after another.
 fn acts(start: Pair, frame_side: &mut Memory, pin_side: &mut Memory, run: &mut Run) -> Pair {
     let mut pair = start;
-    let mut left: u64 = 48;
-    while left > 0 {
+    for _ in 0..48 {
         pair = act(pair, frame_side, pin_side, run);
-        left -= 1;
     }
     pair
 }
@@ -48,17 +47,15 @@ fn round(frame_side: &mut Memory, pin_side: &mut Memory, run: &mut Run) {
 }
 
 fn duel(frame_side: &mut Memory, pin_side: &mut Memory, run: &mut Run) {
-    let mut left: u64 = 160;
-    while left > 0 {
+    for _ in 0..160 {
         round(frame_side, pin_side, run);
-        left -= 1;
     }
 }
 
-fn main() {
+fn main(rt: HostRuntime) -> io::Result<()> {
     let mut frame_side = blank();
     let mut pin_side = blank();
     let mut run = run::begun();
     duel(&mut frame_side, &mut pin_side, &mut run);
-    run::summary(&run);
+    run::summary(&mut io::writer(&rt), &run)
 }

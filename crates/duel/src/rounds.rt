@@ -387,8 +387,8 @@ fn send_bits(
 
 // A random frame, one in eight deselected in Hold.
 fn send(pair: Pair, frame_side: &mut Memory, pin_side: &mut Memory, run: &mut Run) -> Pair {
-    let mut bytes = io::large_buffer();
-    let mut out = io::large_buffer();
+    let mut bytes = console::large_buffer();
+    let mut out = console::large_buffer();
     let core = pair.frames.core;
     let n = made::compose(core.part, core.left > 0, core.wel == 1, &mut bytes, run);
     let held = below(8, run) == 0;

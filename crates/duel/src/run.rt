@@ -1,6 +1,8 @@
 // The numbers of a run, in one array that every function is lent: the generator's state, the frame in hand and the
 // counts. Also the first difference, and the summary.
-use libc::STDOUT_FILENO;
+use console::say;
+use std::io;
+use std::io::Write;
 
 // the counts, in the summary's order
 pub const ROUNDS: usize = 0;
@@ -106,8 +108,21 @@ pub const LIVELY: usize = 47;
 
 pub const UNDRIVEN: usize = 48;
 
+// of the first difference: its round and act, what differs, which clock or cell it is, and the number of each model
+const ROUND_THEN: usize = 49;
+
+const ACT_THEN: usize = 50;
+
+const WHAT: usize = 51;
+
+const AT: usize = 52;
+
+const FRAME_SIDE: usize = 53;
+
+const PIN_SIDE: usize = 54;
+
 // how many numbers there are
-const NUMBERS: usize = 49;
+const NUMBERS: usize = 55;
 
 pub type Run = [u64; NUMBERS];
 
@@ -123,38 +138,15 @@ pub fn count(what: usize, run: &mut Run) {
     run[at] = sum;
 }
 
-fn say(what: &[u8], number: u64) {
-    io::write_all(STDOUT_FILENO, what);
-    io::write_all(STDOUT_FILENO, b"\t");
-    io::print_decimal(STDOUT_FILENO, number);
-    io::write_all(STDOUT_FILENO, b"\n");
-}
-
-fn say_where(round: u64, act: u64) {
-    say(b"difference in round", round);
-    say(b"act", act);
-}
-
-// The labels are in the order of `differing`.
-fn say_what(what: usize, at: u64, frame_side: u64, pin_side: u64) {
-    row(
-        b"number of a reading number of a frame   number of a change  blank cells, scannedcell                \
-        identification cell Q at clock          Q driven at clock   output past count   latched byte        \
-        word of marks       what waits          status that waits   page that waits     cycle length        \
-        time left           last reading        blank cells         part                lock                \
-        status byte         ",
-        what,
-        at,
-    );
-    say(b"the frame model's", frame_side);
-    say(b"the pin model's", pin_side);
-}
-
-// The first difference is printed.
+// The first difference is kept, and printed before the summary: nothing else is, and no act follows it.
 fn differ(what: usize, at: u64, frame_side: u64, pin_side: u64, run: &mut Run) {
     if run[DIFFERENCES] == 0 {
-        say_where(run[ROUNDS], run[ACTS]);
-        say_what(what, at, frame_side, pin_side);
+        run[ROUND_THEN] = run[ROUNDS];
+        run[ACT_THEN] = run[ACTS];
+        run[WHAT] = what as u64;
+        run[AT] = at;
+        run[FRAME_SIDE] = frame_side;
+        run[PIN_SIDE] = pin_side;
     }
     count(DIFFERENCES, run);
 }
@@ -173,74 +165,107 @@ pub fn same(what: usize, frame_side: u32, pin_side: u32, run: &mut Run) {
     }
 }
 
-// Row i of up to 32: its label has 20 characters.
-fn row(labels: &[u8], i: usize, number: u64) {
-    let from = 20 * (i % 32);
-    let to = from + 20;
-    if to <= labels.len() {
-        say(&labels[from..to], number);
+// The first difference, where there is one: its round and act, what differs, and both models' numbers. The labels are
+// in the order of `differing`.
+fn say_difference(to: &mut impl Write, run: &Run) -> io::Result<()> {
+    if run[DIFFERENCES] == 0 {
+        return Ok(());
     }
+    say(to, b"difference in round", run[ROUND_THEN])?;
+    say(to, b"act", run[ACT_THEN])?;
+    row(
+        to,
+        b"number of a reading number of a frame   number of a change  blank cells, scannedcell                \
+        identification cell Q at clock          Q driven at clock   output past count   latched byte        \
+        word of marks       what waits          status that waits   page that waits     cycle length        \
+        time left           last reading        blank cells         part                lock                \
+        status byte         ",
+        run[WHAT] as usize,
+        run[AT],
+    )?;
+    say(to, b"the frame model's", run[FRAME_SIDE])?;
+    say(to, b"the pin model's", run[PIN_SIDE])
+}
+
+// Row i of up to 32: its label has 20 characters.
+fn row(to: &mut impl Write, labels: &[u8], i: usize, number: u64) -> io::Result<()> {
+    let from = 20 * (i % 32);
+    let end = from + 20;
+    if end <= labels.len() {
+        return say(to, &labels[from..end], number);
+    }
+    Ok(())
 }
 
 // As many rows as there are labels, with the counts from `first` on.
-fn rows(labels: &[u8], first: usize, run: &Run) {
-    let mut i: usize = 0;
-    while i < 8 {
-        row(labels, i, run[(first % NUMBERS + i) % NUMBERS]);
-        i += 1;
+fn rows(to: &mut impl Write, labels: &[u8], first: usize, run: &Run) -> io::Result<()> {
+    for i in 0..8 {
+        row(to, labels, i, run[(first % NUMBERS + i) % NUMBERS])?;
     }
+    Ok(())
 }
 
 // The readings inside frames, and the differences.
-fn summary_inside(run: &Run) {
+fn summary_inside(to: &mut impl Write, run: &Run) -> io::Result<()> {
     rows(
+        to,
         b"frames with readingsreadings in frames  at position 0       at the last boundarywhere the last was  ",
         TIMED,
         run,
-    );
+    )?;
     rows(
+        to,
         b"round the counter   cycles ended inside RDSR saw WIP fall   of these in mode 3  differences         ",
         ROUND,
         run,
-    );
+    )
 }
 
-pub fn summary(run: &Run) {
+// The first difference and the counts.
+pub fn summary(to: &mut impl Write, run: &Run) -> io::Result<()> {
+    say_difference(to, run)?;
     rows(
+        to,
         b"rounds              rounds with M95512-Drounds with M95M01  acts                frames              ",
         ROUNDS,
         run,
-    );
+    )?;
     rows(
+        to,
         b"clock readings      levels of W         frames in mode 3    with part of a byte with over a page    ",
         READINGS,
         run,
-    );
+    )?;
     rows(
+        to,
         b"pauses              pin changes         counted clocks      driven bits         83h that drove Q    ",
         PAUSES,
         run,
-    );
+    )?;
     rows(
+        to,
         b"page cycles begun   begun above FFFFh   status cycles begun identification begunlock cycles begun   ",
         PAGES,
         run,
-    );
+    )?;
     rows(
+        to,
         b"82h to lock, 32 bits82h to lock, 40 bits82h to lock, 48 bits82h stopped by lock WEL cleared in cycle",
         LOCK_32,
         run,
-    );
+    )?;
     rows(
+        to,
         b"cycles ended        ended with WEL 0    cells changed       deselected in Hold  WRITEs among them   ",
         ENDED,
         run,
-    );
+    )?;
     rows(
+        to,
         b"with one data byte  and one bit more    with two data bytes without WEL         to a protected cell ",
         HELD_ONE,
         run,
-    );
-    rows(b"begun in Hold       ", HELD_BEGUN, run);
-    summary_inside(run);
+    )?;
+    rows(to, b"begun in Hold       ", HELD_BEGUN, run)?;
+    summary_inside(to, run)
 }

@@ -109,12 +109,10 @@ fn filled(
     let mut positions: [usize; MANY] = [0; MANY];
     let mut readings: [u32; MANY] = [0; MANY];
     let mut moment = start;
-    let mut i: usize = 0;
-    while i < number {
+    for i in 0..number {
         moment = later(i, moment, cycle, most, run);
         positions[i] = moment.at;
         readings[i] = moment.reading;
-        i += 1;
     }
     Schedule {
         mode3: mode3,

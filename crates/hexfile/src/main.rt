@@ -7,8 +7,14 @@ ghost use Rattle.std.specs.Prelude.{◌≡◌, ◌≤◌, length};
 
 use chip::Core;
 use codes::M95512;
+use console::{fail, word};
 use intel_hex::{IMAGE_SIZE, TEXT_SIZE};
-use libc::{STDERR_FILENO, STDOUT_FILENO};
+use std::fs::{OpenFile, OpenOptions, Permissions};
+use std::io::{Error, ErrorKind, Read, Write};
+use std::os::unix::fs::{OpenOptionsExt, PermissionsExt};
+use std::random::RandomSource;
+use std::rt::Files;
+use std::{fs, io};
 
 // The longest text that is read.
 const MOST: usize = 1048576;
@@ -34,249 +40,291 @@ fn blank() -> [u8; IMAGE_SIZE]
 
 // ---- messages
 
-fn say(what: &[u8]) {
-    io::write_all(STDERR_FILENO, what);
+// Where standard error takes no more, nobody is told.
+fn say(rt: &impl Eprint, what: &str) {
+    let _ = rt.eprint(what);
 }
 
 // hexfile: NAME: what is wrong
-fn complain(name: &[u8], what: &[u8]) {
-    say(b"hexfile: ");
-    say(name);
-    say(what);
+fn complain(rt: &impl Eprint, name: &str, what: &str) {
+    say(rt, "hexfile: ");
+    say(rt, name);
+    say(rt, what);
 }
 
-fn help() {
-    io::write_all(
-        STDOUT_FILENO,
+fn help(rt: &impl Print) -> io::Result<()> {
+    rt.write_all(
         b"hexfile out IMAGE TEXT         makes a HEX text of a raw image of 65,536 bytes\n",
-    );
-    io::write_all(
-        STDOUT_FILENO,
+    )?;
+    rt.write_all(
         b"hexfile in TEXT IMAGE          makes a raw image of a HEX text, over a blank one (every byte FFh)\n",
-    );
-    io::write_all(
-        STDOUT_FILENO,
+    )?;
+    rt.write_all(
         b"hexfile in TEXT IMAGE OVER     the same, over the image OVER: cells that no record names keep its bytes\n",
-    );
-    io::write_all(
-        STDOUT_FILENO,
-        b"The result - is standard output. A file is there whole or not at all.\n",
-    );
-    io::write_all(
-        STDOUT_FILENO,
+    )?;
+    rt.write_all(b"The result - is standard output. A file is there whole or not at all.\n")?;
+    rt.write_all(
         b"A text has records of type 00 and 0 to 255 bytes, upper case, each with LF at its end, then :00000001FF.\n",
-    );
-    io::write_all(
-        STDOUT_FILENO,
+    )?;
+    rt.write_all(
         b"It has at most 1,048,576 bytes. What is wrong is said on standard error, with the number of the bad line.\n",
-    );
+    )
 }
 
 // ---- files
 
-fn is_dash(name: &[u8]) -> bool {
-    if name.len() != 1 {
-        return false;
+// Nothing is left to read; else says why not: the file is too long, or cannot be read.
+fn at_end<R: Eprint + Alloc>(rt: &R, file: &mut impl Read, name: &str, too_long: &str) -> bool {
+    let mut one = [0u8; 1];
+    match file.read(&mut one) {
+        Ok(0) => true,
+        Ok(_) => {
+            complain(rt, name, too_long);
+            false
+        }
+        Err(error) => {
+            fail(rt, name, error);
+            false
+        }
     }
-    name[0] == b'-'
 }
 
-// Nothing is left to read; else says why not: the file is too long, or cannot be read.
-fn at_end(fd: i32, name: &[u8], too_long: &[u8]) -> bool {
-    let mut one = [0u8; 1];
-    let got = libc::read(fd, &mut one);
-    if got < 0 {
-        os::fail(name);
-        return false;
+// Reads until there is no room, the file ends or a read fails, and answers how many bytes it read.
+fn read_full(file: &mut impl Read, bytes: &mut [u8]) -> usize
+    ensures { result ≤ length bytes.new }
+{
+    let mut done = 0;
+    while done < bytes.len() {
+        match file.read(&mut bytes[done..]) {
+            Ok(n) if n > 0 => done += n,
+            _ => return done,
+        }
     }
-    if 0 < got {
-        complain(name, too_long);
-        return false;
-    }
-    true
+    done
 }
 
 // Reads a whole file, and answers how many bytes it has; where it cannot, says why and answers more than there is room
 // for.
-fn read_file(name: &[u8], bytes: &mut [u8], too_long: &[u8]) -> usize {
-    let fd = os::open_read(name);
-    if fd < 0 {
-        os::fail(name);
-        return MOST + 1;
-    }
-    let n = io::read_full(fd, bytes);
-    let whole = at_end(fd, name, too_long);
-    libc::close(fd);
-    if whole {
-        return n;
+fn read_file<R: Files + Eprint + Alloc>(
+    rt: &R,
+    name: &str,
+    bytes: &mut [u8],
+    too_long: &str,
+) -> usize {
+    match fs::open(rt, name) {
+        Ok(mut file) => {
+            let n = read_full(&mut file, bytes);
+            if at_end(rt, &mut file, name, too_long) {
+                return n;
+            }
+        }
+        Err(error) => fail(rt, name, error),
     }
     MOST + 1
 }
 
-fn read_image(name: &[u8], image: &mut [u8]) -> bool {
-    let n = read_file(name, image, b": too long: an image has 65,536 bytes\n");
+fn read_image<R: Files + Eprint + Alloc>(rt: &R, name: &str, image: &mut [u8]) -> bool {
+    let n = read_file(rt, name, image, ": too long: an image has 65,536 bytes\n");
     if MOST < n {
         return false;
     }
     if n != IMAGE_SIZE {
-        complain(name, b": an image has 65,536 bytes\n");
+        complain(rt, name, ": an image has 65,536 bytes\n");
         return false;
     }
     true
 }
 
 // Writes all, to the disk too.
-fn fill(fd: i32, bytes: &[u8]) -> bool {
-    if !io::write_all(fd, bytes) {
-        return false;
-    }
-    if libc::fchmod(fd, 0o644) < 0 {
-        return false;
-    }
-    0 <= libc::fsync(fd)
+fn fill(file: &mut (impl Write + OpenFile), bytes: &[u8]) -> io::Result<()> {
+    file.write_all(bytes)?;
+    file.set_permissions(Permissions::from_mode(0o644))?;
+    file.sync_all()
 }
 
-// Puts name and .XXXXXX at the start of beside, and answers their length.
-fn name_beside(name: &[u8], beside: &mut [u8]) -> usize {
-    let end = printing::put_bytes(beside, 0, name);
-    printing::put_bytes(beside, end, b".XXXXXX")
+// A letter or a digit.
+fn letter(byte: u8) -> char {
+    let n = byte % 62;
+    if n < 26 {
+        return (b'A' + n) as char;
+    }
+    if n < 52 {
+        return (b'a' + (n - 26)) as char;
+    }
+    (b'0' + (n - 52)) as char
 }
 
-// Writes a new file and gives it the name.
-fn put_file(name: &[u8], beside: &mut [u8], bytes: &[u8]) {
-    let fd = os::create_temp(beside);
-    if fd < 0 {
-        os::fail(name);
-        return;
-    }
-    let filled = fill(fd, bytes);
-    if !filled {
-        os::fail(name);
-    }
-    libc::close(fd);
-    if filled {
-        if 0 <= os::rename(beside, name) {
-            return;
+// The name, a dot and six letters and digits by chance.
+fn name_beside<R: RandomSource + Alloc>(rt: &R, name: &str) -> io::Result<String<R::A>> {
+    let mut chance = [0u8; 6];
+    rt.fill_bytes(&mut chance)?;
+    let [a, b, c, d, e, f] = chance.map(letter);
+    Ok(format!(in rt.alloc(); "{name}.{a}{b}{c}{d}{e}{f}")?)
+}
+
+// Creates a file that only its owner may read and write. It is there with that very name, or nothing is.
+fn create<R: Files>(rt: &R, name: &str) -> io::Result<R::File> {
+    let mut how = OpenOptions::new();
+    how.read(true).write(true).create_new(true).mode(0o600);
+    how.open(rt, name)
+}
+
+// How many names are tried, where others have taken them.
+const TRIES: u32 = 238328;
+
+// A new file beside the one of that name, and what it is called.
+fn create_beside<R: Files + RandomSource + Alloc>(
+    rt: &R,
+    name: &str,
+) -> io::Result<(R::File, String<R::A>)> {
+    for _ in 0..TRIES {
+        let beside = name_beside(rt, name)?;
+        match create(rt, beside.as_str()) {
+            Ok(file) => return Ok((file, beside)),
+            Err(error) if error.kind() == ErrorKind::AlreadyExists => {}
+            Err(error) => return Err(error),
         }
-        os::fail(name);
     }
-    os::unlink(beside);
+    Err(Error::from(ErrorKind::AlreadyExists))
 }
 
-fn put(name: &[u8], bytes: &[u8]) {
-    if is_dash(name) {
-        if !io::write_all(STDOUT_FILENO, bytes) {
-            os::fail(b"standard output");
+// Fills the file, and gives it the name.
+fn fill_and_rename<R: Files>(
+    rt: &R,
+    file: R::File,
+    beside: &str,
+    name: &str,
+    bytes: &[u8],
+) -> io::Result<()> {
+    let mut open = file;
+    fill(&mut open, bytes)?;
+    drop(open);
+    fs::rename(rt, beside, name)
+}
+
+// Writes a new file and gives it the name; where that fails, says why, and the new file is gone again.
+fn put_file<R: Files + RandomSource + Eprint + Alloc>(rt: &R, name: &str, bytes: &[u8]) {
+    match create_beside(rt, name) {
+        Ok((file, beside)) => {
+            if let Err(error) = fill_and_rename(rt, file, beside.as_str(), name, bytes) {
+                fail(rt, name, error);
+                let _ = fs::remove_file(rt, beside.as_str());
+            }
+        }
+        Err(error) => fail(rt, name, error),
+    }
+}
+
+fn put<R: Files + RandomSource + Print + Eprint + Alloc>(rt: &R, name: &str, bytes: &[u8]) {
+    if name == "-" {
+        if let Err(error) = rt.write_all(bytes) {
+            fail(rt, "standard output", error);
         }
         return;
     }
-    let mut room = io::buffer();
-    let n = name_beside(name, &mut room);
-    if room.len() < n {
-        return;
-    }
-    put_file(name, &mut room[..n], bytes);
+    put_file(rt, name, bytes);
 }
 
 // ---- out and in
 
-fn out(image: &[u8], text: &[u8]) {
+fn out<R: Files + RandomSource + Print + Eprint + Alloc>(rt: &R, image: &str, text: &str) {
     let mut memory = blank();
-    if !read_image(image, &mut memory) {
+    if !read_image(rt, image, &mut memory) {
         return;
     }
     let mut room = exported_room();
     intel_hex::export(Core::delivered(M95512), &memory, &mut room);
-    put(text, &room);
+    put(rt, text, &room);
 }
 
-fn bad(name: &[u8], line: usize) {
-    complain(name, b": line ");
-    io::print_decimal(STDERR_FILENO, line as u64);
-    say(b" is bad\n");
+fn bad(rt: &impl Eprint, name: &str, line: usize) {
+    complain(rt, name, ": line ");
+    let _ = eprint!(rt; "{line}");
+    say(rt, " is bad\n");
 }
 
 // The text over the image in memory.
-fn over(name: &[u8], memory: &mut [u8], text: &[u8], image: &[u8]) {
+fn over<R: Files + RandomSource + Print + Eprint + Alloc>(
+    rt: &R,
+    name: &str,
+    memory: &mut [u8],
+    text: &[u8],
+    image: &str,
+) {
     let line = intel_hex::bad_line(text);
     if line != 0 {
-        bad(name, line);
+        bad(rt, name, line);
         return;
     }
     intel_hex::import(Core::delivered(M95512), memory, text);
-    put(image, memory);
+    put(rt, image, memory);
 }
 
-fn read_in(name: &[u8], memory: &mut [u8], image: &[u8]) {
+fn read_in<R: Files + RandomSource + Print + Eprint + Alloc>(
+    rt: &R,
+    name: &str,
+    memory: &mut [u8],
+    image: &str,
+) {
     let mut text = text_room();
     let n = read_file(
+        rt,
         name,
         &mut text,
-        b": too long: a text has at most 1,048,576 bytes\n",
+        ": too long: a text has at most 1,048,576 bytes\n",
     );
     if n <= MOST {
-        over(name, memory, &text[..n], image);
+        over(rt, name, memory, &text[..n], image);
     }
 }
 
-fn in_blank(text: &[u8], image: &[u8]) {
+fn in_blank<R: Files + RandomSource + Print + Eprint + Alloc>(rt: &R, text: &str, image: &str) {
     let mut memory = blank();
-    read_in(text, &mut memory, image);
+    read_in(rt, text, &mut memory, image);
 }
 
-fn in_over(text: &[u8], image: &[u8], old: &[u8]) {
+fn in_over<R: Files + RandomSource + Print + Eprint + Alloc>(
+    rt: &R,
+    text: &str,
+    image: &str,
+    old: &str,
+) {
     let mut memory = blank();
-    if read_image(old, &mut memory) {
-        read_in(text, &mut memory, image);
+    if read_image(rt, old, &mut memory) {
+        read_in(rt, text, &mut memory, image);
     }
 }
 
 // ---- words
 
-fn is_word(word: &[u8], other: &[u8]) -> bool {
-    if word.len() != other.len() {
-        return false;
-    }
-    let mut same = true;
-    let mut i: usize = 0;
-    while i < word.len() {
-        same = same & (word[i] == other[i]);
-        i += 1;
-    }
-    same
+// The word at a place; one of over 4,096 bytes counts as empty, and names no file.
+fn name_at(words: &[String], at: usize) -> &str {
+    let name = word(words, at);
+    if name.len() <= 4096 { name } else { "" }
 }
 
-fn run(count: usize, verb: &[u8], first: &[u8], second: &[u8], third: &[u8]) {
-    if (count == 4) & is_word(verb, b"out") {
-        return out(first, second);
+fn run<R: Files + RandomSource + Print + Eprint + Alloc>(rt: &R, words: &[String]) {
+    let verb = word(words, 1);
+    let first = name_at(words, 2);
+    let second = name_at(words, 3);
+    if words.len() == 4 && verb == "out" {
+        return out(rt, first, second);
     }
-    if (count == 4) & is_word(verb, b"in") {
-        return in_blank(first, second);
+    if words.len() == 4 && verb == "in" {
+        return in_blank(rt, first, second);
     }
-    if (count == 5) & is_word(verb, b"in") {
-        return in_over(first, second, third);
+    if words.len() == 5 && verb == "in" {
+        return in_over(rt, first, second, name_at(words, 4));
     }
-    say(b"hexfile: `hexfile --help` says how\n");
+    say(rt, "hexfile: `hexfile --help` says how\n");
 }
 
-fn main() {
-    let mut verb = io::buffer();
-    let mut first = io::buffer();
-    let mut second = io::buffer();
-    let mut third = io::buffer();
-    let a = os::arg(1, &mut verb);
-    let b = os::arg(2, &mut first);
-    let c = os::arg(3, &mut second);
-    let d = os::arg(4, &mut third);
-    if is_word(&verb[..a], b"--help") {
-        help();
-        return;
+// A word that is not UTF-8 ends it with an error.
+fn main(rt: HostRuntime) -> io::Result<()> {
+    let words = console::words(&rt)?;
+    if word(&words, 1) == "--help" {
+        return help(&rt);
     }
-    run(
-        os::arg_count(),
-        &verb[..a],
-        &first[..b],
-        &second[..c],
-        &third[..d],
-    );
+    run(&rt, &words);
+    Ok(())
 }

@@ -3,10 +3,12 @@
 // passed. First the M95512, then the M95M01. The gate compares them with the file stdout.
 #![tactic(auto)]
 
-use codes::{M95M01, M95512, WRDI, WREN, head_of, longest_of, page_of, size_of, wide};
+use codes::{M95M01, M95512, WRDI, WREN, head_of, longest_of, page_of, size_of};
+use console::put_number;
 use latch::ROOM;
-use libc::STDOUT_FILENO;
 use pins::Device;
+use std::io;
+use std::io::Write;
 
 // A bit of the frame: D, then a clock.
 fn clocked(device: Device, level: bool, memory: &[u8], identification: &[u8]) -> Device {
@@ -53,26 +55,24 @@ fn sent_in_hold(
     ended.set_hold(true).device
 }
 
-fn put(bytes: &[u8]) {
-    io::write_all(STDOUT_FILENO, bytes);
-}
-
-fn put_number(number: u32) {
-    put(b"\t");
-    io::print_decimal(STDOUT_FILENO, number as u64);
-}
-
 // What the device shows now, and a cell once the cycle is over.
-fn say(what: &[u8], device: Device, cell: usize, memory: &mut [u8], identification: &mut [u8]) {
+fn say(
+    to: &mut impl Write,
+    what: &[u8],
+    device: Device,
+    cell: usize,
+    memory: &mut [u8],
+    identification: &mut [u8],
+) -> io::Result<()> {
     let left = device.core.left;
-    put(what);
-    put_number(device.status().value());
-    put_number(left);
+    to.write_all(what)?;
+    put_number(to, device.status().value() as u64)?;
+    put_number(to, left as u64)?;
     device.read_clock(longest_of(device.core.part), memory, identification);
     if cell < memory.len() {
-        put_number(wide(memory[cell]));
+        put_number(to, memory[cell] as u64)?;
     }
-    put(b"\n");
+    to.write_all(b"\n")
 }
 
 // Cells of the largest memory.
@@ -135,23 +135,43 @@ fn ready(case: Case, memory: &[u8], identification: &[u8]) -> Device {
 }
 
 // One frame in Hold.
-fn held_over(what: &[u8], case: Case, memory: &mut [u8], identification: &mut [u8]) {
+fn held_over(
+    to: &mut impl Write,
+    what: &[u8],
+    case: Case,
+    memory: &mut [u8],
+    identification: &mut [u8],
+) -> io::Result<()> {
     let device = ready(case, memory, identification);
     let next = sent_in_hold(device, case.frame, case.bits, memory, identification);
-    say(what, next, case.cell, memory, identification);
+    say(to, what, next, case.cell, memory, identification)
 }
 
 // The same, from a blank memory of the part's size.
-fn held(what: &[u8], case: Case) {
+fn held(to: &mut impl Write, what: &[u8], case: Case) -> io::Result<()> {
     let size = size_of(case.part);
     let page = page_of(case.part);
     let mut memory = blank();
     let mut identification = blank_page();
-    held_over(what, case, &mut memory[..size], &mut identification[..page]);
+    held_over(
+        to,
+        what,
+        case,
+        &mut memory[..size],
+        &mut identification[..page],
+    )
 }
 
 // Nothing protected, and no cycle.
-fn open(part: u8, what: &[u8], wel: bool, frame: u64, bits: usize, cell: usize) {
+fn open(
+    to: &mut impl Write,
+    part: u8,
+    what: &[u8],
+    wel: bool,
+    frame: u64,
+    bits: usize,
+    cell: usize,
+) -> io::Result<()> {
     let case = Case {
         part: part,
         bp0: false,
@@ -161,11 +181,11 @@ fn open(part: u8, what: &[u8], wel: bool, frame: u64, bits: usize, cell: usize) 
         bits: bits,
         cell: cell,
     };
-    held(what, case);
+    held(to, what, case)
 }
 
 // A WRITE of one byte with BP0: the upper quarter is protected.
-fn guarded(part: u8, what: &[u8], frame: u64, cell: usize) {
+fn guarded(to: &mut impl Write, part: u8, what: &[u8], frame: u64, cell: usize) -> io::Result<()> {
     let case = Case {
         part: part,
         bp0: true,
@@ -175,11 +195,19 @@ fn guarded(part: u8, what: &[u8], frame: u64, cell: usize) {
         bits: write_bits(part),
         cell: cell,
     };
-    held(what, case);
+    held(to, what, case)
 }
 
 // A frame at whose eighth edge the cycle of a WRITE runs: what waits is left alone.
-fn running(part: u8, what: &[u8], write: u64, frame: u64, bits: usize, cell: usize) {
+fn running(
+    to: &mut impl Write,
+    part: u8,
+    what: &[u8],
+    write: u64,
+    frame: u64,
+    bits: usize,
+    cell: usize,
+) -> io::Result<()> {
     let case = Case {
         part: part,
         bp0: false,
@@ -189,92 +217,109 @@ fn running(part: u8, what: &[u8], write: u64, frame: u64, bits: usize, cell: usi
         bits: bits,
         cell: cell,
     };
-    held(what, case);
+    held(to, what, case)
 }
 
 // ---- the M95512: WRITE from 32 bits, a cycle of 5,000
 
-fn writes() {
+fn writes(to: &mut impl Write) -> io::Result<()> {
     let write = 0x0200405a5b5c5d5e;
-    open(M95512, b"WRITE, 32 bits", true, write, 32, 0x40);
-    open(M95512, b"WRITE, 33 bits", true, write, 33, 0x40);
-    open(M95512, b"WRITE, 40 bits", true, write, 40, 0x41);
-    open(M95512, b"WRITE, 57 bits", true, write, 57, 0x40);
-    open(M95512, b"WRITE, 24 bits", true, write, 24, 0x40);
-    open(M95512, b"WRITE without WEL", false, write, 32, 0x40);
+    open(to, M95512, b"WRITE, 32 bits", true, write, 32, 0x40)?;
+    open(to, M95512, b"WRITE, 33 bits", true, write, 33, 0x40)?;
+    open(to, M95512, b"WRITE, 40 bits", true, write, 40, 0x41)?;
+    open(to, M95512, b"WRITE, 57 bits", true, write, 57, 0x40)?;
+    open(to, M95512, b"WRITE, 24 bits", true, write, 24, 0x40)?;
+    open(to, M95512, b"WRITE without WEL", false, write, 32, 0x40)
 }
 
-fn protected_writes() {
+fn protected_writes(to: &mut impl Write) -> io::Result<()> {
     let below = 0x02bfff5a00000000;
     let inside = 0x02c0005a00000000;
-    guarded(M95512, b"WRITE below the block", below, 0xbfff);
-    guarded(M95512, b"WRITE in the block", inside, 0xc000);
+    guarded(to, M95512, b"WRITE below the block", below, 0xbfff)?;
+    guarded(to, M95512, b"WRITE in the block", inside, 0xc000)
 }
 
-fn others() {
-    open(M95512, b"WREN", false, alone(WREN), 8, 0x40);
-    open(M95512, b"WRDI with WEL", true, alone(WRDI), 8, 0x40);
-    open(M95512, b"WRSR with WEL", true, 0x018c000000000000, 16, 0x40);
-    open(M95512, b"READ", true, 0x0300400000000000, 32, 0x40);
+fn others(to: &mut impl Write) -> io::Result<()> {
+    open(to, M95512, b"WREN", false, alone(WREN), 8, 0x40)?;
+    open(to, M95512, b"WRDI with WEL", true, alone(WRDI), 8, 0x40)?;
+    open(
+        to,
+        M95512,
+        b"WRSR with WEL",
+        true,
+        0x018c000000000000,
+        16,
+        0x40,
+    )?;
+    open(to, M95512, b"READ", true, 0x0300400000000000, 32, 0x40)
 }
 
-fn busy() {
+fn busy(to: &mut impl Write) -> io::Result<()> {
     let first = 0x0200401100000000;
     let second = 0x0200401200000000;
-    running(M95512, b"WRITE in a cycle", first, second, 32, 0x40);
+    running(to, M95512, b"WRITE in a cycle", first, second, 32, 0x40)
 }
 
-fn small() {
-    writes();
-    protected_writes();
-    others();
-    busy();
+fn small(to: &mut impl Write) -> io::Result<()> {
+    writes(to)?;
+    protected_writes(to)?;
+    others(to)?;
+    busy(to)
 }
 
 // ---- the M95M01: WRITE from 40 bits, a cycle of 4,000
 
 // Of the first address byte only the lowest bit counts.
-fn large_writes() {
+fn large_writes(to: &mut impl Write) -> io::Result<()> {
     let write = 0x020100405a5b5c5d;
     let same = 0x02ff00405a000000;
-    open(M95M01, b"WRITE, 40 bits", true, write, 40, 0x10040);
-    open(M95M01, b"WRITE, 41 bits", true, write, 41, 0x10040);
-    open(M95M01, b"WRITE, 48 bits", true, write, 48, 0x10041);
-    open(M95M01, b"WRITE, 32 bits", true, write, 32, 0x10040);
-    open(M95M01, b"WRITE without WEL", false, write, 40, 0x10040);
-    open(M95M01, b"WRITE at FF0040h", true, same, 40, 0x10040);
+    open(to, M95M01, b"WRITE, 40 bits", true, write, 40, 0x10040)?;
+    open(to, M95M01, b"WRITE, 41 bits", true, write, 41, 0x10040)?;
+    open(to, M95M01, b"WRITE, 48 bits", true, write, 48, 0x10041)?;
+    open(to, M95M01, b"WRITE, 32 bits", true, write, 32, 0x10040)?;
+    open(to, M95M01, b"WRITE without WEL", false, write, 40, 0x10040)?;
+    open(to, M95M01, b"WRITE at FF0040h", true, same, 40, 0x10040)
 }
 
-fn large_protected_writes() {
+fn large_protected_writes(to: &mut impl Write) -> io::Result<()> {
     let below = 0x02017fff5a000000;
     let inside = 0x020180005a000000;
-    guarded(M95M01, b"WRITE below the block", below, 0x17fff);
-    guarded(M95M01, b"WRITE in the block", inside, 0x18000);
+    guarded(to, M95M01, b"WRITE below the block", below, 0x17fff)?;
+    guarded(to, M95M01, b"WRITE in the block", inside, 0x18000)
 }
 
-fn large_others() {
-    open(M95M01, b"WREN", false, alone(WREN), 8, 0x10040);
-    open(M95M01, b"WRDI with WEL", true, alone(WRDI), 8, 0x10040);
+fn large_others(to: &mut impl Write) -> io::Result<()> {
+    open(to, M95M01, b"WREN", false, alone(WREN), 8, 0x10040)?;
+    open(to, M95M01, b"WRDI with WEL", true, alone(WRDI), 8, 0x10040)
 }
 
 // Hold stops the WRDI too, which this part executes in a cycle.
-fn large_busy() {
+fn large_busy(to: &mut impl Write) -> io::Result<()> {
     let first = 0x0201004011000000;
     let second = 0x0201004012000000;
-    running(M95M01, b"WRITE in a cycle", first, second, 40, 0x10040);
-    running(M95M01, b"WRDI in a cycle", first, alone(WRDI), 8, 0x10040);
+    running(to, M95M01, b"WRITE in a cycle", first, second, 40, 0x10040)?;
+    running(
+        to,
+        M95M01,
+        b"WRDI in a cycle",
+        first,
+        alone(WRDI),
+        8,
+        0x10040,
+    )
 }
 
-fn large() {
-    large_writes();
-    large_protected_writes();
-    large_others();
-    large_busy();
+fn large(to: &mut impl Write) -> io::Result<()> {
+    large_writes(to)?;
+    large_protected_writes(to)?;
+    large_others(to)?;
+    large_busy(to)
 }
 
-fn main() {
-    put(b"frame in Hold\tstatus\ttime left\tcell\n");
-    small();
-    put(b"frame in Hold, M95M01\tstatus\ttime left\tcell\n");
-    large();
+fn main(rt: HostRuntime) -> io::Result<()> {
+    let mut out = io::writer(&rt);
+    out.write_all(b"frame in Hold\tstatus\ttime left\tcell\n")?;
+    small(&mut out)?;
+    out.write_all(b"frame in Hold, M95M01\tstatus\ttime left\tcell\n")?;
+    large(&mut out)
 }

@@ -7,8 +7,11 @@
 ghost use Rattle.std.specs.Prelude.{◌≡◌, ◌≤◌, length};
 
 use codes::{M95M01, M95512, M95512D, page_of, size_of};
-use libc::{STDERR_FILENO, STDIN_FILENO, STDOUT_FILENO};
+use console::{fail, word};
 use player::Player;
+use std::io::Read;
+use std::rt::Files;
+use std::{fs, io};
 
 #[derive(Clone, Copy)]
 struct Turned {
@@ -17,12 +20,14 @@ struct Turned {
 }
 
 // Writes bytes out, or says why it cannot.
-fn put(bytes: &[u8]) -> bool {
-    if io::write_all(STDOUT_FILENO, bytes) {
-        return true;
+fn put<R: Print + Eprint + Alloc>(rt: &R, bytes: &[u8]) -> bool {
+    match rt.write_all(bytes) {
+        Ok(()) => true,
+        Err(error) => {
+            fail(rt, "standard output", error);
+            false
+        }
     }
-    os::fail(b"standard output");
-    false
 }
 
 fn stop(player: Player) -> Turned {
@@ -33,39 +38,42 @@ fn stop(player: Player) -> Turned {
 }
 
 // The end of the text. A read that failed never comes here.
-fn close(player: Player, out: &mut [u8]) {
+fn close<R: Print + Eprint + Alloc>(rt: &R, player: Player, out: &mut [u8]) {
     let fed = trace::finish(player, out);
     let n = fed.written;
-    put(&out[..n]);
+    put(rt, &out[..n]);
 }
 
 // One chunk: it is read, fed and written. An output that takes no more ends the program at once.
-fn turn(
-    fd: i32,
-    name: &[u8],
+fn turn<R: Print + Eprint + Alloc>(
+    rt: &R,
+    from: &mut impl Read,
+    name: &str,
     player: Player,
     memory: &mut [u8],
     identification: &mut [u8],
     text: &mut [u8],
     out: &mut [u8],
 ) -> Turned {
-    let got = libc::read(fd, text);
-    if got < 0 {
-        os::fail(name);
-        return stop(player);
-    }
-    if got == 0 {
-        close(player, out);
-        return stop(player);
-    }
-    let n = io::count(got, text);
-    let fed = trace::feed(player, memory, identification, &text[..n], out);
-    let k = fed.written;
-    let next = fed.player;
-    let more = put(&out[..k]);
-    Turned {
-        player: next,
-        more: more,
+    match from.read(text) {
+        Err(error) => {
+            fail(rt, name, error);
+            stop(player)
+        }
+        Ok(0) => {
+            close(rt, player, out);
+            stop(player)
+        }
+        Ok(n) => {
+            let fed = trace::feed(player, memory, identification, &text[..n], out);
+            let k = fed.written;
+            let next = fed.player;
+            let more = put(rt, &out[..k]);
+            Turned {
+                player: next,
+                more: more,
+            }
+        }
     }
 }
 
@@ -75,39 +83,39 @@ fn chunk() -> [u8; 6551]
     [0; 6551]
 }
 
-// The text chunk by chunk. The turns count down from a number that no run uses up.
-fn turns(
+// The text chunk by chunk. The turns count up to a number that no run reaches.
+fn turns<R: Print + Eprint + Alloc>(
+    rt: &R,
     part: u8,
-    fd: i32,
-    name: &[u8],
+    from: &mut impl Read,
+    name: &str,
     memory: &mut [u8],
     identification: &mut [u8],
     text: &mut [u8],
     out: &mut [u8],
 ) {
     let mut player = player::start(part);
-    let mut left = u64::MAX;
-    while left > 0 {
-        let turned = turn(fd, name, player, memory, identification, text, out);
+    for _ in 0..u64::MAX {
+        let turned = turn(rt, from, name, player, memory, identification, text, out);
         if !turned.more {
             return;
         }
         player = turned.player;
-        left -= 1;
     }
 }
 
 // As many cells are lent as the part has.
-fn play(part: u8, fd: i32, name: &[u8]) {
+fn play<R: Print + Eprint + Alloc>(rt: &R, part: u8, from: &mut impl Read, name: &str) {
     let size = size_of(part);
     let page = page_of(part);
     let mut memory = player::memory();
     let mut identification = player::identification(part);
     let mut text = chunk();
-    let mut out = io::large_buffer();
+    let mut out = console::large_buffer();
     turns(
+        rt,
         part,
-        fd,
+        from,
         name,
         &mut memory[..size],
         &mut identification[..page],
@@ -116,81 +124,95 @@ fn play(part: u8, fd: i32, name: &[u8]) {
     );
 }
 
-fn play_file(part: u8, path: &[u8]) {
-    let fd = os::open_read(path);
-    if fd < 0 {
-        os::fail(path);
-        return;
+fn play_file<R: Files + Print + Eprint + Alloc>(rt: &R, part: u8, path: &str) {
+    match fs::open(rt, path) {
+        Ok(mut file) => play(rt, part, &mut file, path),
+        Err(error) => fail(rt, path, error),
     }
-    play(part, fd, path);
-    libc::close(fd);
 }
 
 // The file that the word at a place names, or standard input where there is no such word.
-fn play_word(part: u8, at: usize) {
-    if os::arg_count() <= at {
-        play(part, STDIN_FILENO, b"standard input");
-        return;
+fn play_word<R: Files + Input + Print + Eprint + Alloc>(
+    rt: &R,
+    part: u8,
+    words: &[String],
+    at: usize,
+) {
+    if words.len() <= at {
+        return play(rt, part, &mut rt.reader(), "standard input");
     }
-    let mut path = io::buffer();
-    let n = os::arg(at, &mut path);
-    if os::errno() != 0 {
-        os::fail(b"the file name");
-        return;
+    let path = word(words, at);
+    if MOST < path.len() {
+        return fail(rt, "the file name", too_long());
     }
-    play_file(part, &path[..n]);
+    play_file(rt, part, path);
 }
 
 // ---- words
 
-fn is_word(at: usize, what: &[u8]) -> bool {
-    let mut word = io::buffer();
-    let n = os::arg(at, &mut word);
-    check::same(&word[..n], what)
+// The longest file name.
+const MOST: usize = 4096;
+
+// ENAMETOOLONG.
+fn too_long() -> io::Error {
+    io::Error::from_raw_os_error(36)
 }
 
-fn say(what: &[u8]) {
-    io::write_all(STDERR_FILENO, what);
+// Where standard error takes no more, nobody is told.
+fn say(rt: &impl Eprint, what: &str) {
+    let _ = rt.eprint(what);
 }
 
 // The word after --part is the part's name, exactly, and the one after that the file's.
-fn play_part() {
-    if is_word(2, b"M95512") {
-        return play_word(M95512, 3);
+fn play_part<R: Files + Input + Print + Eprint + Alloc>(rt: &R, words: &[String]) {
+    match word(words, 2) {
+        "M95512" => play_word(rt, M95512, words, 3),
+        "M95512-D" => play_word(rt, M95512D, words, 3),
+        "M95M01" => play_word(rt, M95M01, words, 3),
+        _ => say(rt, "play: after --part comes M95512, M95512-D or M95M01\n"),
     }
-    if is_word(2, b"M95512-D") {
-        return play_word(M95512D, 3);
-    }
-    if is_word(2, b"M95M01") {
-        return play_word(M95M01, 3);
-    }
-    say(b"play: after --part comes M95512, M95512-D or M95M01\n");
 }
 
-fn help() {
+fn help<R: Print + Eprint + Alloc>(rt: &R) {
     put(
+        rt,
         b"play [FILE]: plays a trace on the pin model of the M95512, from FILE or from standard input.\n",
     );
-    put(b"play --part PART [FILE]: the same on PART, which is M95512, M95512-D or M95M01.\n");
     put(
+        rt,
+        b"play --part PART [FILE]: the same on PART, which is M95512, M95512-D or M95M01.\n",
+    );
+    put(
+        rt,
         b"A line is a name, a tab and a value: S, C, D, W or H with 0 or 1, T with a clock reading.\n",
     );
     put(
+        rt,
         b"The device starts as delivered, cycle length 5000 microseconds (of the M95M01 4000), reading 0.\n",
     );
-    put(b"Put out are a header, then for each line its number and Q after it: 0, 1 or Z.\n");
-    put(b"A bad line is put out as bad, and ends it.\n");
+    put(
+        rt,
+        b"Put out are a header, then for each line its number and Q after it: 0, 1 or Z.\n",
+    );
+    put(rt, b"A bad line is put out as bad, and ends it.\n");
 }
 
-fn main() {
-    if is_word(1, b"--help") {
-        return help();
+fn run<R: Files + Input + Print + Eprint + Alloc>(rt: &R, words: &[String]) {
+    if word(words, 1) == "--help" {
+        return help(rt);
     }
-    if is_word(1, b"--part") {
-        return play_part();
+    if word(words, 1) == "--part" {
+        return play_part(rt, words);
     }
-    if is_word(2, b"--part") {
-        return say(b"play: --part stands before the file\n");
+    if word(words, 2) == "--part" {
+        return say(rt, "play: --part stands before the file\n");
     }
-    play_word(M95512, 1);
+    play_word(rt, M95512, words, 1);
+}
+
+// A word that is not UTF-8 ends it with an error.
+fn main(rt: HostRuntime) -> io::Result<()> {
+    let words = console::words(&rt)?;
+    run(&rt, &words);
+    Ok(())
 }
