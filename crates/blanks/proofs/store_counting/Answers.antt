@@ -14,5 +14,5 @@ returns-clause-value c =
     let before = c.blanks_in-before.ensures in
     let after = c.blanks_in-after.ensures ∙ ap (blanks_in P a.page) e in
     c.held_within.ensures
-          ∙ ap₂ (λ (n k : ℕ). held_within P.size (a.blank + n - k)) after before
-          ∙ page_recounted P a.page a.latch a.memory.now a.blank
+    ∙ ap₂ (λ (n k : ℕ). held_within P.size (a.blank + n - k)) after before
+    ∙ page_recounted P a.page a.latch a.memory.now a.blank

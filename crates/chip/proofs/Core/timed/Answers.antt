@@ -47,7 +47,7 @@ returns-clause-value c =
     let left = c.left_after.ensures ∙ ap (λ (n : ℕ). a.self.left - n) passed in
     let no = c.if-ends.false in
     c.with_time-2.ensures ∙ ap (λ (n : ℕ). with_time a.reading n a.self) left
-          ∙ sym (timed_on (own_part a.self) a.reading a.self a.memory.now (sym over ∙ no))
+    ∙ sym (timed_on (own_part a.self) a.reading a.self a.memory.now (sym over ∙ no))
 
 pub returns-clause-memory_after : goal.returns-clause-memory_after
 unfolding timed timed_blank timed_cells

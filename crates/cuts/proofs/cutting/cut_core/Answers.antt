@@ -16,11 +16,15 @@ returns-then-running c =
     let passed = c.later-over.ensures in
     let cut = c.cut_down-down.ensures in
     let P = own_part a.core in
-    let t = c.timed-next.ensures in record { value = c.with_time.ensures
+    let t = c.timed-next.ensures in record {
+      value = c.with_time.ensures
           ∙ ap (with_time a.core.last 0) (t.value ∙ ap (λ (x : Core). timed_in (own_part x) r x a.memory.now) cut)
-          ∙ cut_core_then a.choice a.core r runs passed P a.memory.now; memory_after = t.memory_after ∙ ap (λ (x : Core). timed_memory (own_part x) r x a.memory.now) cut
-            ∙ cut_cells_then a.choice a.core r runs passed waits_page P a.memory.now; identification_after = t.identification_after ∙ ap (λ (x : Core). timed_identification (own_part x) r x a.identification.now) cut
-            ∙ cut_cells_then a.choice a.core r runs passed waits_identification P a.identification.now }
+          ∙ cut_core_then a.choice a.core r runs passed P a.memory.now;
+      memory_after = t.memory_after ∙ ap (λ (x : Core). timed_memory (own_part x) r x a.memory.now) cut
+          ∙ cut_cells_then a.choice a.core r runs passed waits_page P a.memory.now;
+      identification_after = t.identification_after ∙ ap (λ (x : Core). timed_identification (own_part x) r x a.identification.now) cut
+          ∙ cut_cells_then a.choice a.core r runs passed waits_identification P a.identification.now;
+    }
 
 pub returns : goal.returns
 unfolding cut_core cut_cells cut_blank

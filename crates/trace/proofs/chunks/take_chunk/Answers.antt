@@ -36,5 +36,5 @@ returns-clause-out_after c =
     let small : head.result ≤ 7 = head.ensures.value.1 in
     let fits : length h + length s + length f ≤ length a.out.now = omega (arith, at, end, few, last, head-is, small, pre.3) in
     bad.ensures.out_after ∙ ap (λ (l : List ℕ). put x.new.out x.result.at l) bad-is ∙ ap (λ (l : List ℕ). put l x.result.at f)
-                (x.ensures.1.1.1.1.0 ∙ ap (λ (l : List ℕ). put l head.result s) head.ensures.out_after)
-                ∙ three_puts a.out.now h head.result head-is s f x.result.at at fits
+    (x.ensures.1.1.1.1.0 ∙ ap (λ (l : List ℕ). put l head.result s) head.ensures.out_after)
+    ∙ three_puts a.out.now h head.result head-is s f x.result.at at fits

@@ -36,4 +36,4 @@ returns-clause-out_after c =
     let small : head.result ≤ 7 = head.ensures.value.1 in
     let fits : length h + length f ≤ length a.out.now = omega (arith, end, last, head-is, small, pre.1) in
     bad.ensures.out_after ∙ ap (λ (l : List ℕ). put head.new.out head.result l) bad-is ∙ ap (λ (l : List ℕ). put l head.result f) head.ensures.out_after
-            ∙ two_puts a.out.now h head.result head-is f fits
+    ∙ two_puts a.out.now h head.result head-is f fits

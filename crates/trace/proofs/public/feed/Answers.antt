@@ -37,7 +37,7 @@ returns-then-has_room-clause-as_number c =
     ∙ c.if-has_room.true in
     let x = c.take_chunk in
     feed_done p m n bytes _ _ _ long fits wide
-            (ap (λ (r : Fed). feed_reply_number r.answer) x.ensures.value ∙ answer_number (chunk_player p m a.text.now))
+    (ap (λ (r : Fed). feed_reply_number r.answer) x.ensures.value ∙ answer_number (chunk_player p m a.text.now))
 
 pub returns-then-has_room-clause-memory_after : goal.returns-then-has_room-clause-memory_after
 returns-then-has_room-clause-memory_after c =
