@@ -19,13 +19,6 @@ pub fn word(words: &[String], at: usize) -> &str
     }
 }
 
-// 4,096 zeros.
-pub fn buffer() -> [u8; 4096]
-    ensures { 4096 ≡ length result }
-{
-    [0; 4096]
-}
-
 // 65,536 zeros.
 pub fn large_buffer() -> [u8; 65536]
     ensures { 65536 ≡ length result }

@@ -10,6 +10,6 @@ mod messages;
 #[cfg(test)]
 mod tests;
 
-pub use arguments::{buffer, large_buffer, word, words};
+pub use arguments::{large_buffer, word, words};
 pub use lines::{put_number, say};
 pub use messages::fail;

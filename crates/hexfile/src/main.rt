@@ -4,6 +4,7 @@
 #![tactic(auto)]
 
 ghost use Rattle.std.specs.Prelude.{◌≡◌, ◌≤◌, length};
+ghost use Rattle.std.specs.Char.{IsAsciiAlphanumeric};
 
 use chip::Core;
 use codes::M95512;
@@ -143,7 +144,9 @@ fn fill(file: &mut (impl Write + OpenFile), bytes: &[u8]) -> io::Result<()> {
 }
 
 // A letter or a digit.
-fn letter(byte: u8) -> char {
+fn letter(byte: u8) -> char
+    ensures { IsAsciiAlphanumeric result }
+{
     let n = byte % 62;
     if n < 26 {
         return (b'A' + n) as char;
@@ -172,6 +175,9 @@ fn create<R: Files>(rt: &R, name: &str) -> io::Result<R::File> {
 // How many names are tried, where others have taken them.
 const TRIES: u32 = 238328;
 
+// The system's number for a name that is taken.
+const EEXIST: i32 = 17;
+
 // A new file beside the one of that name, and what it is called.
 fn create_beside<R: Files + RandomSource + Alloc>(
     rt: &R,
@@ -185,7 +191,7 @@ fn create_beside<R: Files + RandomSource + Alloc>(
             Err(error) => return Err(error),
         }
     }
-    Err(Error::from(ErrorKind::AlreadyExists))
+    Err(Error::from_raw_os_error(EEXIST))
 }
 
 // Fills the file, and gives it the name.

@@ -143,7 +143,11 @@ fn play_word<R: Files + Input + Print + Eprint + Alloc>(
     }
     let path = word(words, at);
     if MOST < path.len() {
-        return fail(rt, "the file name", too_long());
+        return fail(
+            rt,
+            "the file name",
+            io::Error::from_raw_os_error(ENAMETOOLONG),
+        );
     }
     play_file(rt, part, path);
 }
@@ -153,10 +157,8 @@ fn play_word<R: Files + Input + Print + Eprint + Alloc>(
 // The longest file name.
 const MOST: usize = 4096;
 
-// ENAMETOOLONG.
-fn too_long() -> io::Error {
-    io::Error::from_raw_os_error(36)
-}
+// The system's number for a name that is too long.
+const ENAMETOOLONG: i32 = 36;
 
 // Where standard error takes no more, nobody is told.
 fn say(rt: &impl Eprint, what: &str) {
