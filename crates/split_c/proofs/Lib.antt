@@ -1,0 +1,2 @@
+-- That each export allows one result.
+pub mod Ones
