@@ -6,7 +6,7 @@
 Takes up to N edits (--each, 2) of each function's body: another literal, a bound one off, another comparison, another operator, a swapped field,
 level, status or refusal, another argument of the same call, another name in scope, the body of another arm, a test turned round. Then takes more, until each public
 function has N (--call, 10) in its code, which is its own body and those of the crate's functions that it calls, or has no more. Each edit is tried
-alone, in a copy of the tree below target/. Prints a line for each edit that the prover accepts (a survivor: it changes nothing, or a promise is too
+alone, in a copy of the tree in a temporary folder. Prints a line for each edit that the prover accepts (a survivor: it changes nothing, or a promise is too
 weak), a line for each public function, and a summary. Needs python3 and rt.
 """
 import os
@@ -15,6 +15,7 @@ import re
 import shutil
 import subprocess
 import sys
+import tempfile
 
 ROOT = os.path.dirname(os.path.dirname(os.path.abspath(__file__)))
 
@@ -110,8 +111,9 @@ def main():
     value = lambda name, default: args[args.index(name) + 1] if name in args else default
     each, call, only, seed = int(value("--each", "2")), int(value("--call", "10")), value("--only", ""), int(value("--seed", "1"))
     pick = random.Random(seed)
-    copy = os.path.join(ROOT, "target", "campaign", crate)
-    shutil.rmtree(copy, ignore_errors=True)
+    # Not below the repository: rt ci stops at a source that crates.txt does not know.
+    room = tempfile.TemporaryDirectory(prefix="campaign-")
+    copy = os.path.join(room.name, "tree")
     shutil.copytree(ROOT, copy, ignore=lambda d, names: [n for n in names if n in (".git", "target", "out")])
     folder = os.path.join(copy, "crates", crate)
     src = os.path.join(folder, "src")
