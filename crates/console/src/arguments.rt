@@ -1,22 +1,13 @@
-// The words that a program was started with, and room for bytes.
-ghost use Rattle.std.specs.Prelude.{◌≡◌, [], length, slice_get, string_bytes, MatchOption};
+// The words that a program was started with, as bytes, and room for bytes.
+ghost use Rattle.std.specs.Prelude.{◌≡◌, ◌≤◌, length};
 
-use std::env::Env;
-use std::{env, io};
+use std::env::{Env, FillError};
 
-// All the words; the first is the program's own name. One that is not UTF-8 is an error.
-pub fn words<R: Env + AllocGlobal>(rt: &R) -> io::Result<Vec<String>> {
-    Ok(env::args(rt)?.collect(rt.alloc())?)
-}
-
-// The word at a place, or an empty one where there is none.
-pub fn word(words: &[String], at: usize) -> &str
-    ensures { MatchOption (slice_get words.now at) (result.now ≡ []) (λ w. result.now ≡ string_bytes w) }
+// Room for a word: 4,096 zeros.
+pub fn buffer() -> [u8; 4096]
+    ensures { 4096 ≡ length result }
 {
-    match words.get(at) {
-        Some(word) => word.as_str(),
-        None => "",
-    }
+    [0; 4096]
 }
 
 // 65,536 zeros.
@@ -24,4 +15,32 @@ pub fn large_buffer() -> [u8; 65536]
     ensures { 65536 ≡ length result }
 {
     [0; 65536]
+}
+
+// Puts the word at a place at the start of room, and answers its length: 0 where there is none, or room is too small.
+pub fn word(rt: &impl Env, at: usize, room: &mut [u8]) -> usize
+    ensures { result ≤ length room.new }
+{
+    match rt.arg(at, room) {
+        Ok(n) => n,
+        Err(_) => 0,
+    }
+}
+
+// The word at a place is that one. One of over 4,096 bytes counts as empty, and so does one that is not there.
+pub fn is_word(rt: &impl Env, at: usize, what: &[u8]) -> bool {
+    let mut room = buffer();
+    let n = word(rt, at, &mut room);
+    &room[..n] == what
+}
+
+// How many words there are, the program's own name among them.
+pub fn count(rt: &impl Env) -> usize {
+    let mut room = [0u8; 1];
+    for at in 0..usize::MAX {
+        if let Err(FillError::NotPresent) = rt.arg(at, &mut room) {
+            return at;
+        }
+    }
+    usize::MAX
 }

@@ -8,8 +8,9 @@ ghost use Rattle.std.specs.Char.{IsAsciiAlphanumeric};
 
 use chip::Core;
 use codes::M95512;
-use console::{fail, word};
+use console::{Tell, fail, file_name, is_word, word};
 use intel_hex::{IMAGE_SIZE, TEXT_SIZE};
+use std::env::Env;
 use std::fs::{OpenFile, OpenOptions, Permissions};
 use std::io::{Error, ErrorKind, Read, Write};
 use std::os::unix::fs::{OpenOptionsExt, PermissionsExt};
@@ -41,16 +42,11 @@ fn blank() -> [u8; IMAGE_SIZE]
 
 // ---- messages
 
-// Where standard error takes no more, nobody is told.
-fn say(rt: &impl Eprint, what: &str) {
-    let _ = rt.eprint(what);
-}
-
 // hexfile: NAME: what is wrong
-fn complain(rt: &impl Eprint, name: &str, what: &str) {
-    say(rt, "hexfile: ");
-    say(rt, name);
-    say(rt, what);
+fn complain(rt: &impl Tell, name: &[u8], what: &[u8]) {
+    rt.tell(b"hexfile: ");
+    rt.tell(name);
+    rt.tell(what);
 }
 
 fn help(rt: &impl Print) -> io::Result<()> {
@@ -75,7 +71,7 @@ fn help(rt: &impl Print) -> io::Result<()> {
 // ---- files
 
 // Nothing is left to read; else says why not: the file is too long, or cannot be read.
-fn at_end<R: Eprint + Alloc>(rt: &R, file: &mut impl Read, name: &str, too_long: &str) -> bool {
+fn at_end(rt: &impl Tell, file: &mut impl Read, name: &[u8], too_long: &[u8]) -> bool {
     let mut one = [0u8; 1];
     match file.read(&mut one) {
         Ok(0) => true,
@@ -106,13 +102,8 @@ fn read_full(file: &mut impl Read, bytes: &mut [u8]) -> usize
 
 // Reads a whole file, and answers how many bytes it has; where it cannot, says why and answers more than there is room
 // for.
-fn read_file<R: Files + Eprint + Alloc>(
-    rt: &R,
-    name: &str,
-    bytes: &mut [u8],
-    too_long: &str,
-) -> usize {
-    match fs::open(rt, name) {
+fn read_file<R: Files + Tell>(rt: &R, name: &[u8], bytes: &mut [u8], too_long: &[u8]) -> usize {
+    match console::open(rt, name) {
         Ok(mut file) => {
             let n = read_full(&mut file, bytes);
             if at_end(rt, &mut file, name, too_long) {
@@ -124,13 +115,13 @@ fn read_file<R: Files + Eprint + Alloc>(
     MOST + 1
 }
 
-fn read_image<R: Files + Eprint + Alloc>(rt: &R, name: &str, image: &mut [u8]) -> bool {
-    let n = read_file(rt, name, image, ": too long: an image has 65,536 bytes\n");
+fn read_image<R: Files + Tell>(rt: &R, name: &[u8], image: &mut [u8]) -> bool {
+    let n = read_file(rt, name, image, b": too long: an image has 65,536 bytes\n");
     if MOST < n {
         return false;
     }
     if n != IMAGE_SIZE {
-        complain(rt, name, ": an image has 65,536 bytes\n");
+        complain(rt, name, b": an image has 65,536 bytes\n");
         return false;
     }
     true
@@ -209,31 +200,34 @@ fn fill_and_rename<R: Files>(
 }
 
 // Writes a new file and gives it the name; where that fails, says why, and the new file is gone again.
-fn put_file<R: Files + RandomSource + Eprint + Alloc>(rt: &R, name: &str, bytes: &[u8]) {
+fn put_file<R: Files + RandomSource + Tell + Alloc>(rt: &R, name: &str, bytes: &[u8]) {
     match create_beside(rt, name) {
         Ok((file, beside)) => {
             if let Err(error) = fill_and_rename(rt, file, beside.as_str(), name, bytes) {
-                fail(rt, name, error);
+                fail(rt, name.as_bytes(), error);
                 let _ = fs::remove_file(rt, beside.as_str());
             }
         }
+        Err(error) => fail(rt, name.as_bytes(), error),
+    }
+}
+
+fn put<R: Files + RandomSource + Print + Tell + Alloc>(rt: &R, name: &[u8], bytes: &[u8]) {
+    if name == b"-".as_slice() {
+        if let Err(error) = rt.write_all(bytes) {
+            fail(rt, b"standard output", error);
+        }
+        return;
+    }
+    match file_name(name) {
+        Ok(text) => put_file(rt, text, bytes),
         Err(error) => fail(rt, name, error),
     }
 }
 
-fn put<R: Files + RandomSource + Print + Eprint + Alloc>(rt: &R, name: &str, bytes: &[u8]) {
-    if name == "-" {
-        if let Err(error) = rt.write_all(bytes) {
-            fail(rt, "standard output", error);
-        }
-        return;
-    }
-    put_file(rt, name, bytes);
-}
-
 // ---- out and in
 
-fn out<R: Files + RandomSource + Print + Eprint + Alloc>(rt: &R, image: &str, text: &str) {
+fn out<R: Files + RandomSource + Print + Tell + Alloc>(rt: &R, image: &[u8], text: &[u8]) {
     let mut memory = blank();
     if !read_image(rt, image, &mut memory) {
         return;
@@ -243,19 +237,19 @@ fn out<R: Files + RandomSource + Print + Eprint + Alloc>(rt: &R, image: &str, te
     put(rt, text, &room);
 }
 
-fn bad(rt: &impl Eprint, name: &str, line: usize) {
-    complain(rt, name, ": line ");
+fn bad(rt: &impl Tell, name: &[u8], line: usize) {
+    complain(rt, name, b": line ");
     let _ = eprint!(rt; "{line}");
-    say(rt, " is bad\n");
+    rt.tell(b" is bad\n");
 }
 
 // The text over the image in memory.
-fn over<R: Files + RandomSource + Print + Eprint + Alloc>(
+fn over<R: Files + RandomSource + Print + Tell + Alloc>(
     rt: &R,
-    name: &str,
+    name: &[u8],
     memory: &mut [u8],
     text: &[u8],
-    image: &str,
+    image: &[u8],
 ) {
     let line = intel_hex::bad_line(text);
     if line != 0 {
@@ -266,34 +260,34 @@ fn over<R: Files + RandomSource + Print + Eprint + Alloc>(
     put(rt, image, memory);
 }
 
-fn read_in<R: Files + RandomSource + Print + Eprint + Alloc>(
+fn read_in<R: Files + RandomSource + Print + Tell + Alloc>(
     rt: &R,
-    name: &str,
+    name: &[u8],
     memory: &mut [u8],
-    image: &str,
+    image: &[u8],
 ) {
     let mut text = text_room();
     let n = read_file(
         rt,
         name,
         &mut text,
-        ": too long: a text has at most 1,048,576 bytes\n",
+        b": too long: a text has at most 1,048,576 bytes\n",
     );
     if n <= MOST {
         over(rt, name, memory, &text[..n], image);
     }
 }
 
-fn in_blank<R: Files + RandomSource + Print + Eprint + Alloc>(rt: &R, text: &str, image: &str) {
+fn in_blank<R: Files + RandomSource + Print + Tell + Alloc>(rt: &R, text: &[u8], image: &[u8]) {
     let mut memory = blank();
     read_in(rt, text, &mut memory, image);
 }
 
-fn in_over<R: Files + RandomSource + Print + Eprint + Alloc>(
+fn in_over<R: Files + RandomSource + Print + Tell + Alloc>(
     rt: &R,
-    text: &str,
-    image: &str,
-    old: &str,
+    text: &[u8],
+    image: &[u8],
+    old: &[u8],
 ) {
     let mut memory = blank();
     if read_image(rt, old, &mut memory) {
@@ -303,34 +297,31 @@ fn in_over<R: Files + RandomSource + Print + Eprint + Alloc>(
 
 // ---- words
 
-// The word at a place; one of over 4,096 bytes counts as empty, and names no file.
-fn name_at(words: &[String], at: usize) -> &str {
-    let name = word(words, at);
-    if name.len() <= 4096 { name } else { "" }
+// A word of over 4,096 bytes counts as empty, and names no file.
+fn run<R: Env + Files + RandomSource + Print + Tell + Alloc>(rt: &R) {
+    let mut first = console::buffer();
+    let mut second = console::buffer();
+    let mut third = console::buffer();
+    let a = word(rt, 2, &mut first);
+    let b = word(rt, 3, &mut second);
+    let c = word(rt, 4, &mut third);
+    let count = console::count(rt);
+    if count == 4 && is_word(rt, 1, b"out") {
+        return out(rt, &first[..a], &second[..b]);
+    }
+    if count == 4 && is_word(rt, 1, b"in") {
+        return in_blank(rt, &first[..a], &second[..b]);
+    }
+    if count == 5 && is_word(rt, 1, b"in") {
+        return in_over(rt, &first[..a], &second[..b], &third[..c]);
+    }
+    rt.tell(b"hexfile: `hexfile --help` says how\n");
 }
 
-fn run<R: Files + RandomSource + Print + Eprint + Alloc>(rt: &R, words: &[String]) {
-    let verb = word(words, 1);
-    let first = name_at(words, 2);
-    let second = name_at(words, 3);
-    if words.len() == 4 && verb == "out" {
-        return out(rt, first, second);
-    }
-    if words.len() == 4 && verb == "in" {
-        return in_blank(rt, first, second);
-    }
-    if words.len() == 5 && verb == "in" {
-        return in_over(rt, first, second, name_at(words, 4));
-    }
-    say(rt, "hexfile: `hexfile --help` says how\n");
-}
-
-// A word that is not UTF-8 ends it with an error.
 fn main(rt: HostRuntime) -> io::Result<()> {
-    let words = console::words(&rt)?;
-    if word(&words, 1) == "--help" {
+    if is_word(&rt, 1, b"--help") {
         return help(&rt);
     }
-    run(&rt, &words);
+    run(&rt);
     Ok(())
 }

@@ -7,11 +7,12 @@
 ghost use Rattle.std.specs.Prelude.{◌≡◌, ◌≤◌, length};
 
 use codes::{M95M01, M95512, M95512D, page_of, size_of};
-use console::{fail, word};
+use console::{Tell, fail, is_word};
 use player::Player;
+use std::env::{Env, FillError};
+use std::io;
 use std::io::Read;
 use std::rt::Files;
-use std::{fs, io};
 
 #[derive(Clone, Copy)]
 struct Turned {
@@ -20,11 +21,11 @@ struct Turned {
 }
 
 // Writes bytes out, or says why it cannot.
-fn put<R: Print + Eprint + Alloc>(rt: &R, bytes: &[u8]) -> bool {
+fn put<R: Print + Tell>(rt: &R, bytes: &[u8]) -> bool {
     match rt.write_all(bytes) {
         Ok(()) => true,
         Err(error) => {
-            fail(rt, "standard output", error);
+            fail(rt, b"standard output", error);
             false
         }
     }
@@ -38,17 +39,17 @@ fn stop(player: Player) -> Turned {
 }
 
 // The end of the text. A read that failed never comes here.
-fn close<R: Print + Eprint + Alloc>(rt: &R, player: Player, out: &mut [u8]) {
+fn close<R: Print + Tell>(rt: &R, player: Player, out: &mut [u8]) {
     let fed = trace::finish(player, out);
     let n = fed.written;
     put(rt, &out[..n]);
 }
 
 // One chunk: it is read, fed and written. An output that takes no more ends the program at once.
-fn turn<R: Print + Eprint + Alloc>(
+fn turn<R: Print + Tell>(
     rt: &R,
     from: &mut impl Read,
-    name: &str,
+    name: &[u8],
     player: Player,
     memory: &mut [u8],
     identification: &mut [u8],
@@ -84,11 +85,11 @@ fn chunk() -> [u8; 6551]
 }
 
 // The text chunk by chunk. The turns count up to a number that no run reaches.
-fn turns<R: Print + Eprint + Alloc>(
+fn turns<R: Print + Tell>(
     rt: &R,
     part: u8,
     from: &mut impl Read,
-    name: &str,
+    name: &[u8],
     memory: &mut [u8],
     identification: &mut [u8],
     text: &mut [u8],
@@ -105,7 +106,7 @@ fn turns<R: Print + Eprint + Alloc>(
 }
 
 // As many cells are lent as the part has.
-fn play<R: Print + Eprint + Alloc>(rt: &R, part: u8, from: &mut impl Read, name: &str) {
+fn play<R: Print + Tell>(rt: &R, part: u8, from: &mut impl Read, name: &[u8]) {
     let size = size_of(part);
     let page = page_of(part);
     let mut memory = player::memory();
@@ -124,58 +125,47 @@ fn play<R: Print + Eprint + Alloc>(rt: &R, part: u8, from: &mut impl Read, name:
     );
 }
 
-fn play_file<R: Files + Print + Eprint + Alloc>(rt: &R, part: u8, path: &str) {
-    match fs::open(rt, path) {
+fn play_file<R: Files + Print + Tell>(rt: &R, part: u8, path: &[u8]) {
+    match console::open(rt, path) {
         Ok(mut file) => play(rt, part, &mut file, path),
         Err(error) => fail(rt, path, error),
     }
 }
 
+// The system's number for a name that is too long.
+const ENAMETOOLONG: i32 = 36;
+
 // The file that the word at a place names, or standard input where there is no such word.
-fn play_word<R: Files + Input + Print + Eprint + Alloc>(
-    rt: &R,
-    part: u8,
-    words: &[String],
-    at: usize,
-) {
-    if words.len() <= at {
-        return play(rt, part, &mut rt.reader(), "standard input");
-    }
-    let path = word(words, at);
-    if MOST < path.len() {
-        return fail(
+fn play_word<R: Env + Files + Input + Print + Tell>(rt: &R, part: u8, at: usize) {
+    let mut path = console::buffer();
+    match rt.arg(at, &mut path) {
+        Ok(n) => play_file(rt, part, &path[..n]),
+        Err(FillError::NotPresent) => play(rt, part, &mut rt.reader(), b"standard input"),
+        Err(FillError::TooLong) => fail(
             rt,
-            "the file name",
+            b"the file name",
             io::Error::from_raw_os_error(ENAMETOOLONG),
-        );
+        ),
     }
-    play_file(rt, part, path);
 }
 
 // ---- words
 
-// The longest file name.
-const MOST: usize = 4096;
-
-// The system's number for a name that is too long.
-const ENAMETOOLONG: i32 = 36;
-
-// Where standard error takes no more, nobody is told.
-fn say(rt: &impl Eprint, what: &str) {
-    let _ = rt.eprint(what);
-}
-
 // The word after --part is the part's name, exactly, and the one after that the file's.
-fn play_part<R: Files + Input + Print + Eprint + Alloc>(rt: &R, words: &[String]) {
-    match word(words, 2) {
-        "M95512" => play_word(rt, M95512, words, 3),
-        "M95512-D" => play_word(rt, M95512D, words, 3),
-        "M95M01" => play_word(rt, M95M01, words, 3),
-        _ => say(rt, "play: after --part comes M95512, M95512-D or M95M01\n"),
+fn play_part<R: Env + Files + Input + Print + Tell>(rt: &R) {
+    if is_word(rt, 2, b"M95512") {
+        return play_word(rt, M95512, 3);
     }
+    if is_word(rt, 2, b"M95512-D") {
+        return play_word(rt, M95512D, 3);
+    }
+    if is_word(rt, 2, b"M95M01") {
+        return play_word(rt, M95M01, 3);
+    }
+    rt.tell(b"play: after --part comes M95512, M95512-D or M95M01\n");
 }
 
-fn help<R: Print + Eprint + Alloc>(rt: &R) {
+fn help<R: Print + Tell>(rt: &R) {
     put(
         rt,
         b"play [FILE]: plays a trace on the pin model of the M95512, from FILE or from standard input.\n",
@@ -199,22 +189,15 @@ fn help<R: Print + Eprint + Alloc>(rt: &R) {
     put(rt, b"A bad line is put out as bad, and ends it.\n");
 }
 
-fn run<R: Files + Input + Print + Eprint + Alloc>(rt: &R, words: &[String]) {
-    if word(words, 1) == "--help" {
-        return help(rt);
+fn main(rt: HostRuntime) {
+    if is_word(&rt, 1, b"--help") {
+        return help(&rt);
     }
-    if word(words, 1) == "--part" {
-        return play_part(rt, words);
+    if is_word(&rt, 1, b"--part") {
+        return play_part(&rt);
     }
-    if word(words, 2) == "--part" {
-        return say(rt, "play: --part stands before the file\n");
+    if is_word(&rt, 2, b"--part") {
+        return rt.tell(b"play: --part stands before the file\n");
     }
-    play_word(rt, M95512, words, 1);
-}
-
-// A word that is not UTF-8 ends it with an error.
-fn main(rt: HostRuntime) -> io::Result<()> {
-    let words = console::words(&rt)?;
-    run(&rt, &words);
-    Ok(())
+    play_word(&rt, M95512, 1);
 }
