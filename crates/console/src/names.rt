@@ -1,5 +1,5 @@
 // Names of files, which are bytes, while std takes text.
-ghost use Rattle.std.specs.Prelude.{◌≡◌, IsUtf8, MatchResult};
+ghost use Rattle.std.specs.Prelude.{◌≡◌, IfOk, IsUtf8, MatchResult};
 
 use std::io::{Error, ErrorKind};
 use std::rt::Files;
@@ -16,7 +16,9 @@ pub fn file_name(name: &[u8]) -> io::Result<&str>
 }
 
 // Opens a file for reading.
-pub fn open<R: Files>(rt: &R, name: &[u8]) -> io::Result<R::File> {
+pub fn open<R: Files>(rt: &R, name: &[u8]) -> io::Result<R::File>
+    ensures { IfOk result (λ _. IsUtf8 name.now) }
+{
     match file_name(name) {
         Ok(text) => fs::open(rt, text),
         Err(error) => Err(error),
