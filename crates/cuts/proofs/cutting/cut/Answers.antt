@@ -12,8 +12,8 @@ use Rattle.chip.proofs.Numbers.{reading_number_law}
 use Rattle.cuts.proofs.Refused.{accepted, refused, unmoved}
 use Rattle.cuts.proofs.cutting.cut.Goals as goal
 
-abbrev timedAs : Outcome → Core → Timed
-timedAs o x = record { outcome = o; core = x }
+abbrev timed_as : Outcome → Core → Timed
+timed_as o x = record { outcome = o; core = x }
 
 pub returns-then-lent_fits-in_ranges : goal.returns-then-lent_fits-in_ranges
 unfolding pick
@@ -35,7 +35,7 @@ returns-clause-value c =
     let o = reading_outcome P a.core a.memory.now a.identification.now in
     let no = refused fit (in_ranges P a.core) MemoryLength RecordRange (sym both ∙ c.if-lent_fits-in_ranges.false) in
     let t = c.clock_reading.ensures in
-    t.value ∙ ap (timedAs o) (unmoved no _ _ _)
+    t.value ∙ ap (timed_as o) (unmoved no _ _ _)
 
 pub returns-clause-memory_after : goal.returns-clause-memory_after
 returns-clause-memory_after c =

@@ -12,9 +12,9 @@ use Rattle.chip.proofs.Touching.{latch_inside, touched_counted, touched_refused}
 use Rattle.pins.proofs.Device.cells_touched.Goals as goal
 
 -- a device inside its ranges holds a core inside its own
-core-fits : (P : Part) (x : Device) → device_fits P x ≡ true → in_ranges P x.core ≡ true
+core_fits : (P : Part) (x : Device) → device_fits P x ≡ true → in_ranges P x.core ≡ true
 unfolding device_fits
-core-fits P x e =
+core_fits P x e =
     and_right (pins_fit x.pins && held_fits x.pins x.held && frame_fits P x.frame && empty_fits x && ran_fits x) (in_ranges P x.core) e
 
 pub returns-then-in_ranges : goal.returns-then-in_ranges
@@ -22,7 +22,7 @@ returns-then-in_ranges c =
     let fits = sym c.in_ranges.ensures ∙ c.if-in_ranges.true in
     let x = c.args.self in
     touched_counted (device_part x) _ x.core c.touched.result fits (sound_of x.core.part)
-    (latch_inside (device_part x) x.core (core-fits (device_part x) x fits)) c.touched.ensures
+    (latch_inside (device_part x) x.core (core_fits (device_part x) x fits)) c.touched.ensures
 
 pub returns : goal.returns
 returns c =
