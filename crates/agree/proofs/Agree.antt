@@ -1,4 +1,5 @@
 -- The two models agree, demand 3: a frame's plan comes to what the frame model says of its bytes, and a drawing to its frames' plans.
+use Rattle.codes.specs.Refusals.{value_of, no_refusal, is_done, Outcome}
 use Prim.Native.Nat.{ℕ, suc, ◌*◌, ◌-◌, ◌/◌, ◌<◌, ◌≤◌}
 use mathlib.Core.Bool.{Bool, true, false, ◌&&◌}
 use mathlib.Core.List.{List, []}
@@ -13,17 +14,14 @@ use Rattle.codes.specs.Part.{Part, part_of}
 use Rattle.codes.specs.Status.{on}
 use Rattle.chip.specs.Cells.{memory_cells, identification_cells}
 use Rattle.chip.specs.Records.{lock_byte}
-use Rattle.codes.specs.Refusals.{is_done}
 use Rattle.chip.specs.Ranges.{in_ranges}
-use Rattle.codes.specs.declared.Outcome.{Outcome}
-use Rattle.codes.specs.declared.Outcome.TheVariants.{Done}
 use Rattle.chip.proofs.Readings.{lent_both}
 use Rattle.chip.proofs.Within.{within, in_ranges_law}
 use Rattle.fields.specs.Bytes.{instruction, address}
 use Rattle.shown.specs.Shown.{byte_out, output, undriven}
 use Rattle.shown.proofs.Padding.{few_unused}
 use Rattle.frames.specs.After.{after}
-use Rattle.frames.specs.Answers.{frame_reply, frame_reply_undriven, framed_output}
+use Rattle.frames.specs.Answers.{frame_reply, framed_output}
 use Rattle.frames.specs.Play.{frame, FrameBench, frame_bench, acted}
 use Rattle.timed_frames.specs.Schedules.{rising, due, passed, bench_at}
 use Rattle.timed_frames.specs.InTime.{loaded_at, ran_in, sights_in, last_of}
@@ -76,7 +74,7 @@ module _ (P : Part) (sound : Sound P) where
     T = course_of o at
 
     -- it is not refused
-    done : (room : ℕ) → room ≡ length s → in_time_outcome P b.core (lent_of b) s n ps ts room ≡ Done
+    done : (room : ℕ) → room ≡ length s → in_time_outcome P b.core (lent_of b) s n ps ts room ≡ no_refusal
     done room e =
         at_yes _ _ (lent_both P _ _ ready.memory ready.identification) ∙ at_yes _ _ (in_ranges_law P b.core ready.within)
         ∙ at_yes _ _ (le-leb _ _ sendable.short)
@@ -132,7 +130,7 @@ module _ (P : Part) (sound : Sound P) where
         let few = few_unused (length s) n sendable.counted in
         ap (seen_of (λ l. l) P is no_frame) from_start
         ∙ plan_levels P sound (readings_at ps ts) at next o s n sendable.bytes few.0
-        ∙ ap₂ levelled (sym (ap (λ (q : Outcome). frame_reply_undriven (frame_reply q (undriven P (instruction P s) (ran_in P ps ts b) n))) (done (length s) refl)))
+        ∙ ap₂ levelled (sym (ap (λ (q : Outcome). value_of (frame_reply q (undriven P (instruction P s) (ran_in P ps ts b) n))) (done (length s) refl)))
         (sym (ap (seen_of as_one P is no_frame) from_start) ∙ frame_seen)
 
     -- at deselect, after all readings

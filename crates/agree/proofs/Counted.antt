@@ -1,5 +1,6 @@
 -- Two frames of one length and one count that agree on the bits that are counted get the same answer, record and output: the bits past the count, which are
 -- in the last byte, change nothing.
+use Rattle.std.specs.Prelude.{Err, Ok}
 use mathlib.Core.Path.{◌≡◌, refl, ap, ap₂, sym, ◌∙◌}
 use mathlib.Core.Bool.{Bool, true, false}
 use mathlib.Core.List.{List, [], ◌∷◌, ◌++◌}
@@ -9,8 +10,7 @@ use lib.ListN.{length, get_or, take, drop}
 use Rattle.laws.specs.Pick.{pick}
 use Rattle.codes.specs.Part.{Part}
 use Rattle.codes.specs.Status.{bit, on, bit_of}
-use Rattle.codes.specs.declared.Outcome.{Outcome}
-use Rattle.codes.specs.declared.Outcome.TheVariants.{Done, Refused}
+use Rattle.codes.specs.Refusals.{Outcome, no_refusal}
 use Rattle.chip.specs.declared.Core.{Core}
 use Rattle.fields.specs.Counts.{bits_fit}
 use Rattle.frames.specs.Answers.{frame_outcome, framed, framed_output}
@@ -82,24 +82,24 @@ module _ (P : Part) (c : Core) (m q : List ℕ) (w : Bool) (n : ℕ) where
   outcome s room = frame_outcome P c (length m) (length q) (length s) n room
 
   refused_same : (s r : List ℕ) (room : ℕ) → length s ≡ length r → (o : Outcome) → outcome s room ≡ o
-      → (o ≡ Done → framed P c m q w s n room ≡ framed P c m q w r n room)
+      → (o ≡ no_refusal → framed P c m q w s n room ≡ framed P c m q w r n room)
       → framed P c m q w s n room ≡ framed P c m q w r n room
   unfolding pick framed
-  refused_same s r room l Done e h = h refl
-  refused_same s r room l (Refused f) e h =
-      let also : outcome r room ≡ Refused f = ap (λ (k : ℕ). frame_outcome P c (length m) (length q) k n room) (sym l) ∙ e in
+  refused_same s r room l (Ok _) e h = h refl
+  refused_same s r room l (Err f) e h =
+      let also : outcome r room ≡ Err f = ap (λ (k : ℕ). frame_outcome P c (length m) (length q) k n room) (sym l) ∙ e in
       rw (e, also) refl
 
   kept_same : (s r out : List ℕ) → length s ≡ length r → (o : Outcome) → outcome s (length out) ≡ o
-      → (o ≡ Done → framed_output P c m q s n out ≡ framed_output P c m q r n out)
+      → (o ≡ no_refusal → framed_output P c m q s n out ≡ framed_output P c m q r n out)
       → framed_output P c m q s n out ≡ framed_output P c m q r n out
   unfolding pick framed_output
-  kept_same s r out l Done e h = h refl
-  kept_same s r out l (Refused f) e h =
-      let also : outcome r (length out) ≡ Refused f = ap (λ (k : ℕ). frame_outcome P c (length m) (length q) k n (length out)) (sym l) ∙ e in
+  kept_same s r out l (Ok _) e h = h refl
+  kept_same s r out l (Err f) e h =
+      let also : outcome r (length out) ≡ Err f = ap (λ (k : ℕ). frame_outcome P c (length m) (length q) k n (length out)) (sym l) ∙ e in
       rw (e, also) refl
 
-  fits : (s : List ℕ) (room : ℕ) → outcome s room ≡ Done → bits_fit (length s) n ≡ true
+  fits : (s : List ℕ) (room : ℕ) → outcome s room ≡ no_refusal → bits_fit (length s) n ≡ true
   fits s room e = (taken P c (length m) (length q) (length s) n room refl e).counted
 
   near : (x : ℕ) (s : List ℕ) (y : ℕ) (r : List ℕ) → length s ≡ length r → Bytes (x ∷ s) → Bytes (y ∷ r) → bits_of (x ∷ s) n ≡ bits_of (y ∷ r) n

@@ -1,10 +1,10 @@
 -- What a bench sees of each model over a list, and demand 3: it sees the same.
+use Rattle.codes.specs.Refusals.{value_of}
 use Rattle.std.specs.Prelude.{ℕ, zero, suc, Bool, true, false, not, ◌&&◌, cond, List, [], ◌∷◌, ◌++◌, map, ◌≡◌, length, replicate}
 use Rattle.laws.specs.Pick.{pick}
 use Rattle.codes.specs.Part.{Part}
 use Rattle.codes.specs.Status.{on}
 use Rattle.chip.specs.Lents.{Lent, lent}
-use Rattle.frames.specs.Answers.{frame_reply_undriven}
 use Rattle.frames.specs.Play.{FrameBench, frame_bench}
 use Rattle.timed_theorems.specs.Acts.{TimedAct, send, reading, cut, cut_bench, acted_in_time}
 use Rattle.cuts.specs.Cuts.{cut_memory, cut_identification}
@@ -105,7 +105,7 @@ levelled (suc u) (b ∷ bs) = Z ∷ levelled u bs
 -- its levels: as many are undriven as the public call answers
 abbrev pub output_levels : Note Level
 output_levels P b w o s n ps ts =
-    levelled (frame_reply_undriven (framed_in_time P b.core (lent_of b) w s n ps ts (length s)).answer)
+    levelled (value_of (framed_in_time P b.core (lent_of b) w s n ps ts (length s)).answer)
     (output_bits P b w o s n ps ts)
 
 -- the bench that a frame leaves is that of the public call too, which does not refuse it: `sent-acted`

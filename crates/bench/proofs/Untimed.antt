@@ -12,7 +12,7 @@ use Rattle.codes.specs.Status.{on}
 use Rattle.chip.specs.Lents.{Lent}
 use Rattle.chip.specs.declared.Core.{Core}
 use Rattle.frames.specs.Answers.{framed, framed_output}
-use Rattle.frames.specs.declared.Framed.{Framed}
+use Rattle.frames.specs.Answers.{Framed}
 use Rattle.timed_frames.specs.declared.Mode.{Mode}
 use Rattle.timed_frames.proofs.Untimed.{untimed, untimed_cells, untimed_output}
 use Rattle.bench.specs.Calls.{bad_level, frame_answer, framed_answer, frame_call, frame_call_output, timed_taken, timed_call, timed_call_memory}

@@ -1,4 +1,5 @@
 -- What each call for C answers, for every number that C may hand over.
+use Rattle.codes.specs.Refusals.{number, value_of}
 use Rattle.std.specs.Prelude.{ℕ, Bool, ◌&&◌, ◌||◌, List, length, eqb, leb}
 use Rattle.laws.specs.Pick.{pick}
 use Rattle.codes.specs.Part.{Part, part_of}
@@ -17,8 +18,8 @@ use Rattle.cuts.specs.Cuts.{cut_answer}
 use Rattle.cuts.specs.declared.Choice.{Choice}
 use Rattle.bench.specs.declared.CoreAnswer.{CoreAnswer}
 use Rattle.bench.specs.declared.LatchAnswer.{LatchAnswer}
-use Rattle.frames.specs.Answers.{framed, framed_output, frame_reply_number, frame_reply_undriven}
-use Rattle.frames.specs.declared.Framed.{Framed}
+use Rattle.frames.specs.Answers.{framed, framed_output}
+use Rattle.frames.specs.Answers.{Framed}
 use Rattle.timed_frames.specs.Answers.{framed_in_time, in_time_left, output_in_time}
 use Rattle.timed_frames.specs.declared.Mode.{Mode}
 use Rattle.timed_frames.specs.declared.Mode.TheVariants.{Zero, Three}
@@ -88,7 +89,7 @@ frame_answer n u c = record { number = n; undriven = u; core = c }
 
 -- what the frame model hands back, as C has it
 abbrev pub framed_answer : Framed → FrameAnswer
-framed_answer r = frame_answer (frame_reply_number r.answer) (frame_reply_undriven r.answer) r.core
+framed_answer r = frame_answer (number r.answer) (value_of r.answer) r.core
 
 abbrev pub frame_call : Part → Core → List ℕ → List ℕ → ℕ → List ℕ → ℕ → ℕ → FrameAnswer
 frame_call P c m d w s n room =

@@ -7,10 +7,9 @@ ghost use Rattle.chip.specs.Ranges.{in_ranges};
 ghost use Rattle.bench.specs.Calls.{power_up_call, reading_call, in_ranges_call, status_call, lowest_protected_call};
 ghost use Rattle.bench.specs.Calls.{bad_flag, protected_call, touched_call};
 
-use crate::values::valued;
 use crate::{CoreAnswer, Value};
 use chip::Core;
-use codes::{size_of, wide};
+use codes::{Refusal, size_of};
 
 // What a lock or a flag of 2 gets at power-up, with a memory of this length: 1 for another length than the part's, else
 // 2.
@@ -39,7 +38,7 @@ pub fn cartvesper_power_up(
     ensures { result ≡ power_up_call part lock cycle srwd bp1 bp0 reading memory.now }
 {
     if (lock <= 1) & (srwd <= 1) & (bp1 <= 1) & (bp0 <= 1) {
-        let powered = chip::power_up(
+        return CoreAnswer::from(chip::power_up(
             part,
             lock == 1,
             cycle,
@@ -48,13 +47,7 @@ pub fn cartvesper_power_up(
             bp0 == 1,
             reading,
             memory,
-        );
-        let outcome = powered.outcome;
-        let core = powered.core;
-        return CoreAnswer {
-            number: outcome.number(),
-            core: core,
-        };
+        ));
     }
     CoreAnswer {
         number: bad_flag(part, memory.len()),
@@ -76,13 +69,7 @@ pub fn cartvesper_clock_reading(
     ensures identification_after { identification.new
         ≡ clock_identification (own_part core) reading core memory.old identification.old }
 {
-    let timed = chip::clock_reading(core, reading, memory, identification);
-    let outcome = timed.outcome;
-    let next = timed.core;
-    CoreAnswer {
-        number: outcome.number(),
-        core: next,
-    }
+    CoreAnswer::from(chip::clock_reading(core, reading, memory, identification))
 }
 
 // Value 1 for a record inside its ranges; refusal 2 for one outside them.
@@ -90,9 +77,9 @@ pub fn cartvesper_core_in_ranges(core: Core) -> Value
     ensures { result ≡ in_ranges_call (own_part core) core }
 {
     if core.in_ranges() {
-        return valued(0, 1);
+        return Value::from(Ok(1));
     }
-    valued(2, 0)
+    Value::from(Err(Refusal::RecordRange))
 }
 
 // The status byte. Refusal 2.
@@ -100,31 +87,31 @@ pub fn cartvesper_core_status(core: Core) -> Value
     ensures { result ≡ status_call (own_part core) core }
 {
     if core.in_ranges() {
-        return valued(0, wide(core.status()));
+        return Value::from(Ok(u32::from(core.status())));
     }
-    valued(2, 0)
+    Value::from(Err(Refusal::RecordRange))
 }
 
 // The lowest protected address, the memory's size for none. Refusal 2.
 pub fn cartvesper_core_lowest_protected(core: Core) -> Value
     ensures { result ≡ lowest_protected_call (own_part core) core }
 {
-    let answer = core.protected_from();
-    valued(answer.number(), answer.value())
+    Value::from(core.protected_from())
 }
 
 // How many cells the running cycle will touch, 0 where no latched bytes wait. Refusal 2.
 pub fn cartvesper_core_touched(core: Core) -> Value
     ensures { result ≡ touched_call (own_part core) (in_ranges (own_part core) core) core }
 {
-    let answer = core.cells_touched();
-    valued(answer.number(), answer.value())
+    Value::from(core.cells_touched())
 }
 
 // Value 1 where the address is protected. Refusals 2, then 7.
 pub fn cartvesper_core_protected(core: Core, address: u32) -> Value
     ensures { result ≡ protected_call (own_part core) core address }
 {
-    let answer = core.protection(address);
-    valued(answer.number(), answer.value())
+    Value::from(
+        core.protection(address)
+            .map(|protected| u32::from(protected)),
+    )
 }

@@ -7,7 +7,6 @@ ghost use Rattle.pins.specs.Devices.{device_part};
 ghost use Rattle.pins.specs.Answers.{answer_memory, memory_outcome};
 ghost use Rattle.bench.specs.Calls.{cut_call, device_cut_call};
 
-use crate::device_calls::answered;
 use crate::{CoreAnswer, DeviceAnswer};
 use chip::Core;
 use cuts::Choice;
@@ -27,13 +26,7 @@ pub fn cartvesper_cut(
     ensures identification_after { identification.new
         ≡ cut_identification_answer (own_part core) choice core memory.old identification.old }
 {
-    let timed = cuts::cut(core, choice, memory, identification);
-    let outcome = timed.outcome;
-    let next = timed.core;
-    CoreAnswer {
-        number: outcome.number(),
-        core: next,
-    }
+    CoreAnswer::from(cuts::cut(core, choice, memory, identification))
 }
 
 // The cut of a device, whose pins are at rest then. Refusals 1, 2.
@@ -55,5 +48,5 @@ pub fn cartvesper_device_cut(
         (cut_identification (device_part device) choice device.core identification.old)
         identification.old }
 {
-    answered(device.cut(choice, memory, identification))
+    DeviceAnswer::from(device.cut(choice, memory, identification))
 }

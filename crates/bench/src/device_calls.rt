@@ -1,10 +1,10 @@
 // The pin model's device for C: power-up, one call for each kind of event, what a device shows, and a list of events
 // at once.
+ghost use Rattle.codes.specs.Refusals.{number};
 ghost use Rattle.std.specs.Prelude.{◌≡◌};
 ghost use Rattle.codes.specs.Part.{part_of};
 ghost use Rattle.pins.specs.Devices.{device_part};
 ghost use Rattle.codes.specs.Status.{on};
-ghost use Rattle.codes.specs.Refusals.{number};
 ghost use Rattle.chip.specs.Lents.{lent};
 ghost use Rattle.chip.specs.Time.{timed_memory, timed_identification};
 ghost use Rattle.pins.specs.Events.{on_s, on_c, on_d, on_w, on_hold};
@@ -16,30 +16,15 @@ ghost use Rattle.bench.specs.Calls.{device_reading_call};
 ghost use Rattle.bench.specs.Calls.{q_call, device_status_call, device_in_ranges_call, play_call, touched_call};
 
 use crate::core_calls::bad_flag;
-use crate::values::valued;
 use crate::{DeviceAnswer, Value};
 use chip::{Core, lent_fits};
-use pins::{Device, Stepped};
-
-// An answer as C has it.
-pub(crate) fn answered(stepped: Stepped) -> DeviceAnswer
-    ensures { result ≡ device_answer (number stepped.outcome) stepped.device }
-{
-    let outcome = stepped.outcome;
-    let device = stepped.device;
-    DeviceAnswer {
-        number: outcome.number(),
-        device: device,
-    }
-}
+use codes::Refusal;
+use pins::Device;
 
 fn refused(number: u32, device: Device) -> DeviceAnswer
     ensures { result ≡ device_answer number device }
 {
-    DeviceAnswer {
-        number: number,
-        device: device,
-    }
+    DeviceAnswer { number, device }
 }
 
 // Power-up, at rest: the blank cells of the memory are counted. Refusal 1 for a memory that is not as long as the part
@@ -58,7 +43,7 @@ pub fn cartvesper_device_power_up(
     ensures { result ≡ device_power_up_call part lock cycle srwd bp1 bp0 reading memory.now }
 {
     if (lock <= 1) & (srwd <= 1) & (bp1 <= 1) & (bp0 <= 1) {
-        return answered(pins::power_up(
+        return DeviceAnswer::from(pins::power_up(
             part,
             lock == 1,
             cycle,
@@ -75,12 +60,15 @@ pub fn cartvesper_device_power_up(
     )
 }
 
+// The four pins that need no memory are four calls, since C has four names; a closure for them would be as long as
+// each.
+
 // S to a level. Refusal 2 for a level that is not 0 or 1, or a device outside its ranges.
 pub fn cartvesper_device_set_s(device: Device, level: u8) -> DeviceAnswer
     ensures { result ≡ pin_call (device_part device) level (on_s (device_part device) (on level) device) device }
 {
     if level <= 1 {
-        return answered(device.set_s(level == 1));
+        return DeviceAnswer::from(device.set_s(level == 1));
     }
     refused(2, device)
 }
@@ -90,7 +78,7 @@ pub fn cartvesper_device_set_d(device: Device, level: u8) -> DeviceAnswer
     ensures { result ≡ pin_call (device_part device) level (on_d (on level) device) device }
 {
     if level <= 1 {
-        return answered(device.set_d(level == 1));
+        return DeviceAnswer::from(device.set_d(level == 1));
     }
     refused(2, device)
 }
@@ -100,7 +88,7 @@ pub fn cartvesper_device_set_w(device: Device, level: u8) -> DeviceAnswer
     ensures { result ≡ pin_call (device_part device) level (on_w (on level) device) device }
 {
     if level <= 1 {
-        return answered(device.set_w(level == 1));
+        return DeviceAnswer::from(device.set_w(level == 1));
     }
     refused(2, device)
 }
@@ -110,7 +98,7 @@ pub fn cartvesper_device_set_hold(device: Device, level: u8) -> DeviceAnswer
     ensures { result ≡ pin_call (device_part device) level (on_hold (on level) device) device }
 {
     if level <= 1 {
-        return answered(device.set_hold(level == 1));
+        return DeviceAnswer::from(device.set_hold(level == 1));
     }
     refused(2, device)
 }
@@ -138,7 +126,7 @@ pub fn cartvesper_device_set_c(
         device (lent memory.now identification.now) }
 {
     if level <= 1 {
-        return answered(device.set_c(level == 1, memory, identification));
+        return DeviceAnswer::from(device.set_c(level == 1, memory, identification));
     }
     refused(
         bad_level(device.core.part, memory.len(), identification.len()),
@@ -165,7 +153,7 @@ pub fn cartvesper_device_read_clock(
         (timed_identification (device_part device) reading device.core identification.old)
         identification.old }
 {
-    answered(device.read_clock(reading, memory, identification))
+    DeviceAnswer::from(device.read_clock(reading, memory, identification))
 }
 
 // Value 1 for a device inside its ranges; refusal 2 for one outside them.
@@ -173,33 +161,30 @@ pub fn cartvesper_device_in_ranges(device: Device) -> Value
     ensures { result ≡ device_in_ranges_call (device_part device) device }
 {
     if device.in_ranges() {
-        return valued(0, 1);
+        return Value::from(Ok(1));
     }
-    valued(2, 0)
+    Value::from(Err(Refusal::RecordRange))
 }
 
 // What Q shows: value 0, 1, or 2 for Z. Refusal 2.
 pub fn cartvesper_device_q(device: Device) -> Value
     ensures { result ≡ q_call (device_part device) device }
 {
-    let answer = device.q();
-    valued(answer.number(), answer.value())
+    Value::from(device.q().map(|level| u32::from(level.number())))
 }
 
 // The status byte. Refusal 2.
 pub fn cartvesper_device_status(device: Device) -> Value
     ensures { result ≡ device_status_call (device_part device) device }
 {
-    let answer = device.status();
-    valued(answer.number(), answer.value())
+    Value::from(device.status().map(|byte| u32::from(byte)))
 }
 
 // How many cells the running cycle will touch, 0 where no latched bytes wait. Refusal 2.
 pub fn cartvesper_device_touched(device: Device) -> Value
     ensures { result ≡ touched_call (device_part device) (device_fits (device_part device) device) device.core }
 {
-    let answer = device.cells_touched();
-    valued(answer.number(), answer.value())
+    Value::from(device.cells_touched())
 }
 
 // A list of events, each a number, and Q after each in the output. Refusals 1, 2, 5.
@@ -219,5 +204,5 @@ pub fn cartvesper_device_play(
     ensures out_after { out.new ≡ play_output (device_part device) device
         (lent memory.old identification.old) events.now out.old }
 {
-    answered(lists::play(device, memory, identification, events, out))
+    DeviceAnswer::from(lists::play(device, memory, identification, events, out))
 }

@@ -27,7 +27,7 @@ pub fn cartvesper_write(
         ≡ driven_identification (own_part core) core memory.old identification.old address
         bytes.now interval limit }
 {
-    let written = driver::write(
+    DriverAnswer::from(driver::write(
         core,
         memory,
         identification,
@@ -35,13 +35,5 @@ pub fn cartvesper_write(
         bytes,
         interval,
         limit,
-    );
-    let answer = written.answer;
-    let next = written.core;
-    DriverAnswer {
-        number: answer.number(),
-        pages: answer.pages(),
-        frames: answer.frames(),
-        core: next,
-    }
+    ))
 }

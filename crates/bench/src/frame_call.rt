@@ -25,18 +25,19 @@ pub fn cartvesper_frame(
         bits out.old }
 {
     if w <= 1 {
-        let framed = frames::frame(core, memory, identification, w == 1, bytes, bits, out);
-        let answer = framed.answer;
-        let next = framed.core;
-        return FrameAnswer {
-            number: answer.number(),
-            undriven: answer.undriven() as u64,
-            core: next,
-        };
+        return FrameAnswer::from(frames::frame(
+            core,
+            memory,
+            identification,
+            w == 1,
+            bytes,
+            bits,
+            out,
+        ));
     }
     FrameAnswer {
         number: bad_level(core.part, memory.len(), identification.len()),
         undriven: 0,
-        core: core,
+        core,
     }
 }

@@ -9,11 +9,5 @@ use latch::Latch;
 pub fn cartvesper_lay(earlier: Latch, later: Latch) -> LatchAnswer
     ensures { result ≡ lay_call earlier later }
 {
-    let laid = laying::lay(earlier, later);
-    let outcome = laid.outcome;
-    let latch = laid.latch;
-    LatchAnswer {
-        number: outcome.number(),
-        latch: latch,
-    }
+    LatchAnswer::from(laying::lay(earlier, later))
 }

@@ -10,7 +10,8 @@ use crate::device_calls::bad_level;
 use chip::Core;
 use timed_frames::Mode;
 
-// The mode of a number that is 0 or 3.
+// The mode of a number that is 0 or 3. No TryFrom: the call tests the number together with the level of W, for refusal
+// 2.
 fn mode_of(mode: u8) -> Mode
     ensures { result ≡ mode_of mode }
 {
@@ -49,17 +50,7 @@ pub fn cartvesper_timed_frame(
         bytes.now bits positions.now readings.now out.old }
 {
     if (w <= 1) & ((mode == 0) | (mode == 3)) {
-        if (positions.len() == 0) & (readings.len() == 0) {
-            let framed = frames::frame(core, memory, identification, w == 1, bytes, bits, out);
-            let answer = framed.answer;
-            let next = framed.core;
-            return FrameAnswer {
-                number: answer.number(),
-                undriven: answer.undriven() as u64,
-                core: next,
-            };
-        }
-        let framed = timed_frames::timed_frame(
+        return FrameAnswer::from(timed_frames::timed_frame(
             core,
             memory,
             identification,
@@ -70,18 +61,11 @@ pub fn cartvesper_timed_frame(
             positions,
             readings,
             out,
-        );
-        let answer = framed.answer;
-        let next = framed.core;
-        return FrameAnswer {
-            number: answer.number(),
-            undriven: answer.undriven() as u64,
-            core: next,
-        };
+        ));
     }
     FrameAnswer {
         number: bad_level(core.part, memory.len(), identification.len()),
         undriven: 0,
-        core: core,
+        core,
     }
 }

@@ -1,8 +1,8 @@
 -- The number of blank cells as a scan gives it: how a change of the memory moves it, that a page write moves it by the cells of its page, and that the
 -- right number moves to the right one.
-use mathlib.Core.Path.{◌≡◌, refl, ap, sym, ◌∙◌}
+use mathlib.Core.Path.{◌≡◌, refl, ap, ap₂, sym, ◌∙◌}
 use mathlib.Core.List.{List}
-use Prim.Native.Nat.{ℕ, ◌+◌, ◌-◌, ◌*◌, ◌<◌, ◌≤◌}
+use Prim.Native.Nat.{ℕ, zero, suc, min, ◌+◌, ◌-◌, ◌*◌, ◌<◌, ◌≤◌}
 use native.Mathlib.Decide.{dec_le}
 use native.Mathlib.Omega.{arith}
 use lib.ListN.{length, take, drop, get_or, replicate, length-drop, length-replicate, get_or-replicate}
@@ -10,6 +10,11 @@ use lib.Seq.{length-take-le, get_or-take, get_or-drop}
 use lib.Dec.{eqb, leb}
 use borrow.Author.Tests.{le-leb, lt-leb, leb-true, eq-eqb}
 use Rattle.laws.specs.Pick.{pick_case, at_yes, at_no}
+use mir.Val.{bool_byte}
+use Rattle.std.proofs.Common.{take_all}
+use Rattle.std.proofs.lemmas.List.Sums.{sum_by_more}
+use Rattle.std.specs.List.{sum_by}
+use Rattle.laws.specs.Flags.{byte_bit}
 use Rattle.laws.specs.Count.{count, count_add, count_cong, count_le, count_all, count_exchange}
 use Rattle.codes.specs.Part.{Part, room_cells}
 use Rattle.latch.specs.Latches.{stored, stored_at}
@@ -31,7 +36,31 @@ all_blank n =
     ap (count (blank_at (replicate n 0xff))) (length-replicate {A = ℕ} n 0xff)
     ∙ count_all (blank_at (replicate n 0xff)) n (λ i h. eq-eqb _ _ (get_or-replicate {A = ℕ} n i 0xff 0 h))
 
+-- ---- the scan as an iterator's sum
+
+-- what a cell adds
+abbrev pub as_one : ℕ → ℕ
+as_one x = bool_byte (eqb x 0xff)
+
+first_ones : (n : ℕ) (m : List ℕ) → n ≤ length m → sum_by as_one (take n m) ≡ count (blank_at m) n
+unfolding count
+first_ones zero m h = refl
+first_ones (suc n) m h =
+    let next : suc n ≡ n + 1 = omega arith in
+    ap (λ (k : ℕ). sum_by as_one (take k m)) next
+    ∙ sum_by_more as_one m n 0 (omega arith)
+    ∙ ap₂ ◌+◌ (first_ones n m (omega arith)) (byte_bit (blank_at m n))
+
+pub blanks_sum : (m : List ℕ) → sum_by as_one m ≡ blanks m
+blanks_sum m = sym (ap (sum_by as_one) (take_all (length m) m (omega arith))) ∙ first_ones (length m) m (omega arith)
+
 -- ---- held within the size
+
+pub held_min : (size n : ℕ) → min n size ≡ held_within size n
+held_min size n = elim (dec_le n size) [
+  | yes h ↦ let e : min n size ≡ n = omega arith in e ∙ sym (at_yes n size (le-leb n size h))
+  | no h ↦ let e : min n size ≡ size = omega arith in e ∙ sym (at_no n size (lt-leb n size (omega arith)))
+]
 
 pub held_most : (size n : ℕ) → held_within size n ≤ size
 held_most size n = pick_case (λ (x : ℕ). x ≤ size) (leb n size) (leb-true n size) (λ e. omega arith)

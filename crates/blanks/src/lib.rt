@@ -11,41 +11,12 @@ ghost use Rattle.blanks.specs.Blanks.{blanks, blanks_in, blanks_of, held_within,
 use codes::{LARGE_SIZE, page_of, size_of};
 use latch::Latch;
 
-// So many cells are counted in a byte.
-const FEW: usize = 128;
-
-// The blank cells among a few. A byte counts them, so that the processor looks at many at once.
-fn few(cells: &[u8]) -> u8
-    requires { length cells.now ≤ 128 }
-    ensures { result ≡ blanks cells.now }
-{
-    let mut n: u8 = 0;
-    for i in 0..cells.len() {
-        n += (cells[i] == 255) as u8;
-    }
-    n
-}
-
-// A few of the cells that are left.
-fn few_of(left: usize) -> usize
-    ensures { (result ≤ left) × (result ≤ 128) × (1 ≤ left → 1 ≤ result) }
-{
-    if left < FEW { left } else { FEW }
-}
-
 // The blank cells among all that are lent.
 fn scan(cells: &[u8]) -> u32
     requires { length cells.now ≤ room_cells }
     ensures { result ≡ blanks cells.now }
 {
-    let mut n: u32 = 0;
-    let mut at: usize = 0;
-    while at < cells.len() {
-        let end = at + few_of(cells.len() - at);
-        n += few(&cells[at..end]) as u32;
-        at = end;
-    }
-    n
+    cells.iter().map(|cell| u32::from(*cell == 255)).sum()
 }
 
 // The blank cells of a memory; none of one that is larger than any part's.
@@ -65,26 +36,18 @@ fn blanks_in(part: u8, page: u32, memory: &[u8]) -> u32
     let cells = page_of(part);
     let start = page as usize * cells;
     let end = start + cells;
-    if end <= memory.len() {
-        return scan(&memory[start..end]);
+    match memory.get(start..end) {
+        Some(cells) => scan(cells),
+        None => 0,
     }
-    0
 }
 
 // The number once so many blank cells came and so many went: not below 0, and at most the memory's size.
 fn held_within(part: u8, blank: u32, came: u32, went: u32) -> u32
     ensures { result ≡ held_within (part_of part).size (blank + came - went) }
 {
-    let size = size_of(part) as u64;
-    let sum = blank as u64 + came as u64;
-    if sum < went as u64 {
-        return 0;
-    }
-    let rest = sum - went as u64;
-    if rest <= size {
-        return rest as u32;
-    }
-    size as u32
+    let rest = (u64::from(blank) + u64::from(came)).saturating_sub(u64::from(went));
+    rest.min(size_of(part) as u64) as u32
 }
 
 // Stores a page write, and answers the number of blank cells then: it was `blank` before. Only the page's cells are

@@ -1,9 +1,9 @@
 // Cases of the number of blank cells, those that hold FFh: at delivery, at power-up, at the end of a page cycle, of a
 // number that was wrong before, and of one that is above the memory's size.
-use crate::boards::{Board, Memory, after, blanks, counted, first, over, passed, zeros};
+use crate::boards::{Board, Memory, blanks, zeros};
 use crate::{powered, say};
 use chip::{Core, power_up};
-use codes::{LARGE_SIZE, M95M01, M95512, M95512D, longest_of, wide};
+use codes::{LARGE_SIZE, M95M01, M95512, M95512D, Numbered, WREN, WRID, WRITE, WRSR, longest_of};
 use std::io;
 use std::io::Write;
 
@@ -32,12 +32,10 @@ fn power(
     memory: Memory,
     size: usize,
 ) -> io::Result<()> {
-    let n = first(size, LARGE_SIZE);
+    let n = size.min(LARGE_SIZE);
     let p = power_up(part, true, cycle, true, true, true, 7, &memory[..n]);
-    let outcome = p.outcome;
-    let core = p.core;
-    say(to, what, outcome.number())?;
-    say(to, b"  blank cells", core.blank)
+    say(to, what, p.answer.number())?;
+    say(to, b"  blank cells", p.core.blank)
 }
 
 // FFh but for the first and the last cell of the M95512, and one between.
@@ -94,37 +92,34 @@ fn powers_refused(to: &mut impl Write) -> io::Result<()> {
 // A part over its memory, nothing protected.
 fn board(part: u8, memory: Memory) -> Board {
     let p = powered(memory, part, longest_of(part), false, false, false, 0);
-    over(p.core, memory)
+    Board::over(p.core, memory)
 }
 
 // WREN, then a frame that begins a cycle.
-fn begun(board: Board, number: u64, bits: usize) -> Board {
-    after(after(board, 0x06, 8), number, bits)
+fn begun(board: Board, bytes: &[u8]) -> Board {
+    board.after(&[WREN]).after(bytes)
 }
 
 // The end of the cycle that runs.
-fn ended(board: Board) -> Board {
-    let core = board.core;
-    let reading = std::num::wrapping_add_u32(core.last, core.left);
-    passed(board, reading).board
+fn ended(mut board: Board) -> Board {
+    let reading = board.core.last.wrapping_add(board.core.left);
+    board.read(reading);
+    board
 }
 
 // A frame that begins a cycle, and the number once it is over.
-fn write(
-    to: &mut impl Write,
-    what: &[u8],
-    board: Board,
-    number: u64,
-    bits: usize,
-) -> io::Result<Board> {
-    let next = ended(begun(board, number, bits));
+fn write(to: &mut impl Write, what: &[u8], board: Board, bytes: &[u8]) -> io::Result<Board> {
+    let next = ended(begun(board, bytes));
     say(to, what, next.core.blank)?;
     Ok(next)
 }
 
 // The number moves at the end of the cycle, not at its start.
 fn first_write(to: &mut impl Write) -> io::Result<Board> {
-    let busy = begun(board(M95512, small()), 0x0200021122ff33, 56);
+    let busy = begun(
+        board(M95512, small()),
+        &[WRITE, 0, 0x02, 0x11, 0x22, 0xff, 0x33],
+    );
     say(
         to,
         b"blank: 11h 22h FFh 33h at 2, in the cycle",
@@ -138,66 +133,77 @@ fn first_write(to: &mut impl Write) -> io::Result<Board> {
 // From three cells not FFh: 0, 128 and 65535.
 fn small_cycles(to: &mut impl Write) -> io::Result<()> {
     let mut board = first_write(to)?;
-    board = write(to, b"blank: FFh FFh at 2", board, 0x020002ffff, 40)?;
+    board = write(
+        to,
+        b"blank: FFh FFh at 2",
+        board,
+        &[WRITE, 0, 0x02, 0xff, 0xff],
+    )?;
     board = write(
         to,
         b"blank: 00h FFh at 0, as the cells are",
         board,
-        0x02000000ff,
-        40,
+        &[WRITE, 0, 0, 0, 0xff],
     )?;
-    board = write(to, b"blank: 44h at 5, 33h before", board, 0x02000544, 32)?;
+    board = write(
+        to,
+        b"blank: 44h at 5, 33h before",
+        board,
+        &[WRITE, 0, 0x05, 0x44],
+    )?;
     board = write(
         to,
         b"blank: FFh 55h 55h FFh at 0",
         board,
-        0x020000ff5555ff,
-        56,
+        &[WRITE, 0, 0, 0xff, 0x55, 0x55, 0xff],
     )?;
     board = write(
         to,
         b"blank: 66h 66h at 127, on to 0",
         board,
-        0x02007f6666,
-        40,
+        &[WRITE, 0, 0x7f, 0x66, 0x66],
     )?;
-    board = write(to, b"blank: FFh at 65535", board, 0x02ffffff, 32)?;
-    board = write(to, b"blank: WRSR", board, 0x0100, 16)?;
-    say(to, b"blank: counted afresh", counted(board))
+    board = write(
+        to,
+        b"blank: FFh at 65535",
+        board,
+        &[WRITE, 0xff, 0xff, 0xff],
+    )?;
+    board = write(to, b"blank: WRSR", board, &[WRSR, 0])?;
+    say(to, b"blank: counted afresh", board.counted())
 }
 
 // The M95M01: pages of 256 cells. From three cells not FFh: 65535, 65536 and 131071.
 fn large_cycles(to: &mut impl Write) -> io::Result<()> {
     let mut board = board(M95M01, large(0));
     let below = b"blank: M95M01, FFh 00h at FFFFh, on to FF00h";
-    board = write(to, below, board, 0x0200ffffff00, 48)?;
+    board = write(to, below, board, &[WRITE, 0, 0xff, 0xff, 0xff, 0])?;
     board = write(
         to,
         b"blank: M95M01, FFh FFh at 10000h",
         board,
-        0x02010000ffff,
-        48,
+        &[WRITE, 0x01, 0, 0, 0xff, 0xff],
     )?;
     let last = b"blank: M95M01, 77h 77h at 1FFFFh, on to 1FF00h";
-    board = write(to, last, board, 0x0201ffff7777, 48)?;
-    say(to, b"blank: M95M01, counted afresh", counted(board))
+    board = write(to, last, board, &[WRITE, 0x01, 0xff, 0xff, 0x77, 0x77])?;
+    say(to, b"blank: M95M01, counted afresh", board.counted())
 }
 
 // The identification page is not counted.
 fn identification_cycle(to: &mut impl Write) -> io::Result<()> {
     let what = b"blank: M95512-D, 5Ah in the identification page";
-    let next = write(to, what, board(M95512D, blanks()), 0x8200005a, 32)?;
-    let page = next.page;
-    say(to, b"  its cell 0", wide(page[0]))
+    let next = write(to, what, board(M95512D, blanks()), &[WRID, 0, 0, 0x5a])?;
+    say(to, b"  its cell 0", next.page[0])
 }
 
 // ---- wrong numbers
 
 // A part as delivered but for the number.
 fn with_blank(part: u8, blank: u32) -> Core {
-    let mut core = Core::delivered(part);
-    core.blank = blank;
-    core
+    Core {
+        blank,
+        ..Core::delivered(part)
+    }
 }
 
 // Three blank cells go, of a record with so many.
@@ -205,9 +211,8 @@ fn lost(to: &mut impl Write, what: &[u8], blank: u32) -> io::Result<()> {
     write(
         to,
         what,
-        over(with_blank(M95512, blank), blanks()),
-        0x020000000000,
-        48,
+        Board::over(with_blank(M95512, blank), blanks()),
+        &[WRITE, 0, 0, 0, 0, 0],
     )?;
     Ok(())
 }
@@ -217,9 +222,8 @@ fn gained(to: &mut impl Write, what: &[u8], blank: u32) -> io::Result<()> {
     write(
         to,
         what,
-        over(with_blank(M95512, blank), zeros()),
-        0x020000ffffff,
-        48,
+        Board::over(with_blank(M95512, blank), zeros()),
+        &[WRITE, 0, 0, 0xff, 0xff, 0xff],
     )?;
     Ok(())
 }
@@ -237,9 +241,9 @@ fn wrong_numbers(to: &mut impl Write) -> io::Result<()> {
 
 // The number of a clock reading's outcome, and the number of blank cells then.
 fn read(to: &mut impl Write, what: &[u8], part: u8, blank: u32) -> io::Result<()> {
-    let then = passed(over(with_blank(part, blank), blanks()), 1);
-    say(to, what, then.number)?;
-    say(to, b"  blank cells", then.board.core.blank)
+    let mut board = Board::over(with_blank(part, blank), blanks());
+    say(to, what, board.read(1))?;
+    say(to, b"  blank cells", board.core.blank)
 }
 
 fn ranges(to: &mut impl Write) -> io::Result<()> {

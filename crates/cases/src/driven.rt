@@ -1,8 +1,8 @@
 // Cases of the driver: g, h and l, a running cycle, runs at the edge of the protected block, and what is refused.
-use crate::boards::{Board, Memory, lent, over, ran, sent, zeros};
+use crate::boards::{Board, Memory, zeros};
 use crate::{powered, say, say_last, say_left, say_status, with_bp};
 use chip::Core;
-use codes::{M95512, wide};
+use codes::{M95512, WRITE, WRSR};
 use std::io;
 use std::io::Write;
 
@@ -17,11 +17,11 @@ pub(crate) fn run(
     interval: u32,
     limit: u32,
 ) -> io::Result<Memory> {
-    let r = ran(over(core, zeros()), address, count, interval, limit);
-    let board = r.board;
-    say(to, what, r.number)?;
-    say(to, b"  pages done", r.pages)?;
-    say(to, b"  frames sent", r.frames)?;
+    let mut board = Board::over(core, zeros());
+    let run = board.run(address, count, interval, limit);
+    say(to, what, run.number)?;
+    say(to, b"  pages done", run.sent.pages)?;
+    say(to, b"  frames sent", run.sent.frames)?;
     say_status(to, board.core)?;
     say_left(to, board.core)?;
     say_last(to, board.core)?;
@@ -37,10 +37,10 @@ fn run_300(
     limit: u32,
 ) -> io::Result<()> {
     let memory = run(to, what, core, 100, 300, interval, limit)?;
-    say(to, b"  cell 100", wide(memory[100]))?;
-    say(to, b"  cell 101", wide(memory[101]))?;
-    say(to, b"  cell 399", wide(memory[399]))?;
-    say(to, b"  cell 400", wide(memory[400]))
+    say(to, b"  cell 100", memory[100])?;
+    say(to, b"  cell 101", memory[101])?;
+    say(to, b"  cell 399", memory[399])?;
+    say(to, b"  cell 400", memory[400])
 }
 
 fn whole_runs(to: &mut impl Write) -> io::Result<()> {
@@ -54,13 +54,13 @@ fn whole_runs(to: &mut impl Write) -> io::Result<()> {
 }
 
 // A cycle that a frame has begun runs when the driver comes.
-fn begun(core: Core, number: u64, bits: usize) -> Core {
-    sent(over(core.with_wel(1), zeros()), number, bits).core
+fn begun(core: Core, bytes: &[u8]) -> Core {
+    Board::over(core.with_wel(1), zeros()).after(bytes).core
 }
 
 // One of another page: 11h waits for cell 0.
 fn running_cycle(to: &mut impl Write) -> io::Result<()> {
-    let busy = begun(Core::delivered(M95512), 0x02000011, 32);
+    let busy = begun(Core::delivered(M95512), &[WRITE, 0, 0, 0x11]);
     run_300(to, b"a running cycle, interval 1000", busy, 1000, 6)?;
     run_300(to, b"a running cycle, limit 5", busy, 1000, 5)
 }
@@ -75,8 +75,8 @@ fn at_block(
     limit: u32,
 ) -> io::Result<()> {
     let memory = run(to, what, core, address, count, 5000, limit)?;
-    say(to, b"  cell BFFFh", wide(memory[0xbfff]))?;
-    say(to, b"  cell C000h", wide(memory[0xc000]))
+    say(to, b"  cell BFFFh", memory[0xbfff])?;
+    say(to, b"  cell C000h", memory[0xc000])
 }
 
 fn protected_block(to: &mut impl Write) -> io::Result<()> {
@@ -100,8 +100,8 @@ fn protected_block(to: &mut impl Write) -> io::Result<()> {
 
 // A status cycle: WRSR of the value that waits.
 fn moved_block(to: &mut impl Write) -> io::Result<()> {
-    let sets = begun(with_bp(M95512, false, false), 0x0104, 16);
-    let clears = begun(with_bp(M95512, false, true), 0x0100, 16);
+    let sets = begun(with_bp(M95512, false, false), &[WRSR, 0x04]);
+    let clears = begun(with_bp(M95512, false, true), &[WRSR, 0x00]);
     at_block(to, b"BP 00 to 01, one byte at C000h", sets, 0xc000, 1, 2)?;
     at_block(to, b"BP 01 to 00, one byte at C000h", clears, 0xc000, 1, 2)?;
     at_block(to, b"BP 00 to 01, limit 1", sets, 0xc000, 1, 1)?;
@@ -112,7 +112,7 @@ fn nothing_to_write(to: &mut impl Write) -> io::Result<()> {
     let fresh = Core::delivered(M95512);
     run(to, b"no data at 65536", fresh, 65536, 0, 1, 1)?;
     let memory = run(to, b"one byte at 65535", fresh, 65535, 1, 5000, 1)?;
-    say(to, b"  cell FFFFh", wide(memory[0xffff]))
+    say(to, b"  cell FFFFh", memory[0xffff])
 }
 
 // ---- what is refused
@@ -120,13 +120,13 @@ fn nothing_to_write(to: &mut impl Write) -> io::Result<()> {
 pub(crate) fn refused(
     to: &mut impl Write,
     what: &[u8],
-    board: Board,
+    mut board: Board,
     address: u64,
     count: usize,
     interval: u32,
     limit: u32,
 ) -> io::Result<()> {
-    say(to, what, ran(board, address, count, interval, limit).number)
+    say(to, what, board.run(address, count, interval, limit).number)
 }
 
 // Refusals 1, 2, 7 and 8, also with no data, and the first in the order where several apply.
@@ -151,15 +151,15 @@ fn bad_record(to: &mut impl Write, fresh: Board, broken: Board) -> io::Result<()
 }
 
 fn bad_memory(to: &mut impl Write, fresh: Board, broken: Board) -> io::Result<()> {
-    refused(to, b"a memory one short", lent(fresh, 65535), 0, 1, 1, 1)?;
-    refused(to, b"all at once", lent(broken, 65535), 65536, 1, 0, 0)
+    refused(to, b"a memory one short", fresh.lent(65535), 0, 1, 1, 1)?;
+    refused(to, b"all at once", broken.lent(65535), 65536, 1, 0, 0)
 }
 
 fn refusals(to: &mut impl Write) -> io::Result<()> {
     let mut core = Core::delivered(M95512);
-    let fresh = over(core, zeros());
+    let fresh = Board::over(core, zeros());
     core.left = 1;
-    let broken = over(core, zeros());
+    let broken = Board::over(core, zeros());
     bad_address(to, fresh)?;
     bad_polls(to, fresh)?;
     bad_record(to, fresh, broken)?;

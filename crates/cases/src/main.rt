@@ -2,10 +2,11 @@
 // them with the file stdout, whose numbers were worked out by hand from the rules.
 #![tactic(auto)]
 
-use boards::{Board, Memory, asked, lent, over, passed, sent, zeros};
-use chip::{Core, PoweredUp, power_up};
-use codes::{M95512, longest_of, size_of, wide};
+use boards::{Board, Memory, zeros};
+use chip::{Answered, Core, Kind, Waiting, power_up};
+use codes::{M95512, Numbered, RDSR, READ, Refusal, WREN, WRITE, longest_of, size_of};
 use frames::frame;
+use latch::Latch;
 use std::io;
 use std::io::Write;
 
@@ -14,12 +15,12 @@ mod boards;
 mod driven;
 mod parts;
 
-pub(crate) fn say(to: &mut impl Write, what: &[u8], number: u32) -> io::Result<()> {
-    console::say(to, what, number as u64)
+pub(crate) fn say(to: &mut impl Write, what: &[u8], number: impl Into<u64>) -> io::Result<()> {
+    console::say(to, what, number.into())
 }
 
 pub(crate) fn say_status(to: &mut impl Write, core: Core) -> io::Result<()> {
-    say(to, b"  its status byte", wide(core.status()))
+    say(to, b"  its status byte", core.status())
 }
 
 pub(crate) fn say_left(to: &mut impl Write, core: Core) -> io::Result<()> {
@@ -41,18 +42,16 @@ pub(crate) fn powered(
     bp1: bool,
     bp0: bool,
     reading: u32,
-) -> PoweredUp {
+) -> Answered<(), Refusal> {
     let size = size_of(part);
     power_up(part, false, cycle, srwd, bp1, bp0, reading, &memory[..size])
 }
 
 pub(crate) fn power(to: &mut impl Write, what: &[u8], part: u8, cycle: u32) -> io::Result<()> {
     let p = powered(zeros(), part, cycle, true, true, true, 7);
-    let outcome = p.outcome;
-    let core = p.core;
-    say(to, what, outcome.number())?;
-    say_status(to, core)?;
-    say_last(to, core)
+    say(to, what, p.answer.number())?;
+    say_status(to, p.core)?;
+    say_last(to, p.core)
 }
 
 fn powers(to: &mut impl Write) -> io::Result<()> {
@@ -75,7 +74,7 @@ pub(crate) fn protect(
 ) -> io::Result<()> {
     let answer = core.protection(address);
     say(to, what, answer.number())?;
-    say(to, b"  protected", answer.value())
+    say(to, b"  protected", answer.unwrap_or(false))
 }
 
 fn protections(to: &mut impl Write) -> io::Result<()> {
@@ -94,7 +93,7 @@ fn protections(to: &mut impl Write) -> io::Result<()> {
 pub(crate) fn lowest(to: &mut impl Write, what: &[u8], core: Core) -> io::Result<()> {
     let answer = core.protected_from();
     say(to, what, answer.number())?;
-    say(to, b"  protected from", answer.value())
+    say(to, b"  protected from", answer.unwrap_or(0))
 }
 
 fn lowest_cells(to: &mut impl Write) -> io::Result<()> {
@@ -109,27 +108,26 @@ fn lowest_cells(to: &mut impl Write) -> io::Result<()> {
 // A cycle of 5,000 that began at reading 4294967290, with page 1 waiting: cell 128 gets 11h.
 fn waiting(wel: u8) -> Core {
     let mut core = powered(zeros(), M95512, 5000, false, false, false, 4294967290).core;
-    let mut waits = core.waits;
-    let mut latch = waits.latch;
+    let mut latch = Latch::none();
     latch.bytes[0] = 0x11;
     latch.marks[0] = 1;
-    waits.kind = 2;
-    waits.page = 1;
-    waits.latch = latch;
     core.wel = wel;
     core.left = 5000;
-    core.waits = waits;
+    core.waits = Waiting {
+        kind: Kind::Page as u8,
+        status: 0,
+        page: 1,
+        latch,
+    };
     core
 }
 
 fn time(to: &mut impl Write, what: &[u8], core: Core, reading: u32) -> io::Result<()> {
-    let then = passed(over(core, zeros()), reading);
-    let board = then.board;
-    let memory = board.memory;
-    say(to, what, then.number)?;
+    let mut board = Board::over(core, zeros());
+    say(to, what, board.read(reading))?;
     say_status(to, board.core)?;
     say_left(to, board.core)?;
-    say(to, b"  cell 128", wide(memory[128]))
+    say(to, b"  cell 128", board.memory[128])
 }
 
 fn times(to: &mut impl Write) -> io::Result<()> {
@@ -139,8 +137,8 @@ fn times(to: &mut impl Write) -> io::Result<()> {
     time(to, b"5000 microseconds later", waiting(1), 4994)?;
     time(to, b"a WEL of 2", broken, 4994)?;
     lowest(to, b"a WEL of 2", broken)?;
-    let short = lent(over(broken, zeros()), 128);
-    say(to, b"a memory of 128 bytes", passed(short, 0).number)
+    let mut short = Board::over(broken, zeros()).lent(128);
+    say(to, b"a memory of 128 bytes", short.read(0))
 }
 
 // ---- frames
@@ -151,53 +149,59 @@ fn send(
     to: &mut impl Write,
     what: &[u8],
     core: Core,
-    number: u64,
+    bytes: &[u8],
     bits: usize,
 ) -> io::Result<Core> {
-    let s = sent(over(core, zeros()), number, bits);
-    let out = s.out;
-    say(to, what, s.number)?;
-    say(to, b"  undriven", (s.undriven % 65536) as u32)?;
-    say(to, b"  output byte 1", wide(out[1]))?;
-    say(to, b"  output byte 3", wide(out[3]))?;
-    say_status(to, s.core)?;
-    Ok(s.core)
+    let mut board = Board::over(core, zeros());
+    let reply = board.send(bytes, bits);
+    say(to, what, reply.number)?;
+    say(to, b"  undriven", reply.undriven as u64)?;
+    say(to, b"  output byte 1", reply.out[1])?;
+    say(to, b"  output byte 3", reply.out[3])?;
+    say_status(to, board.core)?;
+    Ok(board.core)
 }
 
-fn guarded(core: Core) -> Core {
-    let mut next = core;
-    next.bp1 = 1;
-    next.bp0 = 1;
-    next
+fn guarded(mut core: Core) -> Core {
+    core.bp1 = 1;
+    core.bp0 = 1;
+    core
 }
 
 // In the cycle that a WRITE has begun: k.
 fn in_cycle(to: &mut impl Write, busy: Core) -> io::Result<()> {
-    send(to, b"k: READ in a cycle", busy, 0x03007e0000, 40)?;
-    send(to, b"RDSR in a cycle", busy, 0x0500, 16)?;
-    send(to, b"WREN in a cycle", busy, 0x06, 8)?;
+    send(to, b"k: READ in a cycle", busy, &[READ, 0, 0x7e, 0, 0], 40)?;
+    send(to, b"RDSR in a cycle", busy, &[RDSR, 0], 16)?;
+    send(to, b"WREN in a cycle", busy, &[WREN], 8)?;
     Ok(())
 }
 
 // A WRITE that is cut short, ignored and taken.
 fn writes(to: &mut impl Write, enabled: Core) -> io::Result<()> {
     let all = guarded(enabled);
-    send(to, b"b: WRITE with 55 bits", enabled, 0x02007e11223344, 55)?;
-    send(to, b"WRITE to a protected address", all, 0x02007e11, 32)?;
-    let busy = send(to, b"a: WRITE with 56 bits", enabled, 0x02007e11223344, 56)?;
+    let write = [WRITE, 0, 0x7e, 0x11, 0x22, 0x33, 0x44];
+    send(to, b"b: WRITE with 55 bits", enabled, &write, 55)?;
+    send(
+        to,
+        b"WRITE to a protected address",
+        all,
+        &[WRITE, 0, 0x7e, 0x11],
+        32,
+    )?;
+    let busy = send(to, b"a: WRITE with 56 bits", enabled, &write, 56)?;
     in_cycle(to, busy)
 }
 
 // Cases of the frame model: a, b, j and k among them.
 fn frames_sent(to: &mut impl Write) -> io::Result<()> {
     let fresh = Core::delivered(M95512);
-    send(to, b"j: WREN with 16 bits", fresh, 0x0600, 16)?;
-    let enabled = send(to, b"WREN", fresh, 0x06, 8)?;
+    send(to, b"j: WREN with 16 bits", fresh, &[WREN, 0], 16)?;
+    let enabled = send(to, b"WREN", fresh, &[WREN], 8)?;
     writes(to, enabled)?;
-    send(to, b"READ, idle", enabled, 0x03007e0000, 40)?;
-    send(to, b"READ of 29 bits", enabled, 0x03007e00, 29)?;
-    send(to, b"three bits", fresh, 0x06, 3)?;
-    send(to, b"no bits", fresh, 0, 0)?;
+    send(to, b"READ, idle", enabled, &[READ, 0, 0x7e, 0, 0], 40)?;
+    send(to, b"READ of 29 bits", enabled, &[READ, 0, 0x7e, 0], 29)?;
+    send(to, b"three bits", fresh, &[WREN], 3)?;
+    send(to, b"no bits", fresh, &[], 0)?;
     Ok(())
 }
 
@@ -206,43 +210,43 @@ fn frames_sent(to: &mut impl Write) -> io::Result<()> {
 fn refused(
     to: &mut impl Write,
     what: &[u8],
-    board: Board,
-    count: usize,
+    mut board: Board,
+    bytes: &[u8],
     bits: usize,
     room: usize,
 ) -> io::Result<()> {
-    say(to, what, asked(board, 0x0500, count, bits, room).number)
+    say(to, what, board.ask(bytes, bits, room).number)
 }
 
 fn bad_memory(to: &mut impl Write, fresh: Board, broken: Board) -> io::Result<()> {
-    refused(to, b"memory of 65537", lent(fresh, 65537), 2, 16, 2)?;
-    refused(to, b"memory of 65535", lent(fresh, 65535), 2, 16, 2)?;
-    refused(to, b"all of them", lent(broken, 65537), 2, 99, 1)
+    refused(to, b"memory of 65537", fresh.lent(65537), &[RDSR, 0], 16, 2)?;
+    refused(to, b"memory of 65535", fresh.lent(65535), &[RDSR, 0], 16, 2)?;
+    refused(to, b"all of them", broken.lent(65537), &[RDSR, 0], 99, 1)
 }
 
 fn bad_lengths(to: &mut impl Write, fresh: Board) -> io::Result<()> {
-    refused(to, b"a bit too many", fresh, 2, 17, 2)?;
-    refused(to, b"a bit too few", fresh, 2, 8, 2)?;
-    refused(to, b"a bit of no bytes", fresh, 0, 1, 0)?;
-    refused(to, b"an output too long", fresh, 2, 16, 3)?;
-    refused(to, b"an output too short", fresh, 2, 16, 1)
+    refused(to, b"a bit too many", fresh, &[RDSR, 0], 17, 2)?;
+    refused(to, b"a bit too few", fresh, &[RDSR, 0], 8, 2)?;
+    refused(to, b"a bit of no bytes", fresh, &[], 1, 0)?;
+    refused(to, b"an output too long", fresh, &[RDSR, 0], 16, 3)?;
+    refused(to, b"an output too short", fresh, &[RDSR, 0], 16, 1)
 }
 
 fn frames_refused(to: &mut impl Write) -> io::Result<()> {
     let mut core = Core::delivered(M95512);
-    let fresh = over(core, zeros());
+    let fresh = Board::over(core, zeros());
     core.srwd = 2;
-    let broken = over(core, zeros());
+    let broken = Board::over(core, zeros());
     bad_memory(to, fresh, broken)?;
-    refused(to, b"SRWD 2", broken, 2, 16, 2)?;
-    refused(to, b"all but the memory", broken, 2, 99, 1)?;
+    refused(to, b"SRWD 2", broken, &[RDSR, 0], 16, 2)?;
+    refused(to, b"all but the memory", broken, &[RDSR, 0], 99, 1)?;
     bad_lengths(to, fresh)
 }
 
 fn too_long(to: &mut impl Write) -> io::Result<()> {
-    let memory = console::large_buffer();
+    let memory = console::zeros::<65536>();
     let page = [0xffu8; 128];
-    let bytes = [5u8; 65541];
+    let bytes = [RDSR; 65541];
     let mut out = [0u8; 8];
     let core = Core::delivered(M95512);
     let answer = frame(core, &memory, &page, true, &bytes, 1, &mut out).answer;

@@ -1,10 +1,10 @@
 // Cases that the parts answer differently: WRDI in a cycle on each of them; of the M95M01 its longest cycle, where its
 // protection starts, and driver runs over FFFFh.
-use crate::boards::{Board, after, lent, over, passed, zeros};
+use crate::boards::{Board, zeros};
 use crate::driven::{refused, run};
 use crate::{lowest, power, protect, say, say_left, with_bp};
 use chip::Core;
-use codes::{M95M01, M95512, M95512D, address_bytes_of, longest_of, wide};
+use codes::{M95M01, M95512, M95512D, WRDI, WREN, WRITE, address_bytes_of, longest_of};
 use std::io;
 use std::io::Write;
 
@@ -12,28 +12,28 @@ use std::io::Write;
 
 // WREN, and a WRITE of 11h to cell 0.
 fn written(core: Core) -> Board {
-    let enabled = after(over(core, zeros()), 0x06, 8);
+    let enabled = Board::over(core, zeros()).after(&[WREN]);
     if address_bytes_of(core.part) == 3 {
-        return after(enabled, 0x0200000011, 40);
+        return enabled.after(&[WRITE, 0, 0, 0, 0x11]);
     }
-    after(enabled, 0x02000011, 32)
+    enabled.after(&[WRITE, 0, 0, 0x11])
 }
 
 fn say_core(to: &mut impl Write, what: &[u8], core: Core) -> io::Result<()> {
-    say(to, what, wide(core.status()))?;
+    say(to, what, core.status())?;
     say_left(to, core)
 }
 
 // The status byte after a WRDI in a cycle, then after a WREN there and at the cycle's end.
 fn wrdi(to: &mut impl Write, what: &[u8], part: u8) -> io::Result<()> {
-    let disabled = after(written(with_bp(part, false, false)), 0x04, 8);
-    say_core(to, what, disabled.core)?;
-    let again = after(disabled, 0x06, 8);
-    say_core(to, b"  status after WREN", again.core)?;
-    let ended = passed(again, longest_of(part)).board;
-    say_core(to, b"  status at the end", ended.core)?;
-    let memory = ended.memory;
-    say(to, b"  cell 0", wide(memory[0]))
+    let mut board = written(with_bp(part, false, false));
+    board.send(&[WRDI], 8);
+    say_core(to, what, board.core)?;
+    board.send(&[WREN], 8);
+    say_core(to, b"  status after WREN", board.core)?;
+    board.read(longest_of(part));
+    say_core(to, b"  status at the end", board.core)?;
+    say(to, b"  cell 0", board.memory[0])
 }
 
 fn wrdi_in_cycle(to: &mut impl Write) -> io::Result<()> {
@@ -74,11 +74,11 @@ fn large_run(
     limit: u32,
 ) -> io::Result<()> {
     let memory = run(to, what, core, 0xff9c, 300, interval, limit)?;
-    say(to, b"  cell FF9Ch", wide(memory[0xff9c]))?;
-    say(to, b"  cell FFFFh", wide(memory[0xffff]))?;
-    say(to, b"  cell 10000h", wide(memory[0x10000]))?;
-    say(to, b"  cell 100C7h", wide(memory[0x100c7]))?;
-    say(to, b"  cell 100C8h", wide(memory[0x100c8]))
+    say(to, b"  cell FF9Ch", memory[0xff9c])?;
+    say(to, b"  cell FFFFh", memory[0xffff])?;
+    say(to, b"  cell 10000h", memory[0x10000])?;
+    say(to, b"  cell 100C7h", memory[0x100c7])?;
+    say(to, b"  cell 100C8h", memory[0x100c8])
 }
 
 fn large_runs(to: &mut impl Write) -> io::Result<()> {
@@ -97,8 +97,8 @@ fn large_runs(to: &mut impl Write) -> io::Result<()> {
 }
 
 fn large_refusals(to: &mut impl Write) -> io::Result<()> {
-    let fresh = over(with_bp(M95M01, false, false), zeros());
-    let short = lent(fresh, 65536);
+    let fresh = Board::over(with_bp(M95M01, false, false), zeros());
+    let short = fresh.lent(65536);
     refused(
         to,
         b"M95M01: one byte at 131071",

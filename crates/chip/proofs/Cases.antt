@@ -1,4 +1,5 @@
 -- Document 01's cases e and i of the definitions; WIP; and the records of power-up, which are inside the ranges.
+use Rattle.codes.specs.declared.Refusal.{Refusal}
 use Rattle.std.proofs.Common.{◌≡◌, ℕ, ◌%◌, ◌<◌, ◌≤◌, Bool, true, false, eqb, List, length, sym, refl, ap, ◌∙◌, arith, lit≤, le-ltb, lt-ltb, eqb-true, le-leb}
 use lib.ListN.{length-replicate}
 use Rattle.laws.specs.Pick.{pick_case}
@@ -13,7 +14,7 @@ use Rattle.chip.specs.Time.{elapsed}
 use Rattle.chip.specs.Blanks.{Counted}
 use Rattle.chip.specs.Power.{quiet, delivered, unpowered, delivered_memory, delivered_identification, powered_up}
 use Rattle.chip.specs.declared.Core.{Core}
-use Rattle.chip.specs.declared.PoweredUp.{PoweredUp}
+use Rattle.chip.specs.declared.Answered.{Answered}
 use Rattle.chip.proofs.Within.{Within, quiet_within}
 
 -- e: SRWD, BP1, BP0 all 1, idle: 8Ch; with WEL 8Eh; in a cycle 8Fh
@@ -82,7 +83,7 @@ powered_within part k n s b a t m =
     (λ e. unpowered_within))
     (λ h. unpowered_within)
   where
-    Good : PoweredUp → Type 0
+    Good : Answered (Unit {0}) Refusal → Type 0
     Good x = Within (own_part x.core) x.core
 
 -- the memory and the identification page as delivered are as long as the part has them

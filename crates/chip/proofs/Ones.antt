@@ -8,10 +8,6 @@ use Rattle.chip.proofs.Core.cells_touched.Kinds as cells-touched
 use Rattle.chip.proofs.Core.cells_touched.Reads as cells-touched-reads
 use Rattle.chip.proofs.Core.touched.Kinds as core-touched
 use Rattle.chip.proofs.Core.touched.Reads as core-touched-reads
-use Rattle.chip.proofs.Touched.number.Kinds as touched-number
-use Rattle.chip.proofs.Touched.number.Reads as touched-number-reads
-use Rattle.chip.proofs.Touched.value.Kinds as touched-value
-use Rattle.chip.proofs.Touched.value.Reads as touched-value-reads
 use Rattle.chip.proofs.Core.protection.Kinds as protection
 use Rattle.chip.proofs.Core.protection.Reads as protection-reads
 use Rattle.chip.proofs.power.power_up.Kinds as power-up
@@ -20,14 +16,6 @@ use Rattle.chip.proofs.time.lent_fits.Kinds as lent_fits
 use Rattle.chip.proofs.time.lent_fits.Reads as lent-fits-reads
 use Rattle.chip.proofs.time.clock_reading.Kinds as clock-reading
 use Rattle.chip.proofs.time.clock_reading.Reads as clock-reading-reads
-use Rattle.chip.proofs.ProtectedFrom.number.Kinds as protected-from-number
-use Rattle.chip.proofs.ProtectedFrom.number.Reads as protected-from-number-reads
-use Rattle.chip.proofs.ProtectedFrom.value.Kinds as protected-from-value
-use Rattle.chip.proofs.ProtectedFrom.value.Reads as protected-from-value-reads
-use Rattle.chip.proofs.Protection.number.Kinds as protection-number
-use Rattle.chip.proofs.Protection.number.Reads as protection-number-reads
-use Rattle.chip.proofs.Protection.value.Kinds as protection-value
-use Rattle.chip.proofs.Protection.value.Reads as protection-value-reads
 use Rattle.chip.proofs.Core.with_wel.Kinds as core-with-wel
 use Rattle.chip.proofs.Core.with_wel.Reads as core-with-wel-reads
 use Rattle.chip.proofs.Core.begin_status.Kinds as core-begin-status
@@ -99,24 +87,6 @@ cells_touched_one κs a z z' e e' p q = same p.0 q.0
 
 pub core_touched_one : OneResult core-touched.ps core-touched.r core-touched-reads.Post
 core_touched_one κs a z z' e e' p q = same p.0 q.0
-
-pub touched_number_one : OneResult touched-number.ps touched-number.r touched-number-reads.Post
-touched_number_one κs a z z' e e' p q = same p q
-
-pub touched_value_one : OneResult touched-value.ps touched-value.r touched-value-reads.Post
-touched_value_one κs a z z' e e' p q = same p q
-
-pub protected_from_number_one : OneResult protected-from-number.ps protected-from-number.r protected-from-number-reads.Post
-protected_from_number_one κs a z z' e e' p q = same p q
-
-pub protected_from_value_one : OneResult protected-from-value.ps protected-from-value.r protected-from-value-reads.Post
-protected_from_value_one κs a z z' e e' p q = same p q
-
-pub protection_number_one : OneResult protection-number.ps protection-number.r protection-number-reads.Post
-protection_number_one κs a z z' e e' p q = same p q
-
-pub protection_value_one : OneResult protection-value.ps protection-value.r protection-value-reads.Post
-protection_value_one κs a z z' e e' p q = same p q
 
 pub core_with_wel_one : OneResult core-with-wel.ps core-with-wel.r core-with-wel-reads.Post
 core_with_wel_one κs a z z' e e' p q = same p q

@@ -1,15 +1,15 @@
 -- Power-up, and the device as delivered.
-use Rattle.std.specs.Prelude.{ℕ, ◌-◌, Bool, false, List, ◌++◌, length, replicate, ◌==◌}
+use Rattle.codes.specs.Refusals.{no_refusal}
+use Rattle.std.specs.Prelude.{ℕ, ◌-◌, Bool, false, List, ◌++◌, length, replicate, ◌==◌, Err}
 use Rattle.laws.specs.Pick.{pick}
 use Rattle.codes.specs.Part.{Part, part_of, is_part}
 use Rattle.blanks.specs.Blanks.{blanks}
 use Rattle.chip.specs.Records.{idle}
 use Rattle.chip.specs.Ranges.{cycle_fits}
 use Rattle.chip.specs.declared.Core.{Core}
-use Rattle.chip.specs.declared.PoweredUp.{PoweredUp}
+use Rattle.chip.specs.declared.Answered.{Answered}
 use Rattle.codes.specs.declared.Refusal.{Refusal}
 use Rattle.codes.specs.declared.Refusal.TheVariants.{MemoryLength, RecordRange, CycleLength}
-use Rattle.codes.specs.declared.Outcome.TheVariants.{Done, Refused}
 
 -- a part with lock and status bits 0, its longest cycle, reading 0 and so many blank cells
 abbrev pub quiet : ℕ → ℕ → Core
@@ -40,14 +40,14 @@ power_up_choice part cycle m one two six done =
 abbrev pub unpowered : Core
 unpowered = quiet 0 0
 
-abbrev pub not_powered : Refusal → PoweredUp
-not_powered r = record { outcome = Refused r; core = unpowered }
+abbrev pub not_powered : Refusal → Answered (Unit {0}) Refusal
+not_powered r = record { answer = Err r; core = unpowered }
 
 -- the cells of the memory are counted
-abbrev pub powered_up : ℕ → Bool → ℕ → Bool → Bool → Bool → ℕ → List ℕ → PoweredUp
+abbrev pub powered_up : ℕ → Bool → ℕ → Bool → Bool → Bool → ℕ → List ℕ → Answered (Unit {0}) Refusal
 powered_up part lock cycle srwd bp1 bp0 t m =
     power_up_choice part cycle m (not_powered MemoryLength) (not_powered RecordRange) (not_powered CycleLength)
-    (record { outcome = Done; core = idle part lock srwd bp1 bp0 cycle t (blanks m) })
+    (record { answer = no_refusal; core = idle part lock srwd bp1 bp0 cycle t (blanks m) })
 
 -- its number in document 01
 abbrev pub power_up_number : ℕ → ℕ → List ℕ → ℕ

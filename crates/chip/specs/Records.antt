@@ -7,9 +7,18 @@ use Rattle.latch.specs.Latches.{no_latch}
 use Rattle.latch.specs.declared.Latch.{Latch}
 use Rattle.chip.specs.declared.Waiting.{Waiting}
 use Rattle.chip.specs.declared.Core.{Core}
+use Rattle.chip.specs.declared.Kind.{Kind}
+use Rattle.chip.specs.declared.Kind.TheVariants.{Nothing, Status, Page, Identification, Lock}
 
 -- ---- what waits for the end of the cycle: 0 nothing, 1 a status value, 2 a page; of a part with an identification
 -- page also 3 that page and 4 the lock
+
+abbrev pub kind_number : Kind → ℕ
+kind_number Nothing = 0
+kind_number Status = 1
+kind_number Page = 2
+kind_number Identification = 3
+kind_number Lock = 4
 
 abbrev pub waits_nothing : Waiting → Bool
 waits_nothing w = w.kind == 0

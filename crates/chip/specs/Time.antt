@@ -1,5 +1,6 @@
 -- What a clock reading does to the record, to the memory and to the identification page.
-use Rattle.std.specs.Prelude.{ℕ, ◌+◌, ◌-◌, ◌%◌, ◌^◌, Bool, ◌&&◌, List, length, ◌==◌, nat_le}
+use Rattle.codes.specs.declared.Refusal.{Refusal}
+use Rattle.std.specs.Prelude.{ℕ, ◌+◌, ◌-◌, ◌%◌, ◌^◌, Bool, ◌&&◌, List, length, ◌==◌, nat_le, Err}
 use Rattle.laws.specs.Pick.{pick}
 use Rattle.codes.specs.Part.{Part}
 use Rattle.latch.specs.Latches.{stored}
@@ -7,13 +8,12 @@ use Rattle.blanks.specs.Blanks.{recounted}
 use Rattle.chip.specs.Records.{running, waits_status, waits_page, waits_identification, waits_lock}
 use Rattle.chip.specs.Records.{with_status, with_lock, with_time, with_blank, without_cycle}
 use Rattle.chip.specs.Ranges.{in_ranges}
-use Rattle.codes.specs.Refusals.{is_done}
+use Rattle.codes.specs.Refusals.{is_done, no_refusal}
 use Rattle.chip.specs.declared.Waiting.{Waiting}
 use Rattle.chip.specs.declared.Core.{Core}
-use Rattle.chip.specs.declared.Timed.{Timed}
+use Rattle.chip.specs.declared.Answered.{Answered}
 use Rattle.codes.specs.declared.Refusal.TheVariants.{MemoryLength, RecordRange}
-use Rattle.codes.specs.declared.Outcome.{Outcome}
-use Rattle.codes.specs.declared.Outcome.TheVariants.{Done, Refused}
+use Rattle.codes.specs.Refusals.{Outcome}
 
 -- new minus old on a free-running counter of 32 bits; old is a reading, below 2^32: the record's field is a u32
 abbrev pub elapsed : ℕ → ℕ → ℕ
@@ -64,20 +64,24 @@ timed_in P t c m = with_blank (timed_blank P t c m) (timed t c)
 abbrev pub lent_fits : Part → ℕ → ℕ → Bool
 lent_fits P size cells = size == P.size && cells == P.page
 
+-- refusal 1 for other lengths, then 2 for a record outside its ranges
+abbrev pub admitted : Part → Core → ℕ → ℕ → Outcome
+admitted P c size cells = pick (lent_fits P size cells) (pick (in_ranges P c) no_refusal (Err RecordRange)) (Err MemoryLength)
+
 -- what stands for refusal 1, for 2 after it, and for no refusal
 abbrev pub reading_choice : {A : Type 0} → Part → Core → List ℕ → List ℕ → A → A → A → A
 reading_choice P c m d one two done = pick (lent_fits P (length m) (length d)) (pick (in_ranges P c) done two) one
 
 abbrev pub reading_outcome : Part → Core → List ℕ → List ℕ → Outcome
-reading_outcome P c m d = reading_choice P c m d (Refused MemoryLength) (Refused RecordRange) Done
+reading_outcome P c m d = reading_choice P c m d (Err MemoryLength) (Err RecordRange) no_refusal
 
 -- its number in document 01
 abbrev pub reading_number : Part → Core → List ℕ → List ℕ → ℕ
 reading_number P c m d = reading_choice P c m d 1 2 0
 
-abbrev pub clock_reading : Part → ℕ → Core → List ℕ → List ℕ → Timed
+abbrev pub clock_reading : Part → ℕ → Core → List ℕ → List ℕ → Answered (Unit {0}) Refusal
 clock_reading P t c m d =
-    record { outcome = reading_outcome P c m d; core = pick (is_done (reading_outcome P c m d)) (timed_in P t c m) c }
+    record { answer = reading_outcome P c m d; core = pick (is_done (reading_outcome P c m d)) (timed_in P t c m) c }
 
 abbrev pub clock_memory : Part → ℕ → Core → List ℕ → List ℕ → List ℕ
 clock_memory P t c m d = pick (is_done (reading_outcome P c m d)) (timed_memory P t c m) m

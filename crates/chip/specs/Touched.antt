@@ -1,16 +1,14 @@
 -- How many cells the running cycle will touch: the marks of the latched bytes that wait. Where none wait nothing is
 -- marked, so the answer is 0. The question is asked of the core record and of a device of the pin model: `fits` says
 -- whether the record is inside its ranges.
-use Rattle.std.specs.Prelude.{ℕ, Bool}
+use Rattle.codes.specs.declared.Refusal.{Refusal}
+use Rattle.std.specs.Prelude.{ℕ, Bool, Err, Ok, Result}
 use Rattle.laws.specs.Pick.{pick}
 use Rattle.laws.specs.Count.{count}
 use Rattle.codes.specs.Part.{Part}
-use Rattle.codes.specs.Refusals.{refusal_number}
 use Rattle.codes.specs.declared.Refusal.TheVariants.{RecordRange}
 use Rattle.latch.specs.Latches.{marked, touched}
 use Rattle.chip.specs.declared.Core.{Core}
-use Rattle.chip.specs.declared.Touched.{Touched}
-use Rattle.chip.specs.declared.Touched.TheVariants.{Cells, Refused}
 
 -- the ones of the words that wait
 abbrev pub cells_touched : Core → ℕ
@@ -24,14 +22,5 @@ cells_marked P c = count (marked c.waits.latch) P.page
 abbrev pub touched_choice : {A : Type 0} → Bool → A → A → A
 touched_choice fits two done = pick fits done two
 
-abbrev pub touched_answer : Bool → Core → Touched
-touched_answer fits c = touched_choice fits (Refused RecordRange) (Cells (cells_touched c))
-
--- the number of an answer in document 01, and its value
-abbrev pub touched_number : Touched → ℕ
-touched_number (Cells n) = 0
-touched_number (Refused r) = refusal_number r
-
-abbrev pub touched_value : Touched → ℕ
-touched_value (Cells n) = n
-touched_value (Refused r) = 0
+abbrev pub touched_answer : Bool → Core → Result ℕ Refusal
+touched_answer fits c = touched_choice fits (Err RecordRange) (Ok (cells_touched c))

@@ -4,7 +4,7 @@ ghost use Rattle.chip.specs.Records.{own_part, waits_page};
 ghost use Rattle.chip.specs.Blanks.{counted};
 ghost use Rattle.chip.specs.Time.{ended_blank, ended_cells};
 
-use crate::Core;
+use crate::{Core, Kind};
 use blanks::{blanks, store_counting};
 use codes::size_of;
 
@@ -15,10 +15,9 @@ impl Core {
         ensures value { result ≡ ended_blank (own_part self) self memory.old }
         ensures memory_after { memory.new ≡ ended_cells waits_page (own_part self) self memory.old }
     {
-        let page = self.waits.page;
-        let latch = self.waits.latch;
-        if self.waits.kind == 2 {
-            return store_counting(self.part, self.blank, page, latch, memory);
+        let waits = self.waits;
+        if waits.has(Kind::Page) {
+            return store_counting(self.part, self.blank, waits.page, waits.latch, memory);
         }
         self.blank
     }

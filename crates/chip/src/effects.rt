@@ -6,55 +6,8 @@ ghost use Rattle.chip.specs.Records.{status_waits, page_waits, identification_wa
 ghost use Rattle.chip.specs.Records.{with_wel, with_cycle};
 
 use crate::{Core, Waiting};
-use codes::{picks_lock, writable};
+use codes::picks_lock;
 use latch::Latch;
-
-impl Waiting {
-    // Only the writable bits of a status value wait.
-    fn for_status(value: u8) -> Waiting
-        ensures { result ≡ status_waits value }
-    {
-        Waiting {
-            kind: 1,
-            status: writable(value),
-            page: 0,
-            latch: Latch::none(),
-        }
-    }
-
-    fn for_page(page: u32, latch: Latch) -> Waiting
-        ensures { result ≡ page_waits page latch }
-    {
-        Waiting {
-            kind: 2,
-            status: 0,
-            page: page,
-            latch: latch,
-        }
-    }
-
-    fn for_identification(latch: Latch) -> Waiting
-        ensures { result ≡ identification_waits latch }
-    {
-        Waiting {
-            kind: 3,
-            status: 0,
-            page: 0,
-            latch: latch,
-        }
-    }
-
-    fn for_lock() -> Waiting
-        ensures { result ≡ lock_waits }
-    {
-        Waiting {
-            kind: 4,
-            status: 0,
-            page: 0,
-            latch: Latch::none(),
-        }
-    }
-}
 
 impl Core {
     // WREN and WRDI.
@@ -68,8 +21,7 @@ impl Core {
     fn with_cycle(mut self, waits: Waiting) -> Core
         ensures { result ≡ with_cycle waits self }
     {
-        let cycle = self.cycle;
-        self.left = cycle;
+        self.left = self.cycle;
         self.waits = waits;
         self
     }

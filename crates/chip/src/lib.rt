@@ -3,12 +3,15 @@
 //
 // Public calls, each for every input: power_up, in_ranges, protected_from, protection, cells_touched, clock_reading.
 // Every other public function is an inner call of the models: total, and exactly its definition.
+//
+// Memory and identification page are two parameters of every call that is lent both, here and above, as C hands them
+// over. A struct of the two slices reads worse: each contract would have to say besides that its references are still
+// the caller's.
 #![tactic(auto)]
 
-use codes::{Outcome, Refusal};
+use codes::Refusal;
 use latch::Latch;
 
-mod answers;
 mod counted;
 mod counting;
 mod effects;
@@ -17,6 +20,7 @@ mod protect;
 mod ranges;
 mod status;
 mod time;
+mod waits;
 
 // Public calls, beside the methods of Core in_ranges, protected_from, protection and cells_touched.
 pub use power::power_up;
@@ -26,8 +30,19 @@ pub use time::clock_reading;
 pub use ranges::cycle_fits;
 pub use time::{elapsed, left_after, lent_fits};
 
-// What waits for the end of the cycle: nothing (kind 0), a status value (1) or a page (2); of a part that has them also
-// the identification page (3) or the lock (4). What does not wait reads 0.
+// What can wait for the end of the cycle: nothing, a status value or a page; of a part that has them also the
+// identification page or the lock.
+#[derive(Clone, Copy, PartialEq, Eq)]
+pub enum Kind {
+    Nothing,
+    Status,
+    Page,
+    Identification,
+    Lock,
+}
+
+// What waits. What does not wait reads 0. The kind is a number, since the record is C's too, and one that is no kind is
+// outside the ranges.
 #[repr(C)]
 #[derive(Clone, Copy)]
 pub struct Waiting {
@@ -41,7 +56,7 @@ pub struct Waiting {
 #[repr(C)]
 #[derive(Clone, Copy)]
 pub struct Core {
-    // 0 the M95512, 1 the M95512-D, 2 the M95M01
+    // 0 the M95512, 1 the M95512-D, 2 the M95M01; a number, since C hands it over, and one that is none is refused by 2
     pub part: u8,
     // the identification page is locked for good; on the M95512 it is never looked at
     pub lock: u8,
@@ -57,38 +72,10 @@ pub struct Core {
     pub waits: Waiting,
 }
 
-// Where protection starts: the lowest protected address, the memory's size for none.
+// What a call hands back with the record: power-up and a clock reading nothing else, a frame and a run of the driver
+// more. The record stands beside the answer, since a refusal hands one back too (the clause `value` of each call).
 #[derive(Clone, Copy)]
-pub enum ProtectedFrom {
-    Address(u32),
-    Refused(Refusal),
-}
-
-// Whether an address is protected.
-#[derive(Clone, Copy)]
-pub enum Protection {
-    Open,
-    Protected,
-    Refused(Refusal),
-}
-
-// How many cells the running cycle will touch, 0 where no latched bytes wait.
-#[derive(Clone, Copy)]
-pub enum Touched {
-    Cells(u32),
-    Refused(Refusal),
-}
-
-// What power-up hands back.
-#[derive(Clone, Copy)]
-pub struct PoweredUp {
-    pub outcome: Outcome,
-    pub core: Core,
-}
-
-// What a clock reading hands back.
-#[derive(Clone, Copy)]
-pub struct Timed {
-    pub outcome: Outcome,
+pub struct Answered<T, E> {
+    pub answer: Result<T, E>,
     pub core: Core,
 }

@@ -1,13 +1,15 @@
 // Power-up, and the device as delivered.
-ghost use Rattle.std.specs.Prelude.{◌≡◌};
+ghost use Rattle.codes.specs.declared.Refusal.TheVariants.{CycleLength, MemoryLength, RecordRange};
+ghost use Rattle.std.specs.Prelude.{◌≡◌, Err, Ok};
 ghost use Rattle.chip.specs.Records.{idle};
 ghost use Rattle.chip.specs.Power.{quiet, delivered, unpowered, not_powered, powered_up, power_up_number};
-ghost use Rattle.codes.specs.Refusals.{number};
+ghost use Rattle.chip.specs.Power.{power_up_choice};
+ghost use Rattle.codes.specs.Refusals.{number, no_refusal};
 
 use crate::ranges::cycle_fits;
-use crate::{Core, PoweredUp, Waiting};
+use crate::{Answered, Core, Waiting};
 use blanks::blanks;
-use codes::{M95512, Outcome, Refusal, is_part, longest_of, size_of};
+use codes::{M95512, Refusal, is_part, longest_of, size_of};
 
 impl Core {
     // WEL 0, no cycle, and the given part, lock, status bits, cycle length, clock reading and number of blank cells.
@@ -24,16 +26,16 @@ impl Core {
         ensures { result ≡ idle part lock srwd bp1 bp0 cycle reading blank }
     {
         Core {
-            part: part,
-            lock: lock as u8,
-            srwd: srwd as u8,
-            bp1: bp1 as u8,
-            bp0: bp0 as u8,
+            part,
+            lock: u8::from(lock),
+            srwd: u8::from(srwd),
+            bp1: u8::from(bp1),
+            bp0: u8::from(bp0),
             wel: 0,
-            cycle: cycle,
+            cycle,
             left: 0,
             last: reading,
-            blank: blank,
+            blank,
             waits: Waiting::nothing(),
         }
     }
@@ -64,18 +66,18 @@ impl Core {
 }
 
 // Power-up refused: no cell counted, whatever was given.
-fn not_powered(refusal: Refusal) -> PoweredUp
+fn not_powered(refusal: Refusal) -> Answered<(), Refusal>
     ensures { result ≡ not_powered refusal }
 {
-    PoweredUp {
-        outcome: Outcome::Refused(refusal),
+    Answered {
+        answer: Err(refusal),
         core: Core::unpowered(),
     }
 }
 
-// Power-up, for every input: the blank cells of the memory are counted. 1 for a memory that is not as long as the part
-// has it, then 2 for a part that is none, then 6 for a cycle length that is not 1 to the longest; each leaves the
-// M95512 with no cell counted.
+// Power-up, for every input, by parameters as C hands them over: the blank cells of the memory are counted. 1 for a
+// memory that is not as long as the part has it, then 2 for a part that is none, then 6 for a cycle length that is not
+// 1 to the longest; each leaves the M95512 with no cell counted.
 pub fn power_up(
     part: u8,
     lock: bool,
@@ -85,22 +87,21 @@ pub fn power_up(
     bp0: bool,
     reading: u32,
     memory: &[u8],
-) -> PoweredUp
+) -> Answered<(), Refusal>
     ensures value { result ≡ powered_up part lock cycle srwd bp1 bp0 reading memory.now }
-    ensures as_number { number result.outcome ≡ power_up_number part cycle memory.now }
+    ensures as_number { number result.answer ≡ power_up_number part cycle memory.now }
 {
-    if memory.len() == size_of(part) {
-        if is_part(part) {
-            if cycle_fits(part, cycle) {
-                let blank = blanks(memory);
-                return PoweredUp {
-                    outcome: Outcome::Done,
-                    core: Core::idle(part, lock, srwd, bp1, bp0, cycle, reading, blank),
-                };
-            }
-            return not_powered(Refusal::CycleLength);
-        }
+    if memory.len() != size_of(part) {
+        return not_powered(Refusal::MemoryLength);
+    }
+    if !is_part(part) {
         return not_powered(Refusal::RecordRange);
     }
-    not_powered(Refusal::MemoryLength)
+    if !cycle_fits(part, cycle) {
+        return not_powered(Refusal::CycleLength);
+    }
+    Answered {
+        answer: Ok(()),
+        core: Core::idle(part, lock, srwd, bp1, bp0, cycle, reading, blanks(memory)),
+    }
 }

@@ -1,11 +1,12 @@
 // Is a record inside its ranges: the test that refusal 2 rests on. Each part of it has a definition of its own.
-ghost use Rattle.std.specs.Prelude.{◌≡◌, ◌&&◌, ◌||◌, ◌==◌};
+ghost use Rattle.std.specs.Prelude.{◌≡◌, ◌==◌};
 ghost use Rattle.codes.specs.Part.{part_of};
 ghost use Rattle.chip.specs.Records.{own_part};
-ghost use Rattle.chip.specs.Ranges.{flags_fit, cycle_fits, time_fits, tied, value_fits, page_fits, wait_fits, in_ranges};
-ghost use Rattle.chip.specs.Ranges.{blank_fits};
+ghost use Rattle.chip.specs.Ranges.{flags_fit, cycle_fits, time_fits, tied, value_fits, page_fits, wait_fits};
+ghost use Rattle.chip.specs.Ranges.{in_ranges};
+ghost use Rattle.chip.specs.Ranges.{blank_fits, waits_one};
 
-use crate::{Core, Waiting};
+use crate::{Core, Kind, Waiting};
 use codes::{identified, is_part, longest_of, pages_of, size_of, wrdi_in_cycle};
 
 // The cycle length, 1 to the part's longest.
@@ -19,17 +20,16 @@ impl Waiting {
     fn value_fits(self) -> bool
         ensures { result ≡ value_fits self }
     {
-        let status = self.status;
-        if self.kind == 1 {
-            return codes::writable(status) == status;
+        if self.has(Kind::Status) {
+            return codes::writable(self.status) == self.status;
         }
-        status == 0
+        self.status == 0
     }
 
     fn page_fits(self, part: u8) -> bool
         ensures { result ≡ page_fits (part_of part) self }
     {
-        if self.kind == 2 {
+        if self.has(Kind::Page) {
             return self.page < pages_of(part);
         }
         self.page == 0
@@ -38,18 +38,18 @@ impl Waiting {
     fn fits(self, part: u8) -> bool
         ensures { result ≡ wait_fits (part_of part) self }
     {
-        let latch = self.latch;
-        self.value_fits()
-            & self.page_fits(part)
-            & latch.fits(part, (self.kind == 2) | (self.kind == 3))
+        let latches = self.has(Kind::Page) | self.has(Kind::Identification);
+        self.value_fits() & self.page_fits(part) & self.latch.fits(part, latches)
     }
-}
 
-// One thing waits: the identification page and the lock only of a part that has them.
-fn one_waits(part: u8, kind: u8) -> bool
-    ensures { result ≡ (kind == 1 || kind == 2 || (part_of part).identified && (kind == 3 || kind == 4)) }
-{
-    (kind == 1) | (kind == 2) | identified(part) & ((kind == 3) | (kind == 4))
+    // One thing waits: the identification page and the lock only of a part that has them.
+    fn one_waits(self, part: u8) -> bool
+        ensures { result ≡ waits_one (part_of part) self }
+    {
+        self.has(Kind::Status)
+            | self.has(Kind::Page)
+            | identified(part) & (self.has(Kind::Identification) | self.has(Kind::Lock))
+    }
 }
 
 impl Core {
@@ -73,11 +73,11 @@ impl Core {
     fn tied(self) -> bool
         ensures { result ≡ tied (own_part self) self }
     {
-        let kind = self.waits.kind;
+        let waits = self.waits;
         if 0 < self.left {
-            return (wrdi_in_cycle(self.part) | (self.wel == 1)) & one_waits(self.part, kind);
+            return (wrdi_in_cycle(self.part) | (self.wel == 1)) & waits.one_waits(self.part);
         }
-        kind == 0
+        waits.has(Kind::Nothing)
     }
 
     fn blank_fits(self) -> bool

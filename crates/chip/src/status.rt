@@ -30,6 +30,6 @@ impl Core {
     pub fn lock_byte(self) -> u8
         ensures { result ≡ lock_byte self }
     {
-        (self.lock == 1) as u8
+        u8::from(self.lock == 1)
     }
 }

@@ -1,48 +1,33 @@
 // Passing time: a clock reading, and the end of a cycle.
-ghost use Rattle.std.specs.Prelude.{◌≡◌, ◌-◌, ◌&&◌, nat_le};
+ghost use Rattle.laws.specs.Pick.{pick};
+ghost use Rattle.codes.specs.declared.Refusal.TheVariants.{RecordRange};
+ghost use Rattle.std.specs.Prelude.{◌≡◌, ◌-◌, ◌&&◌, nat_le, Err, Ok};
 ghost use Rattle.codes.specs.Part.{part_of};
 ghost use Rattle.chip.specs.Records.{own_part, running, nothing, waits_identification};
 ghost use Rattle.chip.specs.Records.{with_status, with_lock, with_time, with_blank, without_cycle};
-ghost use Rattle.codes.specs.Refusals.{number};
-ghost use Rattle.chip.specs.Time.{elapsed, ended, ended_cells, timed_in, lent_fits};
+ghost use Rattle.codes.specs.Refusals.{number, no_refusal};
+ghost use Rattle.chip.specs.Ranges.{in_ranges};
+ghost use Rattle.chip.specs.Time.{admitted, elapsed, ended, ended_cells, timed_in, lent_fits};
 ghost use Rattle.chip.specs.Time.{timed_memory, timed_identification};
 ghost use Rattle.chip.specs.Time.{reading_number, clock_reading, clock_memory, clock_identification};
 
-use crate::{Core, Timed, Waiting};
-use codes::{Outcome, Refusal, bp0_of, bp1_of, page_of, size_of, srwd_of};
-use latch::Latch;
+use crate::{Answered, Core, Kind, Waiting};
+use codes::{Refusal, bp0_of, bp1_of, page_of, size_of, srwd_of};
 
 // Readings come from a free-running 32-bit microsecond counter that wraps.
 pub fn elapsed(old: u32, new: u32) -> u32
     ensures { result ≡ elapsed old new }
 {
-    std::num::wrapping_sub_u32(new, old)
-}
-
-impl Waiting {
-    // What waits where nothing does: every field is 0.
-    pub fn nothing() -> Waiting
-        ensures { result ≡ nothing }
-    {
-        Waiting {
-            kind: 0,
-            status: 0,
-            page: 0,
-            latch: Latch::none(),
-        }
-    }
+    new.wrapping_sub(old)
 }
 
 impl Core {
     fn with_status(mut self, value: u8) -> Core
         ensures { result ≡ with_status value self }
     {
-        let srwd = srwd_of(value);
-        let bp1 = bp1_of(value);
-        let bp0 = bp0_of(value);
-        self.srwd = srwd;
-        self.bp1 = bp1;
-        self.bp0 = bp0;
+        self.srwd = srwd_of(value);
+        self.bp1 = bp1_of(value);
+        self.bp0 = bp0_of(value);
         self
     }
 
@@ -73,10 +58,9 @@ impl Core {
     pub fn without_cycle(mut self) -> Core
         ensures { result ≡ without_cycle self }
     {
-        let waits = Waiting::nothing();
         self.wel = 0;
         self.left = 0;
-        self.waits = waits;
+        self.waits = Waiting::nothing();
         self
     }
 
@@ -91,12 +75,11 @@ impl Core {
     fn ended(self) -> Core
         ensures { result ≡ ended self }
     {
-        let kind = self.waits.kind;
-        let value = self.waits.status;
-        if kind == 1 {
-            return self.with_status(value).without_cycle();
+        let waits = self.waits;
+        if waits.has(Kind::Status) {
+            return self.with_status(waits.status).without_cycle();
         }
-        if kind == 4 {
+        if waits.has(Kind::Lock) {
             return self.with_lock().without_cycle();
         }
         self.without_cycle()
@@ -107,10 +90,9 @@ impl Core {
         ensures { identification.new
             ≡ ended_cells waits_identification (own_part self) self identification.old }
     {
-        let page = self.waits.page;
-        let latch = self.waits.latch;
-        if self.waits.kind == 3 {
-            latch.store(self.part, page, identification);
+        let waits = self.waits;
+        if waits.has(Kind::Identification) {
+            waits.latch.store(self.part, waits.page, identification);
         }
     }
 
@@ -131,11 +113,11 @@ impl Core {
     }
 }
 
-// What is left of a cycle.
+// What is left of a cycle. By name, as the contracts of those who call it speak of it.
 pub fn left_after(left: u32, passed: u32) -> u32
     ensures { result ≡ left - passed }
 {
-    if left < passed { 0 } else { left - passed }
+    left.saturating_sub(passed)
 }
 
 // Both lent slices are as long as the part has it.
@@ -145,6 +127,28 @@ pub fn lent_fits(part: u8, memory: usize, identification: usize) -> bool
     (memory == size_of(part)) & (identification == page_of(part))
 }
 
+impl Core {
+    // Refusal 2. A device of the pin model has its own test beside this one, since it has its own ranges.
+    pub fn checked(self) -> Result<(), Refusal>
+        ensures { result ≡ pick (in_ranges (own_part self) self) no_refusal (Err RecordRange) }
+    {
+        if self.in_ranges() {
+            return Ok(());
+        }
+        Err(Refusal::RecordRange)
+    }
+
+    // Refusal 1 for lent slices of other lengths than the part's, then 2.
+    pub fn admitted(self, memory: usize, identification: usize) -> Result<(), Refusal>
+        ensures { result ≡ admitted (own_part self) self memory identification }
+    {
+        if !lent_fits(self.part, memory, identification) {
+            return Err(Refusal::MemoryLength);
+        }
+        self.checked()
+    }
+}
+
 // The public clock reading, for every input: 1 for a memory or an identification page of another length, then 2 for a
 // record outside its ranges, both with everything as it was.
 pub fn clock_reading(
@@ -152,31 +156,24 @@ pub fn clock_reading(
     reading: u32,
     memory: &mut [u8],
     identification: &mut [u8],
-) -> Timed
+) -> Answered<(), Refusal>
     ensures value { result
         ≡ clock_reading (own_part core) reading core memory.old identification.old }
-    ensures as_number { number result.outcome
+    ensures as_number { number result.answer
         ≡ reading_number (own_part core) core memory.old identification.old }
     ensures memory_after { memory.new
         ≡ clock_memory (own_part core) reading core memory.old identification.old }
     ensures identification_after { identification.new
         ≡ clock_identification (own_part core) reading core memory.old identification.old }
 {
-    if lent_fits(core.part, memory.len(), identification.len()) {
-        if core.in_ranges() {
-            let next = core.timed(reading, memory, identification);
-            return Timed {
-                outcome: Outcome::Done,
-                core: next,
-            };
-        }
-        return Timed {
-            outcome: Outcome::Refused(Refusal::RecordRange),
-            core: core,
-        };
-    }
-    Timed {
-        outcome: Outcome::Refused(Refusal::MemoryLength),
-        core: core,
+    match core.admitted(memory.len(), identification.len()) {
+        Ok(()) => Answered {
+            answer: Ok(()),
+            core: core.timed(reading, memory, identification),
+        },
+        Err(refusal) => Answered {
+            answer: Err(refusal),
+            core,
+        },
     }
 }

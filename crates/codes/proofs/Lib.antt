@@ -3,6 +3,7 @@ pub mod Parts
 pub mod Sound
 pub mod Masks
 pub mod Starts
+pub mod Tested
 pub mod Judged
 pub mod Rows
 pub mod Ones

@@ -1,9 +1,14 @@
 -- Each call allows one result, and one content of what it is lent to write.
 use Rattle.laws.specs.One.{OneResult, same}
-use Rattle.codes.proofs.Refusal.number.Kinds as refusal-number
-use Rattle.codes.proofs.Refusal.number.Reads as refusal-number-reads
-use Rattle.codes.proofs.Outcome.number.Kinds as outcome-number
-use Rattle.codes.proofs.Outcome.number.Reads as outcome-number-reads
+use denote.RattleType.{RattleType}
+use denote.Param.Laws.{Laws, IsCopy}
+use mir.Syntax.{Dict}
+use Rattle.std.specs.declared.clone.Clone as clone
+use Rattle.codes.specs.declared.answers.Numbered as numbered
+use Rattle.codes.proofs.answers.ResultNumbered.number.Kinds as answer-number
+use Rattle.codes.proofs.answers.ResultNumbered.number.Reads as answer-number-reads
+use Rattle.codes.proofs.answers.RefusalNumbered.number.Kinds as refusal-number
+use Rattle.codes.proofs.answers.RefusalNumbered.number.Reads as refusal-number-reads
 use Rattle.codes.proofs.instructions.decode.Kinds as decode
 use Rattle.codes.proofs.instructions.decode.Reads as decode-reads
 use Rattle.codes.proofs.instructions.is_write.Kinds as is-write
@@ -46,8 +51,6 @@ use Rattle.codes.proofs.status.bp1_of.Kinds as bp1-of
 use Rattle.codes.proofs.status.bp1_of.Reads as bp1-of-reads
 use Rattle.codes.proofs.status.bp0_of.Kinds as bp0-of
 use Rattle.codes.proofs.status.bp0_of.Reads as bp0-of-reads
-use Rattle.codes.proofs.status.wide.Kinds as wide
-use Rattle.codes.proofs.status.wide.Reads as wide-reads
 use Rattle.codes.proofs.verdicts.judge.Kinds as judge
 use Rattle.codes.proofs.verdicts.judge.Reads as judge-reads
 use Rattle.codes.proofs.Verdict.is_executed.Kinds as verdict-is-executed
@@ -55,9 +58,6 @@ use Rattle.codes.proofs.Verdict.is_executed.Reads as verdict-is-executed-reads
 
 pub refusal_number_one : OneResult refusal-number.ps refusal-number.r refusal-number-reads.Post
 refusal_number_one κs a z z' e e' p q = same p q
-
-pub outcome_number_one : OneResult outcome-number.ps outcome-number.r outcome-number-reads.Post
-outcome_number_one κs a z z' e e' p q = same p q
 
 pub decode_one : OneResult decode.ps decode.r decode-reads.Post
 decode_one κs a z z' e e' p q = same p q
@@ -122,11 +122,15 @@ bp1_of_one κs a z z' e e' p q = same p q
 pub bp0_of_one : OneResult bp0-of.ps bp0-of.r bp0-of-reads.Post
 bp0_of_one κs a z z' e e' p q = same p q
 
-pub wide_one : OneResult wide.ps wide.r wide-reads.Post
-wide_one κs a z z' e e' p q = same p q
-
 pub judge_one : OneResult judge.ps judge.r judge-reads.Post
 judge_one κs a z z' e e' p q = same p q
 
 pub verdict_is_executed_one : OneResult verdict-is-executed.ps verdict-is-executed.r verdict-is-executed-reads.Post
 verdict_is_executed_one κs a z z' e e' p q = same p q
+
+-- of an answer of any two types, whatever the bounds of its impl come with
+pub answer_number_one : (A E : RattleType) (i : Laws A) (j : Laws E) (k : IsCopy A) (l : IsCopy E)
+    (m : clone.Ghosts A.Denot) (d : Dict) (n : numbered.Ghosts E.Denot) (e : Dict) (o : clone.Ghosts E.Denot) (f : Dict)
+    → OneResult (answer-number.ps A E i j k l) (answer-number.r A E i j k l)
+    (answer-number-reads.Post A E i j k l m d n e o f)
+answer_number_one A E i j k l m d n e o f κs a z z' x x' p q = same p q

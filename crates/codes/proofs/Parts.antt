@@ -1,12 +1,13 @@
 -- What holds of every row of the table of parts holds of the row that a part's number reads.
 use Prim.Native.Nat.{ℕ, ◌≤◌}
 use mathlib.Core.Bool.{Bool, true, false}
-use mathlib.Core.Path.{◌≡◌, refl, ◌∙◌}
+use Rattle.std.specs.Prelude.{◌≢◌}
+use mathlib.Core.Path.{◌≡◌, refl, ◌∙◌, ap}
 use native.Mathlib.Omega.{arith}
 use lib.Dec.{eqb, lit≤}
 use borrow.Author.Tests.{eqb-true, eqb-false, ne_eqb, leb-false}
 use Rattle.laws.specs.Pick.{pick, pick_case, at_no}
-use Rattle.codes.specs.Part.{Part, m95512, m95512d, m95m01, part_of, is_part, room, room_cells}
+use Rattle.codes.specs.Part.{Part, row_with, m95512, m95512d, m95m01, part_of, is_part, room, room_cells}
 
 module _ (F : Part → Type 0) where
   pub of_each : (n : ℕ) → F m95m01 → F m95512d → F m95512 → F (part_of n)
@@ -49,11 +50,21 @@ pub row_megabit : part_of 2 ≡ m95m01
 unfolding part_of pick
 row_megabit = refl
 
+-- the rows of the same sizes
+by_flag : (b : Bool) → pick b m95512d m95512 ≡ row_with b
+unfolding pick
+by_flag true = refl
+by_flag false = refl
+
+-- every number but the M95M01's reads one of them
+pub row_other : {n : ℕ} → n ≢ 2 → part_of n ≡ row_with (eqb n 1)
+unfolding part_of
+row_other {n} h = at_no m95m01 _ (ne_eqb n 2 h) ∙ by_flag (eqb n 1)
+
 -- a number that is none reads the M95512's
 pub row_none : (n : ℕ) → is_part n ≡ false → part_of n ≡ m95512
-unfolding part_of
 row_none n e =
-    at_no m95m01 _ (ne_eqb n 2 (λ h. omega (arith, leb-false n 2 e))) ∙ at_no m95512d m95512 (ne_eqb n 1 (λ h. omega (arith, leb-false n 2 e)))
+    row_other (λ h. omega (arith, leb-false n 2 e)) ∙ ap row_with (ne_eqb n 1 (λ h. omega (arith, leb-false n 2 e)))
 
 -- how large they are
 pub size_most : (n : ℕ) → (part_of n).size ≤ room_cells

@@ -1,35 +1,34 @@
-// Document 01's number of each refusal.
-ghost use Rattle.std.specs.Prelude.{◌≡◌};
-ghost use Rattle.codes.specs.Refusals.{refusal_number, number};
+// Document 01's number of each refusal, and of an answer.
+ghost use Rattle.std.specs.Prelude.{◌≡◌, ℕ};
+ghost use Rattle.codes.specs.Refusals.{refusal_number, number_by, number};
 
-use crate::{Outcome, Refusal};
+use crate::Refusal;
 
-impl Refusal {
-    // Document 01's number, 1 to 8.
-    pub fn number(self) -> u32
-        ensures { result ≡ refusal_number self }
-    {
-        match self {
-            Refusal::MemoryLength => 1,
-            Refusal::RecordRange => 2,
-            Refusal::FrameLength => 3,
-            Refusal::BitCount => 4,
-            Refusal::OutputLength => 5,
-            Refusal::CycleLength => 6,
-            Refusal::AddressRange => 7,
-            Refusal::PollRange => 8,
-        }
+// What has a number: an error, and an answer that may be one.
+pub trait Numbered {
+    ghost number: { Self → ℕ };
+
+    fn number(self) -> u32
+        ensures { result ≡ number self };
+}
+
+// Document 01's number, 1 to 8: the place in its order.
+impl Numbered for Refusal {
+    ghost number = { refusal_number };
+
+    fn number(self) -> u32 {
+        self as u32
     }
 }
 
-impl Outcome {
-    // 0 for done, or the refusal's number.
-    pub fn number(self) -> u32
-        ensures { result ≡ number self }
-    {
+// 0 where there is no error, or the error's number.
+impl<T: Copy, E: Numbered + Copy> Numbered for Result<T, E> {
+    ghost number = { number_by E.number };
+
+    fn number(self) -> u32 {
         match self {
-            Outcome::Done => 0,
-            Outcome::Refused(r) => r.number(),
+            Ok(_) => 0,
+            Err(error) => error.number(),
         }
     }
 }

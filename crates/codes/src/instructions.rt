@@ -70,37 +70,18 @@ pub fn decode(part: u8, code: u8) -> Instruction
     }
 }
 
-// The instruction that writes cells of the memory, and the one that writes those of the identification page.
+// The instruction that writes cells of the memory, and the one that writes those of the identification page. By name,
+// as the contracts of those who call them speak of them.
 pub fn is_write(i: Instruction) -> bool
     ensures { result ≡ is_write i }
 {
-    match i {
-        Instruction::Wren => false,
-        Instruction::Wrdi => false,
-        Instruction::Rdsr => false,
-        Instruction::Wrsr => false,
-        Instruction::Read => false,
-        Instruction::Write => true,
-        Instruction::Rdid => false,
-        Instruction::Wrid => false,
-        Instruction::Silence => false,
-    }
+    i == Instruction::Write
 }
 
 pub fn is_wrid(i: Instruction) -> bool
     ensures { result ≡ is_wrid i }
 {
-    match i {
-        Instruction::Wren => false,
-        Instruction::Wrdi => false,
-        Instruction::Rdsr => false,
-        Instruction::Wrsr => false,
-        Instruction::Read => false,
-        Instruction::Write => false,
-        Instruction::Rdid => false,
-        Instruction::Wrid => true,
-        Instruction::Silence => false,
-    }
+    i == Instruction::Wrid
 }
 
 impl Row {
@@ -110,10 +91,10 @@ impl Row {
             ≡ record { count = count; idle = idle; wel = wel; guard = guard; hold = false; known = true } }
     {
         Row {
-            count: count,
-            idle: idle,
-            wel: wel,
-            guard: guard,
+            count,
+            idle,
+            wel,
+            guard,
             hold: false,
             known: true,
         }

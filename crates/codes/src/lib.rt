@@ -11,6 +11,7 @@ mod sizes;
 mod status;
 mod verdicts;
 
+pub use answers::Numbered;
 pub use instructions::{
     RDID, RDSR, READ, WRDI, WREN, WRID, WRITE, WRSR, decode, is_wrid, is_write, picks_lock,
 };
@@ -20,13 +21,13 @@ pub use sizes::{
     address_bytes_of, head_of, identified, is_part, longest_of, most_of, page_number, page_of,
     pages_of, size_of, wrdi_in_cycle,
 };
-pub use status::{bp0_of, bp1_of, srwd_of, status_byte, wide, writable};
+pub use status::{bp0_of, bp1_of, srwd_of, status_byte, writable};
 pub use verdicts::judge;
 
-// The refusals 1 to 8, in their order; specs/Refusals.antt has their numbers.
-#[derive(Clone, Copy)]
+// The refusals in their order, with their numbers, 1 to 8.
+#[derive(Clone, Copy, PartialEq, Eq)]
 pub enum Refusal {
-    MemoryLength,
+    MemoryLength = 1,
     RecordRange,
     FrameLength,
     BitCount,
@@ -36,15 +37,8 @@ pub enum Refusal {
     PollRange,
 }
 
-// The answer of a call that hands back no number beside its record.
-#[derive(Clone, Copy)]
-pub enum Outcome {
-    Done,
-    Refused(Refusal),
-}
-
 // What an instruction byte says.
-#[derive(Clone, Copy)]
+#[derive(Clone, Copy, PartialEq, Eq)]
 pub enum Instruction {
     Wren,
     Wrdi,
@@ -84,8 +78,24 @@ pub struct Row {
     pub known: bool,
 }
 
-// What a deselect decides: the frame is executed, or the first test that failed.
+// What a deselect is judged by, beside the instruction, its address and its data byte.
 #[derive(Clone, Copy)]
+pub struct Deselect {
+    // counted edges
+    pub bits: usize,
+    // a cycle ran at the eighth of them
+    pub ran: bool,
+    pub wel: bool,
+    // SRWD 1 with W low
+    pub locked: bool,
+    // the cells that it would write are protected
+    pub protected: bool,
+    // in Hold
+    pub held: bool,
+}
+
+// What a deselect decides: the frame is executed, or the first test that failed.
+#[derive(Clone, Copy, PartialEq, Eq)]
 pub enum Verdict {
     Executed,
     CycleRan,

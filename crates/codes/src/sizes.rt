@@ -18,20 +18,13 @@ pub fn is_part(part: u8) -> bool
     part <= M95M01
 }
 
-// The numbers of the rows: of the M95512 and the M95512-D, and, named large, of the M95M01. The large ones are the room
-// that serves every part. First the cells of the memory, and of a page.
-const SIZE: usize = 65536;
-
-const PAGE: usize = 128;
-
+// Cells of the memory, and of a page, of the largest part: the room that serves every part.
 pub const LARGE_SIZE: usize = 131072;
 
 pub const LARGE_PAGE: usize = 256;
 
-// Address bytes, which stand after the code.
+// Address bytes, which stand after the code, of the M95512 and the M95512-D.
 pub const ADDRESS_BYTES: u8 = 2;
-
-const LARGE_ADDRESS_BYTES: u8 = 3;
 
 // The first bytes of the M95M01's identification page as delivered: ST, the SPI family, 1 Mbit.
 pub const MANUFACTURER: u8 = 0x20;
@@ -40,15 +33,71 @@ pub const FAMILY: u8 = 0x00;
 
 pub const DENSITY: u8 = 0x11;
 
+// A row of the table of parts.
+#[derive(Clone, Copy)]
+struct Sizes {
+    // cells of the memory
+    size: usize,
+    // cells of a page, and of the identification page
+    page: usize,
+    // address bytes after the code
+    address_bytes: u8,
+    // where the count of whole bytes taken stays
+    most: u8,
+    // microseconds of the longest write cycle
+    longest: u32,
+    // it has an identification page and a lock
+    identified: bool,
+    // WRDI is executed in a cycle too
+    wrdi_in_cycle: bool,
+}
+
+// The row of the M95512, which is the M95512-D's but for the identification page, and that of the M95M01.
+const SMALL: Sizes = Sizes {
+    size: 65536,
+    page: 128,
+    address_bytes: ADDRESS_BYTES,
+    most: 5,
+    longest: 5000,
+    identified: false,
+    wrdi_in_cycle: false,
+};
+
+const LARGE: Sizes = Sizes {
+    size: LARGE_SIZE,
+    page: LARGE_PAGE,
+    address_bytes: 3,
+    most: 6,
+    longest: 4000,
+    identified: true,
+    wrdi_in_cycle: true,
+};
+
+// The row of a part's number.
+fn row_of(part: u8) -> Sizes
+    ensures row { (result.size ≡ (part_of part).size) × (result.page ≡ (part_of part).page)
+        × (result.address_bytes ≡ (part_of part).address_bytes) × (result.most ≡ (part_of part).most)
+        × (result.longest ≡ (part_of part).longest) × (result.identified ≡ (part_of part).identified)
+        × (result.wrdi_in_cycle ≡ (part_of part).wrdi_in_cycle) }
+    ensures sizes { (1024 ≤ result.size) × (result.size ≤ room_cells) × (128 ≤ result.page) × (result.page ≤ room) }
+    ensures counts { (2 ≤ result.address_bytes) × (result.address_bytes ≤ 3) × (5 ≤ result.most)
+        × (result.most ≤ 6) × (1 ≤ result.longest) × (result.longest ≤ 5000) }
+{
+    if part == M95M01 {
+        return LARGE;
+    }
+    Sizes {
+        identified: part == M95512D,
+        ..SMALL
+    }
+}
+
 // Cells of the memory.
 pub fn size_of(part: u8) -> usize
     ensures value { result ≡ (part_of part).size }
     ensures lower_bound { (1024 ≤ result) × (result ≤ room_cells) }
 {
-    if part == M95M01 {
-        return LARGE_SIZE;
-    }
-    SIZE
+    row_of(part).size
 }
 
 // Cells of a page, and of the identification page.
@@ -56,31 +105,26 @@ pub fn page_of(part: u8) -> usize
     ensures value { result ≡ (part_of part).page }
     ensures lower_bound { (128 ≤ result) × (result ≤ room) }
 {
-    if part == M95M01 {
-        return LARGE_PAGE;
-    }
-    PAGE
+    row_of(part).page
 }
 
 // Pages of the memory.
 pub fn pages_of(part: u8) -> u32
     ensures { result ≡ pages (part_of part) }
 {
-    if part == M95M01 {
-        return (LARGE_SIZE / LARGE_PAGE) as u32;
-    }
-    (SIZE / PAGE) as u32
+    (size_of(part) / page_of(part)) as u32
 }
 
-// The page that an address is in. Each row divides by a constant.
+// The page that an address is in. Not by the row: each branch divides by a constant,
+// which is a shift. A division by the row's page takes more than 4 times as long, measured in C.
 pub fn page_number(part: u8, address: usize) -> usize
     ensures value { result ≡ address / (part_of part).page }
     ensures upper_bound { result ≤ address }
 {
     if part == M95M01 {
-        return address / LARGE_PAGE;
+        return address / LARGE.page;
     }
-    address / PAGE
+    address / SMALL.page
 }
 
 // Address bytes.
@@ -88,10 +132,7 @@ pub fn address_bytes_of(part: u8) -> u8
     ensures value { result ≡ (part_of part).address_bytes }
     ensures lower_bound { (2 ≤ result) × (result ≤ 3) }
 {
-    if part == M95M01 {
-        return LARGE_ADDRESS_BYTES;
-    }
-    ADDRESS_BYTES
+    row_of(part).address_bytes
 }
 
 // The bytes before the data of a READ or a WRITE: the code and the address.
@@ -106,7 +147,7 @@ pub fn head_of(part: u8) -> u8
 pub(crate) fn write_bits_of(part: u8) -> usize
     ensures { result ≡ write_bits (part_of part) }
 {
-    8 * (head_of(part) as usize + 1)
+    8 * (usize::from(head_of(part)) + 1)
 }
 
 // Where the count of whole bytes taken stays.
@@ -114,10 +155,7 @@ pub fn most_of(part: u8) -> u8
     ensures value { result ≡ (part_of part).most }
     ensures lower_bound { (5 ≤ result) × (result ≤ 6) }
 {
-    if part == M95M01 {
-        return 6;
-    }
-    5
+    row_of(part).most
 }
 
 // Microseconds of the longest write cycle.
@@ -125,22 +163,19 @@ pub fn longest_of(part: u8) -> u32
     ensures value { result ≡ (part_of part).longest }
     ensures lower_bound { (1 ≤ result) × (result ≤ 5000) }
 {
-    if part == M95M01 {
-        return 4000;
-    }
-    5000
+    row_of(part).longest
 }
 
 // It has an identification page and a lock.
 pub fn identified(part: u8) -> bool
     ensures { result ≡ (part_of part).identified }
 {
-    (part == M95512D) | (part == M95M01)
+    row_of(part).identified
 }
 
 // WRDI is executed in a cycle too.
 pub fn wrdi_in_cycle(part: u8) -> bool
     ensures { result ≡ (part_of part).wrdi_in_cycle }
 {
-    part == M95M01
+    row_of(part).wrdi_in_cycle
 }

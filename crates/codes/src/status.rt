@@ -19,6 +19,7 @@ pub fn writable(value: u8) -> u8
     value & WRITABLE
 }
 
+// Each of them by its name, which says more than a bit's number at each use.
 pub fn srwd_of(value: u8) -> u8
     ensures { result ≡ bit_of 7 value }
 {
@@ -35,11 +36,4 @@ pub fn bp0_of(value: u8) -> u8
     ensures { result ≡ bit_of 2 value }
 {
     value >> 2 & 1
-}
-
-// A byte as a number of an answer.
-pub fn wide(byte: u8) -> u32
-    ensures { result ≡ byte }
-{
-    byte as u32
 }

@@ -5,7 +5,7 @@ ghost use Rattle.codes.specs.Instructions.{count_fits, guarded};
 ghost use Rattle.codes.specs.Verdicts.{let_through, verdict, verdict_by, is_executed};
 
 use crate::instructions::row;
-use crate::{Count, Guard, Instruction, Row, Verdict};
+use crate::{Count, Deselect, Guard, Instruction, Row, Verdict};
 
 impl Count {
     // The count of bits at deselect is not the instruction's.
@@ -49,54 +49,34 @@ impl Row {
 
     // The first test that fails: cycle, WEL, count, protection, hold, unknown code. Fewer than eight bits are no
     // instruction.
-    fn judge(
-        self,
-        bits: usize,
-        ran: bool,
-        wel: bool,
-        locked: bool,
-        protected: bool,
-        held: bool,
-    ) -> Verdict
-        ensures { result ≡ verdict_by self bits ran wel locked protected held }
+    fn judge(self, at: Deselect) -> Verdict
+        ensures { result ≡ verdict_by self at.bits at.ran at.wel at.locked at.protected at.held }
     {
-        let count = self.count;
-        let guard = self.guard;
-        if bits < 8 {
+        if at.bits < 8 {
             return Verdict::WrongCount;
         }
-        if self.idle & ran {
+        if self.idle & at.ran {
             return Verdict::CycleRan;
         }
-        if self.wel & !wel {
+        if self.wel & !at.wel {
             return Verdict::WelOff;
         }
-        if count.stops(bits) {
+        if self.count.stops(at.bits) {
             return Verdict::WrongCount;
         }
-        if guard.stops(locked, protected) {
+        if self.guard.stops(at.locked, at.protected) {
             return Verdict::Guarded;
         }
-        self.let_through(held)
+        self.let_through(at.held)
     }
 }
 
 // What a deselect decides of a frame with this instruction, its address and its data byte.
-pub fn judge(
-    part: u8,
-    i: Instruction,
-    address: u32,
-    value: u8,
-    bits: usize,
-    ran: bool,
-    wel: bool,
-    locked: bool,
-    protected: bool,
-    held: bool,
-) -> Verdict
-    ensures { result ≡ verdict (part_of part) i address value bits ran wel locked protected held }
+pub fn judge(part: u8, i: Instruction, address: u32, value: u8, at: Deselect) -> Verdict
+    ensures { result
+        ≡ verdict (part_of part) i address value at.bits at.ran at.wel at.locked at.protected at.held }
 {
-    row(part, i, address, value).judge(bits, ran, wel, locked, protected, held)
+    row(part, i, address, value).judge(at)
 }
 
 impl Verdict {
@@ -104,14 +84,6 @@ impl Verdict {
     pub fn is_executed(self) -> bool
         ensures { result ≡ is_executed self }
     {
-        match self {
-            Verdict::Executed => true,
-            Verdict::CycleRan => false,
-            Verdict::WelOff => false,
-            Verdict::WrongCount => false,
-            Verdict::Guarded => false,
-            Verdict::OnHold => false,
-            Verdict::UnknownCode => false,
-        }
+        self == Verdict::Executed
     }
 }

@@ -3,37 +3,30 @@ ghost use Rattle.std.specs.Prelude.{◌≡◌, ◌≤◌, IsTrue, length, replic
 
 use std::env::{Env, FillError};
 
-// Room for a word: 4,096 zeros.
-pub fn buffer() -> [u8; 4096]
-    ensures len { 4096 ≡ length result }
-    ensures zeros { result ≡ replicate 4096 0 }
+// Room of zeros, of the size that is asked for.
+pub fn zeros<const N: usize>() -> [u8; N]
+    ensures len { N ≡ length result }
+    ensures zeros { result ≡ replicate N 0 }
 {
-    [0; 4096]
+    [0; N]
 }
 
-// 65,536 zeros.
-pub fn large_buffer() -> [u8; 65536]
-    ensures len { 65536 ≡ length result }
-    ensures zeros { result ≡ replicate 65536 0 }
-{
-    [0; 65536]
-}
+// Room for a word.
+pub const WORD: usize = 4096;
 
 // Puts the word at a place at the start of room, and answers its length: 0 where there is none, or room is too small.
 pub fn word(rt: &impl Env, at: usize, room: &mut [u8]) -> usize
     ensures { result ≤ length room.new }
 {
-    match rt.arg(at, room) {
-        Ok(n) => n,
-        Err(_) => 0,
-    }
+    // 0 and no Option: to a program a word that is not there is an empty one.
+    rt.arg(at, room).unwrap_or(0)
 }
 
 // The word at a place is that one. One of over 4,096 bytes counts as empty, and so does one that is not there.
 pub fn is_word(rt: &impl Env, at: usize, what: &[u8]) -> bool
     ensures { IsTrue result → length what.now ≤ 4096 }
 {
-    let mut room = buffer();
+    let mut room = zeros::<WORD>();
     let n = word(rt, at, &mut room);
     &room[..n] == what
 }

@@ -11,7 +11,7 @@ mod names;
 #[cfg(test)]
 mod tests;
 
-pub use arguments::{buffer, count, is_word, large_buffer, word};
+pub use arguments::{WORD, count, is_word, word, zeros};
 pub use lines::{put_number, say};
 pub use messages::{Tell, fail};
 pub use names::{file_name, open};

@@ -1,4 +1,4 @@
-use crate::{buffer, count, file_name, is_word, open, put_number, say, word};
+use crate::{count, file_name, is_word, open, put_number, say, word, zeros};
 use std::env::{Env, FillError};
 use std::test::Fail;
 
@@ -24,7 +24,7 @@ fn full(rt: HostRuntime) -> Result<(), Fail> {
 
 #[test]
 fn own_name(rt: HostRuntime) -> Result<(), Fail> {
-    let mut room = buffer();
+    let mut room = zeros::<4096>();
     let all = count(&rt);
     assert!(rt; all > 0);
     assert!(rt; word(&rt, 0, &mut room) > 0);

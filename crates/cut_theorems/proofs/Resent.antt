@@ -1,5 +1,6 @@
 -- A driver's write that begins with no cycle running and would be done, cut between its frames: the same write, sent again and done, leaves the memory of
 -- the uncut one. The cut and the part of the run before it leave every cell outside the run as it was, and the second run writes every cell inside.
+use Rattle.std.specs.Prelude.{Ok}
 use mathlib.Core.Path.{◌≡◌, ap, sym, ◌∙◌}
 use mathlib.Core.Bool.{false, ◌&&◌}
 use mathlib.Core.List.{List, ◌++◌}
@@ -29,7 +30,6 @@ use Rattle.sequence.specs.Counts.{overwritten}
 use Rattle.sequence.proofs.Stored.{overwritten_length, overwritten_in, overwritten_below, overwritten_past}
 use Rattle.driver.specs.Answers.{driven, driven_memory}
 use Rattle.driver.specs.declared.Sent.{Sent}
-use Rattle.driver.specs.declared.RunReply.TheVariants.{Done}
 use Rattle.driver_theorems.proofs.Twice.{begun, none_left, memory_left}
 use Rattle.cut_theorems.specs.Outside.{Outside}
 use Rattle.cut_theorems.proofs.Prefix.{prefix_outside_idle, prefix_ready}
@@ -64,7 +64,7 @@ nowhere a n j e = elim (dec_lt j a) [
 -- ---- the write, its cut, and the write again
 
 module _ (P : Part) (sound : Sound P) (a : ℕ) (bytes : List ℕ) (c : Core) (m page : List ℕ) (i limit : ℕ) (s t : Sent) (low : c.last < 2 ^ 32)
-    (idle : running c ≡ false) (uncut : (driven P c m page a bytes i limit).answer ≡ Done s) (pre post : List Act)
+    (idle : running c ≡ false) (uncut : (driven P c m page a bytes i limit).answer ≡ Ok s) (pre post : List Act)
     (parts : (run P i limit a bytes (frame_bench c m page)).acts ≡ pre ++ post) (h : Choice) where
   abbrev before : FrameBench
   before = acted_all P pre (frame_bench c m page)
@@ -90,7 +90,7 @@ module _ (P : Part) (sound : Sound P) (a : ℕ) (bytes : List ℕ) (c : Core) (m
       ∙ two.0
 
   -- interval and limit may differ
-  pub resent : (k most : ℕ) → after.core.last < 2 ^ 32 → (driven P after.core after.memory after.identification a bytes k most).answer ≡ Done t
+  pub resent : (k most : ℕ) → after.core.last < 2 ^ 32 → (driven P after.core after.memory after.identification a bytes k most).answer ≡ Ok t
       → driven_memory P after.core after.memory after.identification a bytes k most ≡ driven_memory P c m page a bytes i limit
   resent k most later again = elim (ℕ_discrete (length bytes) 0) [
     | yes none ↦

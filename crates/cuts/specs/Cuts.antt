@@ -1,5 +1,6 @@
 -- A supply cut and the power's return: what waits is cut down to what the bench chose, and then its cycle is over. All
 -- else is as at power-up, with the surviving bits; the cycle length and the last reading are kept.
+use Rattle.codes.specs.declared.Refusal.{Refusal}
 use Rattle.std.specs.Prelude.{ℕ, Bool, false, not, ◌&&◌, List}
 use Rattle.laws.specs.Pick.{pick}
 use Rattle.laws.specs.Marks.{mark, and_words}
@@ -12,7 +13,7 @@ use Rattle.chip.specs.Records.{nothing, waits_with, with_waits, with_blank, with
 use Rattle.chip.specs.Time.{ended, ended_cells, ended_blank, reading_outcome}
 use Rattle.chip.specs.declared.Waiting.{Waiting}
 use Rattle.chip.specs.declared.Core.{Core}
-use Rattle.chip.specs.declared.Timed.{Timed}
+use Rattle.chip.specs.declared.Answered.{Answered}
 use Rattle.cuts.specs.declared.Choice.{Choice}
 
 -- ---- the choice
@@ -70,9 +71,9 @@ cut_in P h c m = with_blank (cut_blank P h c m) (cut_core h c)
 
 -- ---- the public call, for every input: refusals 1 and 2, as of a clock reading
 
-abbrev pub cut_answer : Part → Choice → Core → List ℕ → List ℕ → Timed
+abbrev pub cut_answer : Part → Choice → Core → List ℕ → List ℕ → Answered (Unit {0}) Refusal
 cut_answer P h c m d =
-    record { outcome = reading_outcome P c m d; core = pick (is_done (reading_outcome P c m d)) (cut_in P h c m) c }
+    record { answer = reading_outcome P c m d; core = pick (is_done (reading_outcome P c m d)) (cut_in P h c m) c }
 
 abbrev pub cut_memory_answer : Part → Choice → Core → List ℕ → List ℕ → List ℕ
 cut_memory_answer P h c m d = pick (is_done (reading_outcome P c m d)) (cut_memory P h c m) m

@@ -8,14 +8,14 @@ ghost use Rattle.cuts.specs.Cuts.{cut_answer, cut_memory_answer, cut_identificat
 
 use crate::Choice;
 use crate::down::cut_down;
-use chip::{Core, Timed, clock_reading, lent_fits};
-use codes::Outcome;
+use chip::{Answered, Core};
+use codes::Refusal;
 
 // The reading at which so much time has passed.
 fn later(last: u32, left: u32) -> u32
     ensures { elapsed last result ≡ left }
 {
-    std::num::wrapping_add_u32(last, left)
+    last.wrapping_add(left)
 }
 
 // A cut with no refusal: the step that both models take. A cycle that runs is over as if all its time had passed, but
@@ -37,22 +37,29 @@ pub fn cut_core(core: Core, choice: Choice, memory: &mut [u8], identification: &
 
 // A supply cut and the power's return, for every input. It is refused as a clock reading is: 1 for a memory or an
 // identification page of another length, then 2 for a record outside its ranges, both with everything as it was.
-pub fn cut(core: Core, choice: Choice, memory: &mut [u8], identification: &mut [u8]) -> Timed
+pub fn cut(
+    core: Core,
+    choice: Choice,
+    memory: &mut [u8],
+    identification: &mut [u8],
+) -> Answered<(), Refusal>
     ensures value { result
         ≡ cut_answer (own_part core) choice core memory.old identification.old }
-    ensures as_number { number result.outcome
+    ensures as_number { number result.answer
         ≡ reading_number (own_part core) core memory.old identification.old }
     ensures memory_after { memory.new
         ≡ cut_memory_answer (own_part core) choice core memory.old identification.old }
     ensures identification_after { identification.new
         ≡ cut_identification_answer (own_part core) choice core memory.old identification.old }
 {
-    if lent_fits(core.part, memory.len(), identification.len()) & core.in_ranges() {
-        let next = cut_core(core, choice, memory, identification);
-        return Timed {
-            outcome: Outcome::Done,
-            core: next,
-        };
+    match core.admitted(memory.len(), identification.len()) {
+        Ok(()) => Answered {
+            answer: Ok(()),
+            core: cut_core(core, choice, memory, identification),
+        },
+        Err(refusal) => Answered {
+            answer: Err(refusal),
+            core,
+        },
     }
-    clock_reading(core, core.last, memory, identification)
 }

@@ -5,9 +5,10 @@ ghost use Rattle.cuts.specs.Cuts.{chosen, cut_latch, cut_status, cut_waits, cut_
 ghost use Rattle.laws.specs.Pick.{pick};
 
 use crate::Choice;
-use chip::{Core, Waiting};
+use chip::{Core, Kind, Waiting};
 use codes::{bp0_of, bp1_of, srwd_of, status_byte};
 use latch::Latch;
+use std::array;
 
 // Mark i, of the first word.
 fn chosen(choice: Choice, i: u32) -> bool
@@ -21,17 +22,9 @@ fn chosen(choice: Choice, i: u32) -> bool
 fn cut_latch(latch: Latch, choice: Choice) -> Latch
     ensures { result ≡ cut_latch choice latch }
 {
-    let bytes = latch.bytes;
-    let marks = latch.marks;
-    let words = choice.words;
     Latch {
-        bytes: bytes,
-        marks: [
-            marks[0] & words[0],
-            marks[1] & words[1],
-            marks[2] & words[2],
-            marks[3] & words[3],
-        ],
+        bytes: latch.bytes,
+        marks: array::from_fn(|k| latch.marks[k] & choice.words[k]),
     }
 }
 
@@ -56,24 +49,20 @@ fn cut_waits(core: Core, choice: Choice) -> Waiting
     ensures { result ≡ cut_waits choice core }
 {
     let mut waits = core.waits;
-    let kind = waits.kind;
-    if kind == 1 {
-        let status = cut_status(core, choice, waits.status);
-        waits.status = status;
+    if waits.has(Kind::Status) {
+        waits.status = cut_status(core, choice, waits.status);
         return waits;
     }
-    if (kind == 4) & !chosen(choice, 0) {
+    if waits.has(Kind::Lock) & !chosen(choice, 0) {
         return Waiting::nothing();
     }
-    let latch = cut_latch(waits.latch, choice);
-    waits.latch = latch;
+    waits.latch = cut_latch(waits.latch, choice);
     waits
 }
 
 pub(crate) fn cut_down(mut core: Core, choice: Choice) -> Core
     ensures { result ≡ cut_down choice core }
 {
-    let waits = cut_waits(core, choice);
-    core.waits = waits;
+    core.waits = cut_waits(core, choice);
     core
 }

@@ -8,8 +8,7 @@ use Rattle.sequence.specs.Sequence.{sent, first_wait, Ending, all_done, timed_ou
 use Rattle.sequence.proofs.Playing.{acted_all_append, sent_append}
 use Rattle.sequence.proofs.Seen.{seen_wip, seen_touches}
 use Rattle.sequence.proofs.Ways.{run_none, run_late, run_touches, run_parts}
-use Rattle.driver.specs.declared.Driven.{Driven}
-use Rattle.driver.specs.declared.RunReply.{RunReply}
+use Rattle.driver.specs.Answers.{RunReply, Driven}
 use Rattle.driver.specs.declared.waiting.Waited.{Waited}
 use Rattle.driver.specs.Answers.{ending_answer, counted_answer, parts_answer, run_answer, Drove}
 use Rattle.driver.proofs.Left.{Left}

@@ -1,5 +1,6 @@
 -- The page parts when they end: what is handed back, and what is left in the memory and in the identification page.
-use Rattle.std.proofs.Common.{◌≡◌, ℕ, suc, ◌+◌, ◌-◌, ◌<◌, ◌≤◌, Bool, true, false, List, [], length, sym, refl, ap, ◌∙◌, subst, ap₂, arith}
+use Rattle.std.specs.Prelude.{Ok, Err}
+use Rattle.std.proofs.Common.{◌≡◌, ℕ, suc, ◌+◌, ◌-◌, ◌<◌, Bool, true, false, List, [], length, sym, refl, ap, ◌∙◌, subst, ap₂, arith}
 use Rattle.codes.specs.Part.{Part}
 use Rattle.codes.specs.Status.{on, bit_of}
 use Rattle.chip.specs.Records.{own_part, running}
@@ -8,10 +9,9 @@ use Rattle.frames.specs.Play.{Act, FrameBench, acted_all, frame_bench}
 use Rattle.sequence.specs.Sequence.{sent, Ending, all_done, timed_out, Run, stopped, pages_from, all_parts}
 use Rattle.sequence.proofs.Seen.{seen_wip}
 use Rattle.sequence.proofs.Runs.{part_acts, pages_late, pages_none, Rest, rest_next}
-use Rattle.driver.specs.declared.RunReply.{RunReply}
-use Rattle.driver.specs.declared.RunReply.TheVariants.{Done, TimedOut}
+use Rattle.driver.specs.declared.RunError.TheVariants.{TimedOut}
 use Rattle.driver.specs.declared.waiting.Waited.{Waited}
-use Rattle.driver.specs.Answers.{ending_answer, parts_answer, Drove}
+use Rattle.driver.specs.Answers.{RunReply, ending_answer, parts_answer, Drove}
 use Rattle.driver.specs.Told.{Told}
 use Rattle.driver.proofs.Left.{Left, left}
 
@@ -54,7 +54,7 @@ module _ {P : Part} {i limit a : ℕ} {bytes : List ℕ} {parts before : ℕ} {d
 
     pub rest_late : on (bit_of 0 w.status) ≡ true → parts ≡ count P.size P.page a (length bytes)
         → Drove P (parts_answer before) (all_parts P i limit a bytes) d₀
-        (record { answer = TimedOut (record { pages = k; frames = frames + w.frames }); core = w.core }) m p
+        (record { answer = Err (TimedOut (record { pages = k; frames = frames + w.frames })); core = w.core }) m p
     rest_late late all =
         let one : parts - k ≡ suc (parts - (k + 1)) = omega arith in
         rest_ends P i limit a bytes parts before d₀ k frames (frames + w.frames) d (frame_bench w.core m p) (part_acts P i limit a bytes k d) timed_out all
@@ -63,12 +63,16 @@ module _ {P : Part} {i limit a : ℕ} {bytes : List ℕ} {parts before : ℕ} {d
         left.leaves (ap (λ (n : ℕ). frames + n) left.told.1.1.0) o
 
   -- .. or with no part left
-  pub rest_done : parts ≤ k → parts ≡ count P.size P.page a (length bytes)
+  pub rest_done : k ≡ parts → parts ≡ count P.size P.page a (length bytes)
       → Drove P (parts_answer before) (all_parts P i limit a bytes) d₀
-      (record { answer = Done (record { pages = k; frames = frames }); core = d.core }) d.memory d.identification
+      (record { answer = Ok (record { pages = parts; frames = frames }); core = d.core }) d.memory d.identification
   rest_done h all =
-      rest_ends P i limit a bytes parts before d₀ k frames frames d d [] all_done all (pages_none P i limit a bytes (parts - k) k d (omega arith)) refl
-      (omega arith) o
+      subst
+      (λ (n : ℕ). Drove P (parts_answer before) (all_parts P i limit a bytes) d₀
+      (record { answer = Ok (record { pages = n; frames = frames }); core = d.core }) d.memory d.identification)
+      h
+      (rest_ends P i limit a bytes parts before d₀ k frames frames d d [] all_done all (pages_none P i limit a bytes (parts - k) k d (omega arith)) refl
+      (omega arith) o)
 
 -- what a part leaves that was written at its record's own part, which is P
 pub part_left : (P : Part) (i limit a : ℕ) (bytes : List ℕ) (k : ℕ) (d : FrameBench) (r : Waited) (m p : List ℕ) → own_part d.core ≡ P

@@ -1,7 +1,6 @@
 -- What it says of an input that it is not refused, document 01's number and counts of each answer, and what is handed back.
-use Rattle.std.proofs.Common.{◌≡◌, ℕ, ◌+◌, ◌-◌, ◌≤◌, leb, List, length, sym, refl, ap, ◌∙◌, arith, le-leb, leb-true}
-use native.Mathlib.Decide.{dec_le}
-use borrow.Author.Tests.{lt-leb}
+use Rattle.std.specs.Prelude.{Err}
+use Rattle.std.proofs.Common.{◌≡◌, ℕ, ◌+◌, ◌≤◌, leb, List, length, sym, refl, ap, ◌∙◌, leb-true}
 use Rattle.laws.specs.Pick.{pick, pick_ap, pick_cong}
 use Rattle.laws.specs.And.{and_4_out}
 use Rattle.codes.specs.Part.{Part}
@@ -11,26 +10,17 @@ use Rattle.chip.proofs.Readings.{lent_memory, lent_identification}
 use Rattle.chip.specs.declared.Core.{Core}
 use Rattle.codes.specs.declared.Refusal.{Refusal}
 use Rattle.codes.specs.declared.Refusal.TheVariants.{MemoryLength, RecordRange, AddressRange, PollRange}
-use Rattle.codes.specs.declared.Outcome.{Outcome}
-use Rattle.codes.specs.declared.Outcome.TheVariants as outcome
+use Rattle.codes.specs.Refusals.{Outcome, no_refusal}
 use Rattle.frames.proofs.Outcomes.{not_refused}
 use Rattle.frames.specs.Play.{FrameBench, frame_bench}
 use Rattle.sequence.specs.Ready.{Ready}
 use Rattle.driver.specs.declared.Sent.{Sent}
-use Rattle.driver.specs.declared.RunReply.{RunReply}
-use Rattle.driver.specs.declared.RunReply.TheVariants.{Refused}
-use Rattle.driver.specs.declared.Driven.{Driven}
+use Rattle.driver.specs.declared.RunError.TheVariants.{Refused}
+use Rattle.driver.specs.Answers.{RunReply, Driven}
 use Rattle.sequence.specs.Sequence.{Ending, all_done, timed_out, protected, ending_number, Run, run}
 use Rattle.driver.specs.Answers.{run_reply_number, run_reply_pages, run_reply_frames, ending_answer, run_answer, polls_fit}
 use Rattle.driver.specs.Answers.{drive_choice, drive_outcome, drive_number, drive_pages, drive_frames, run_reply}
 use Rattle.driver.specs.Answers.{LimitFits, Drove, driven, driven_memory, driven_identification}
-
--- the test that makes no sum
-pub fits_either : (a n m : ℕ) → n ≤ m → leb a (m - n) ≡ leb (a + n) m
-fits_either a n m h = elim (dec_le (a + n) m) [
-  | yes f ↦ le-leb a (m - n) (omega arith) ∙ sym (le-leb (a + n) m f)
-  | no f ↦ lt-leb a (m - n) (omega arith) ∙ sym (lt-leb (a + n) m (omega arith))
-]
 
 pub record Taken (P : Part) (d : FrameBench) (a len interval limit : ℕ) : Type 0 where
   pub ready : Ready P d
@@ -40,7 +30,7 @@ pub record Taken (P : Part) (d : FrameBench) (a len interval limit : ℕ) : Type
   pub limits : LimitFits P limit
 
 module _ (P : Part) (c : Core) (m i : List ℕ) (a len interval limit : ℕ) where
-  pub taken : {o : Outcome} → o ≡ drive_outcome P c (length m) (length i) a len interval limit → o ≡ outcome.Done
+  pub taken : {o : Outcome} → o ≡ drive_outcome P c (length m) (length i) a len interval limit → o ≡ no_refusal
       → Taken P (frame_bench c m i) a len interval limit
   taken found done =
       let memory = not_refused _ _ MemoryLength (sym found ∙ done) in
@@ -77,15 +67,15 @@ module _ (P : Part) (c : Core) (size cells a len interval limit : ℕ) (r : Run)
   -- a function of the answer, taken past its four refusals
   pub drive_by : (f : RunReply → ℕ) {n : ℕ} → f (run_answer r) ≡ n
       → f (run_reply (drive_outcome P c size cells a len interval limit) r)
-      ≡ drive_choice P c size cells a len interval limit (f (Refused MemoryLength)) (f (Refused RecordRange)) (f (Refused AddressRange))
-      (f (Refused PollRange)) n
+      ≡ drive_choice P c size cells a len interval limit (f (Err (Refused MemoryLength))) (f (Err (Refused RecordRange))) (f (Err (Refused AddressRange)))
+      (f (Err (Refused PollRange))) n
   drive_by f e =
       let of : Outcome → ℕ = λ o. f (run_reply o r) in
       pick_ap of (lent_fits P size cells) _ _
-      ∙ pick_cong (lent_fits P size cells) (f (Refused MemoryLength)) (λ m. pick_ap of (in_ranges P c) _ _
-      ∙ pick_cong (in_ranges P c) (f (Refused RecordRange)) (λ n. pick_ap of (leb (a + len) P.size) _ _
-      ∙ pick_cong (leb (a + len) P.size) (f (Refused AddressRange)) (λ i. pick_ap of (polls_fit P interval limit) _ _
-      ∙ pick_cong (polls_fit P interval limit) (f (Refused PollRange)) (λ p. e))))
+      ∙ pick_cong (lent_fits P size cells) (f (Err (Refused MemoryLength))) (λ m. pick_ap of (in_ranges P c) _ _
+      ∙ pick_cong (in_ranges P c) (f (Err (Refused RecordRange))) (λ n. pick_ap of (leb (a + len) P.size) _ _
+      ∙ pick_cong (leb (a + len) P.size) (f (Err (Refused AddressRange))) (λ i. pick_ap of (polls_fit P interval limit) _ _
+      ∙ pick_cong (polls_fit P interval limit) (f (Err (Refused PollRange))) (λ p. e))))
 
 -- ---- what is handed back, and left in the memory and in the identification page: a run that is taken, and one that is refused
 
@@ -110,7 +100,7 @@ module _ (P : Part) (c : Core) (m i : List ℕ) (a : ℕ) (bytes : List ℕ) (in
   by : (f : RunReply → ℕ) {n : ℕ} (o : Outcome) → drive_outcome P c (length m) (length i) a (length bytes) interval limit ≡ o → f (run_answer whole) ≡ n
       → f (run_reply o whole)
       ≡ drive_choice P c (length m) (length i) a (length bytes) interval limit
-      (f (Refused MemoryLength)) (f (Refused RecordRange)) (f (Refused AddressRange)) (f (Refused PollRange)) n
+      (f (Err (Refused MemoryLength))) (f (Err (Refused RecordRange))) (f (Err (Refused AddressRange))) (f (Err (Refused PollRange))) n
   by f o e h = ap (λ (x : Outcome). f (run_reply x whole)) (sym e) ∙ drive_by P c (length m) (length i) a (length bytes) interval limit whole f h
 
   numbers : (o : Outcome) → drive_outcome P c (length m) (length i) a (length bytes) interval limit ≡ o
@@ -125,7 +115,7 @@ module _ (P : Part) (c : Core) (m i : List ℕ) (a : ℕ) (bytes : List ℕ) (in
       → run_reply_frames (run_reply o whole) ≡ drive_frames P c m i a bytes interval limit
   frames o e = by run_reply_frames o e (ending_frames whole.ending _)
 
-  pub drove : (r : Driven) (m' i' : List ℕ) {o : Outcome} → o ≡ drive_outcome P c (length m) (length i) a (length bytes) interval limit → o ≡ outcome.Done
+  pub drove : (r : Driven) (m' i' : List ℕ) {o : Outcome} → o ≡ drive_outcome P c (length m) (length i) a (length bytes) interval limit → o ≡ no_refusal
       → Drove P run_answer (run P interval limit a bytes) began r m' i' → HandsBack r m' i'
   unfolding driven driven_memory driven_identification pick
   drove r m' i' found done told =
@@ -133,23 +123,23 @@ module _ (P : Part) (c : Core) (m i : List ℕ) (a : ℕ) (bytes : List ℕ) (in
       rw (told.0, told.1.0, told.1.1)
       (record {
         value = rw e;
-        as_number = numbers outcome.Done e;
-        as_pages = pages outcome.Done e;
-        as_frames = frames outcome.Done e;
+        as_number = numbers no_refusal e;
+        as_pages = pages no_refusal e;
+        as_frames = frames no_refusal e;
         memory_after = rw e;
         identification_after = rw e;
       })
 
-  pub refused : (n : Refusal) {o : Outcome} → o ≡ drive_outcome P c (length m) (length i) a (length bytes) interval limit → o ≡ outcome.Refused n
-      → HandsBack (record { answer = Refused n; core = c }) m i
+  pub refused : (n : Refusal) {o : Outcome} → o ≡ drive_outcome P c (length m) (length i) a (length bytes) interval limit → o ≡ Err n
+      → HandsBack (record { answer = Err (Refused n); core = c }) m i
   unfolding driven driven_memory driven_identification pick
   refused n found refuses =
       let e = sym found ∙ refuses in
       record {
         value = rw e;
-        as_number = numbers (outcome.Refused n) e;
-        as_pages = pages (outcome.Refused n) e;
-        as_frames = frames (outcome.Refused n) e;
+        as_number = numbers (Err n) e;
+        as_pages = pages (Err n) e;
+        as_frames = frames (Err n) e;
         memory_after = rw e;
         identification_after = rw e;
       }

@@ -1,49 +1,56 @@
 -- The public call, for every input: the refusals in their order, the answer with its counts, the record, the memory and
 -- the identification page.
-use Rattle.std.specs.Prelude.{◌≡◌, ℕ, ◌+◌, ◌≤◌, Bool, ◌&&◌, List, length, nat_le}
+use Rattle.std.specs.Prelude.{◌≡◌, ℕ, ◌+◌, ◌≤◌, Bool, ◌&&◌, List, length, nat_le, Result, Err, Ok}
 use Rattle.laws.specs.Pick.{pick}
 use Rattle.codes.specs.Part.{Part}
 use Rattle.chip.specs.Ranges.{in_ranges}
 use Rattle.chip.specs.Time.{lent_fits}
-use Rattle.codes.specs.Refusals.{refusal_number, is_done}
+use Rattle.codes.specs.Refusals.{Outcome, refusal_number, number_by, is_done, no_refusal}
 use Rattle.chip.specs.declared.Core.{Core}
+use Rattle.chip.specs.declared.Answered.{Answered}
 use Rattle.codes.specs.declared.Refusal.TheVariants.{MemoryLength, RecordRange, AddressRange, PollRange}
-use Rattle.codes.specs.declared.Outcome.{Outcome}
-use Rattle.codes.specs.declared.Outcome.TheVariants as outcome
 use Rattle.frames.specs.Play.{FrameBench, acted_all, frame_bench}
 use Rattle.driver.specs.declared.Sent.{Sent}
-use Rattle.driver.specs.declared.RunReply.{RunReply}
-use Rattle.driver.specs.declared.RunReply.TheVariants.{Done, TimedOut, Protected, Refused}
-use Rattle.driver.specs.declared.Driven.{Driven}
+use Rattle.driver.specs.declared.RunError.{RunError}
+use Rattle.driver.specs.declared.RunError.TheVariants.{TimedOut, Protected, Refused}
 use Rattle.sequence.specs.Sequence.{sent, Ending, all_done, timed_out, protected, ending_number, Run, run}
 
 -- ---- the answer
 
+-- of a run, and what is handed back with it
+abbrev pub RunReply : Type 0
+RunReply = Result Sent RunError
+
+abbrev pub Driven : Type 0
+Driven = Answered Sent RunError
+
 -- its number in document 01
+abbrev pub run_error_number : RunError → ℕ
+run_error_number (TimedOut s) = 9
+run_error_number (Protected s) = 13
+run_error_number (Refused r) = refusal_number r
+
 abbrev pub run_reply_number : RunReply → ℕ
-run_reply_number (Done s) = 0
-run_reply_number (TimedOut s) = 9
-run_reply_number (Protected s) = 13
-run_reply_number (Refused r) = refusal_number r
+run_reply_number = number_by run_error_number
 
 -- pages done, and frames sent: every count is 0 in a refusal
+abbrev pub run_sent : RunReply → Sent
+run_sent (Ok s) = s
+run_sent (Err (TimedOut s)) = s
+run_sent (Err (Protected s)) = s
+run_sent (Err (Refused r)) = record { pages = 0; frames = 0 }
+
 abbrev pub run_reply_pages : RunReply → ℕ
-run_reply_pages (Done s) = s.pages
-run_reply_pages (TimedOut s) = s.pages
-run_reply_pages (Protected s) = s.pages
-run_reply_pages (Refused r) = 0
+run_reply_pages x = (run_sent x).pages
 
 abbrev pub run_reply_frames : RunReply → ℕ
-run_reply_frames (Done s) = s.frames
-run_reply_frames (TimedOut s) = s.frames
-run_reply_frames (Protected s) = s.frames
-run_reply_frames (Refused r) = 0
+run_reply_frames x = (run_sent x).frames
 
 -- by the ending of a run
 abbrev pub ending_answer : Ending → Sent → RunReply
-ending_answer all_done s = Done s
-ending_answer timed_out s = TimedOut s
-ending_answer protected s = Protected s
+ending_answer all_done s = Ok s
+ending_answer timed_out s = Err (TimedOut s)
+ending_answer protected s = Err (Protected s)
 
 -- of a run in which so many frames were sent ..
 abbrev pub counted_answer : ℕ → Run → RunReply
@@ -78,8 +85,8 @@ drive_choice P c size cells a len interval limit one two seven eight done =
 abbrev pub drive_outcome : Part → Core → ℕ → ℕ → ℕ → ℕ → ℕ → ℕ → Outcome
 drive_outcome P c size cells a len interval limit =
     drive_choice P c size cells a len interval limit
-    (outcome.Refused MemoryLength) (outcome.Refused RecordRange) (outcome.Refused AddressRange)
-    (outcome.Refused PollRange) outcome.Done
+    (Err MemoryLength) (Err RecordRange) (Err AddressRange)
+    (Err PollRange) no_refusal
 
 -- the number of the answer
 abbrev pub drive_number : Part → Core → ℕ → ℕ → ℕ → ℕ → ℕ → ℕ → Ending → ℕ
@@ -100,8 +107,8 @@ drive_frames P c m i a bytes interval limit =
 -- ---- what is handed back, and what is left in the memory and in the identification page
 
 abbrev pub run_reply : Outcome → Run → RunReply
-run_reply outcome.Done r = run_answer r
-run_reply (outcome.Refused e) r = Refused e
+run_reply (Ok _) r = run_answer r
+run_reply (Err e) r = Err (Refused e)
 
 abbrev pub leaves : Part → Run → Core → List ℕ → List ℕ → FrameBench
 leaves P r c m i = acted_all P r.acts (frame_bench c m i)

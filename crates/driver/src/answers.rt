@@ -1,45 +1,42 @@
-// Document 01's number of an answer, and its values.
-ghost use Rattle.std.specs.Prelude.{◌≡◌};
-ghost use Rattle.driver.specs.Answers.{run_reply_number, run_reply_pages, run_reply_frames};
+// Document 01's number of an error, and what was sent of an answer.
+ghost use Rattle.std.specs.Prelude.{◌≡◌, ℕ};
+ghost use Rattle.driver.specs.declared.RunError.TheVariants.{Refused};
+ghost use Rattle.driver.specs.Answers.{run_error_number, run_sent};
 
-use crate::{RunReply, Sent};
+use crate::{RunError, Sent};
+use codes::{Numbered, Refusal};
 
-impl RunReply {
-    pub fn number(self) -> u32
-        ensures { result ≡ run_reply_number self }
-    {
+impl From<Refusal> for RunError {
+    ghost from_gives = { λ r e. e ≡ Refused r };
+
+    fn from(refusal: Refusal) -> RunError {
+        RunError::Refused(refusal)
+    }
+}
+
+impl Numbered for RunError {
+    ghost number = { run_error_number };
+
+    fn number(self) -> u32 {
         match self {
-            RunReply::Done(_) => 0,
-            RunReply::TimedOut(_) => 9,
-            RunReply::Protected(_) => 13,
-            RunReply::Refused(r) => r.number(),
+            RunError::TimedOut(_) => 9,
+            RunError::Protected(_) => 13,
+            RunError::Refused(refusal) => refusal.number(),
         }
     }
+}
 
-    // Pages done and frames sent; none in a refusal.
-    fn sent(self) -> Sent
-        ensures { (result.pages ≡ run_reply_pages self) × (result.frames ≡ run_reply_frames self) }
+impl Sent {
+    // Of an answer; nothing in a refusal.
+    pub fn of(answer: Result<Sent, RunError>) -> Sent
+        ensures { result ≡ run_sent answer }
     {
-        match self {
-            RunReply::Done(s) => s,
-            RunReply::TimedOut(s) => s,
-            RunReply::Protected(s) => s,
-            RunReply::Refused(_) => Sent {
+        match answer {
+            Ok(sent) | Err(RunError::TimedOut(sent) | RunError::Protected(sent)) => sent,
+            Err(RunError::Refused(_)) => Sent {
                 pages: 0,
                 frames: 0,
             },
         }
-    }
-
-    pub fn pages(self) -> u32
-        ensures { result ≡ run_reply_pages self }
-    {
-        self.sent().pages
-    }
-
-    pub fn frames(self) -> u32
-        ensures { result ≡ run_reply_frames self }
-    {
-        self.sent().frames
     }
 }

@@ -1,51 +1,49 @@
 // The driver: writes any run of bytes as page writes. WREN and WRITE go through the frame model's promise; a wait reads
 // the record's status and steps its time (docs/DECISIONS.md, Forms). From a record inside its ranges no frame of a run
-// is refused (run-accepted of sequence), so the ranges are tested once.
+// is refused (run_accepted of sequence), so the ranges are tested once.
 //
 // It waits until no cycle runs, reads from the status byte that ended that wait where protection starts, and refuses a
 // run that touches the block. Else it sends WREN and WRITE for each page part and waits for the end of its cycle. It
-// says exactly what it did. Public call, for every input: write.
+// says exactly what it did.
+//
+// An address and the bytes for it are two parameters: they are handed over apart, and need not lie in the memory
+// (refusal 7).
+//
+// Public call, for every input: write. Inner calls, total, and exactly their definitions: Sent::of, RunError's number.
 #![tactic(auto)]
 
 ghost use Rattle.std.specs.Prelude.{◌≡◌, ◌+◌, ◌≤◌, length};
 ghost use Rattle.chip.specs.Records.{own_part};
 ghost use Rattle.frames.specs.Play.{frame_bench};
 ghost use Rattle.sequence.specs.Sequence.{run};
-ghost use Rattle.driver.specs.Answers.{run_reply_number, run_reply_pages, run_reply_frames, run_answer};
-ghost use Rattle.driver.specs.Answers.{LimitFits, Drove};
+ghost use Rattle.driver.specs.Answers.{run_reply_number, run_reply_pages, run_reply_frames, run_answer, Drove};
 ghost use Rattle.driver.specs.Answers.{drive_number, drive_pages, drive_frames};
 ghost use Rattle.driver.specs.Answers.{driven, driven_memory, driven_identification};
 
-use chip::Core;
-use codes::{Outcome, Refusal};
+use chip::{Answered, Core};
+use codes::Refusal;
+use polls::Polls;
 
 mod answers;
 mod pages;
+mod polls;
 mod refused;
 mod status;
 mod waiting;
 
 // Pages done and frames sent.
-#[derive(Clone, Copy)]
+#[derive(Clone, Copy, PartialEq, Eq)]
 pub struct Sent {
     pub pages: u32,
     pub frames: u32,
 }
 
-// How a run ended, with its counts, or the refusal.
-#[derive(Clone, Copy)]
-pub enum RunReply {
-    Done(Sent),
+// Why a run was not done: a wait used its limit, the data touches the protected block, or the call was refused.
+#[derive(Clone, Copy, PartialEq, Eq)]
+pub enum RunError {
     TimedOut(Sent),
     Protected(Sent),
     Refused(Refusal),
-}
-
-// What a run hands back: its answer, and the record that follows or, in a refusal, the record as given.
-#[derive(Clone, Copy)]
-pub struct Driven {
-    pub answer: RunReply,
-    pub core: Core,
 }
 
 // The run of an input that is not refused: nothing for no data, else the first wait and, where the data does not touch
@@ -56,55 +54,47 @@ fn drive(
     identification: &mut [u8],
     address: u64,
     bytes: &[u8],
-    interval: u32,
-    limit: u32,
-) -> Driven
-    requires bytes_bound { address + length bytes.now ≤ (own_part core).size }
-    requires limit_fits { LimitFits (own_part core) limit }
-    ensures { Drove (own_part core) run_answer (run (own_part core) interval limit address bytes.now)
+    polls: Polls,
+) -> Answered<Sent, RunError>
+    requires { address + length bytes.now ≤ (own_part core).size }
+    ensures { Drove (own_part core) run_answer (run (own_part core) polls.interval polls.limit address bytes.now)
         (frame_bench core memory.old identification.old) result memory.new
         identification.new }
 {
-    if bytes.len() == 0 {
-        return Driven {
-            answer: RunReply::Done(Sent {
+    if bytes.is_empty() {
+        return Answered {
+            answer: Ok(Sent {
                 pages: 0,
                 frames: 0,
             }),
-            core: core,
+            core,
         };
     }
-    // the first poll is made without moving the clock
-    let first = waiting::poll_on(core, memory, identification, interval, limit - 1).and_sent(1);
-    let next = first.core;
-    let frames = first.frames;
+    let first = waiting::first_wait(core, memory, identification, polls);
+    let sent = Sent {
+        pages: 0,
+        frames: first.frames,
+    };
     if status::wip(first.status) {
-        return Driven {
-            answer: RunReply::TimedOut(Sent {
-                pages: 0,
-                frames: frames,
-            }),
-            core: next,
+        return Answered {
+            answer: Err(RunError::TimedOut(sent)),
+            core: first.core,
         };
     }
     if status::block_touched(core.part, first.status, address, bytes.len()) {
-        return Driven {
-            answer: RunReply::Protected(Sent {
-                pages: 0,
-                frames: frames,
-            }),
-            core: next,
+        return Answered {
+            answer: Err(RunError::Protected(sent)),
+            core: first.core,
         };
     }
     pages::write_parts(
-        next,
+        first.core,
         memory,
         identification,
         address,
         bytes,
-        interval,
-        limit,
-        frames,
+        polls,
+        first.frames,
     )
 }
 
@@ -120,7 +110,7 @@ pub fn write(
     bytes: &[u8],
     interval: u32,
     limit: u32,
-) -> Driven
+) -> Answered<Sent, RunError>
     ensures value { result
         ≡ driven (own_part core) core memory.old identification.old address
         bytes.now interval limit }
@@ -142,7 +132,7 @@ pub fn write(
         ≡ driven_identification (own_part core) core memory.old identification.old address
         bytes.now interval limit }
 {
-    match refused::outcome(
+    let checked = refused::outcome(
         core,
         memory.len(),
         identification.len(),
@@ -150,19 +140,13 @@ pub fn write(
         bytes.len(),
         interval,
         limit,
-    ) {
-        Outcome::Done => drive(
+    );
+    if let Err(refusal) = checked {
+        return Answered {
+            answer: Err(RunError::from(refusal)),
             core,
-            memory,
-            identification,
-            address,
-            bytes,
-            interval,
-            limit,
-        ),
-        Outcome::Refused(r) => Driven {
-            answer: RunReply::Refused(r),
-            core: core,
-        },
+        };
     }
+    let polls = Polls { interval, limit };
+    drive(core, memory, identification, address, bytes, polls)
 }

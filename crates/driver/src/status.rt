@@ -19,5 +19,5 @@ pub(crate) fn block_touched(part: u8, status: u8, address: u64, len: usize) -> b
     ensures { result ≡ nat_lt (lowest_shown (part_of part) status) (address + len) }
 {
     let lowest = lowest_protected(part, bp1_of(status) == 1, bp0_of(status) == 1);
-    (lowest as u64) < address + len as u64
+    u64::from(lowest) < address + len as u64
 }

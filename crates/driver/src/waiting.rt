@@ -1,12 +1,12 @@
 // A wait: polls until WIP is 0, at most as many as its limit. A poll is RDSR with one status byte: it shows that of the
-// record and leaves the record as it was (polled-status and poll-leaves of frames).
+// record and leaves the record as it was (polled_status and poll_leaves of frames).
 ghost use Rattle.std.specs.Prelude.{◌≡◌, ◌+◌, ◌≤◌};
 ghost use Rattle.chip.specs.Records.{own_part};
 ghost use Rattle.frames.specs.Play.{frame_bench};
-ghost use Rattle.sequence.specs.Sequence.{polls_on, page_wait};
+ghost use Rattle.sequence.specs.Sequence.{polls_on, first_wait, page_wait};
 ghost use Rattle.driver.specs.Told.{ToldFrom};
-ghost use Rattle.driver.specs.Answers.{LimitFits};
 
+use crate::polls::Polls;
 use chip::Core;
 
 // What a wait saw last, the record after it, and the frames sent.
@@ -30,6 +30,7 @@ impl Waited {
 
 // Polls while WIP is 1 and some are left, each after moving the clock. One that finds the cycle still running moves two
 // numbers; the one that ends it takes the record's own step.
+// Stays a `while`: it ends by the polls or by the cycle, and a `for` over the polls would need a `break` for the other.
 pub(crate) fn poll_on(
     start: Core,
     memory: &mut [u8],
@@ -45,13 +46,13 @@ pub(crate) fn poll_on(
     let mut rest = start.left;
     let mut polls: u32 = 0;
     while (polls < left) & (interval < rest) {
-        last = std::num::wrapping_add_u32(last, interval);
+        last = last.wrapping_add(interval);
         rest -= interval;
         polls += 1;
     }
     let core = start.with_time(last, rest);
     if (polls < left) & (0 < rest) {
-        let reading = std::num::wrapping_add_u32(last, interval);
+        let reading = last.wrapping_add(interval);
         let over = core.timed(reading, memory, identification);
         return Waited {
             status: over.status(),
@@ -61,9 +62,30 @@ pub(crate) fn poll_on(
     }
     Waited {
         status: core.status(),
-        core: core,
+        core,
         frames: polls,
     }
+}
+
+// The wait of a run's start: its first poll is made without moving the clock.
+pub(crate) fn first_wait(
+    core: Core,
+    memory: &mut [u8],
+    identification: &mut [u8],
+    polls: Polls,
+) -> Waited
+    ensures { ToldFrom (own_part core) (first_wait (own_part core) polls.interval polls.limit)
+        (frame_bench core memory.old identification.old) result memory.new
+        identification.new }
+{
+    poll_on(
+        core,
+        memory,
+        identification,
+        polls.interval,
+        polls.limit - 1,
+    )
+    .and_sent(1)
 }
 
 // The wait of a page: the clock is moved before its first poll too. That poll is made even where no cycle runs.
@@ -71,18 +93,16 @@ pub(crate) fn page_wait(
     core: Core,
     memory: &mut [u8],
     identification: &mut [u8],
-    interval: u32,
-    limit: u32,
+    polls: Polls,
 ) -> Waited
-    requires { LimitFits (own_part core) limit }
-    ensures { ToldFrom (own_part core) (page_wait (own_part core) interval limit)
+    ensures { ToldFrom (own_part core) (page_wait (own_part core) polls.interval polls.limit)
         (frame_bench core memory.old identification.old) result memory.new
         identification.new }
 {
     if core.running() {
-        return poll_on(core, memory, identification, interval, limit);
+        return poll_on(core, memory, identification, polls.interval, polls.limit);
     }
-    let reading = std::num::wrapping_add_u32(core.last, interval);
+    let reading = core.last.wrapping_add(polls.interval);
     let next = core.with_time(reading, 0);
     Waited {
         status: next.status(),

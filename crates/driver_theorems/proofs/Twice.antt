@@ -1,7 +1,8 @@
 -- The same write sent twice, both done, leaves the memory and the identification page of one: from any start that the driver accepts, a
 -- running cycle included; interval and limit may differ.
+use Rattle.std.specs.Prelude.{Err, Ok}
 use mathlib.Core.Path.{◌≡◌, refl, ap, sym, ◌∙◌}
-use mathlib.Core.Bool.{Bool, true, false, true≢false}
+use mathlib.Core.Bool.{true}
 use mathlib.Core.List.{List}
 use Prim.Native.Nat.{ℕ, ◌+◌, ◌^◌, ◌<◌}
 use native.Mathlib.Decide.{dec_lt, ℕ_discrete}
@@ -11,9 +12,7 @@ use lib.Seq.{ext_get_or}
 use borrow.Author.Tests.{le-ltb}
 use Rattle.laws.specs.Pick.{pick, at_yes, at_no, pick_same}
 use Rattle.codes.specs.Part.{Part}
-use Rattle.codes.specs.Refusals.{is_done}
-use Rattle.codes.specs.declared.Outcome.{Outcome}
-use Rattle.codes.specs.declared.Outcome.TheVariants as outcome
+use Rattle.codes.specs.Refusals.{Outcome, is_done, no_refusal}
 use Rattle.codes.proofs.Sound.{Sound}
 use Rattle.chip.specs.declared.Core.{Core}
 use Rattle.frames.specs.Play.{frame_bench, acted_all}
@@ -21,8 +20,6 @@ use Rattle.sequence.specs.Ready.{Ready}
 use Rattle.sequence.specs.Sequence.{Ending, all_done, timed_out, protected, Run, run}
 use Rattle.driver.specs.Answers.{ending_answer, run_reply, drive_outcome, driven, driven_memory, driven_identification}
 use Rattle.driver.specs.declared.Sent.{Sent}
-use Rattle.driver.specs.declared.RunReply.{RunReply}
-use Rattle.driver.specs.declared.RunReply.TheVariants.{Done, TimedOut, Protected, Refused}
 use Rattle.driver.proofs.Outcomes.{taken}
 use Rattle.sequence.proofs.Ways.{run_none}
 use Rattle.sequence.specs.Counts.{overwritten, once_ended, once_ended_identification}
@@ -52,34 +49,26 @@ module _ (a : ℕ) (bytes m : List ℕ) where
 
 -- ---- an answer that says done
 
-is_done_reply : RunReply → Bool
-is_done_reply (Done s) = true
-is_done_reply (TimedOut s) = false
-is_done_reply (Protected s) = false
-is_done_reply (Refused r) = false
-
-ending_done : (x : Ending) (t s : Sent) → ending_answer x t ≡ Done s → x ≡ all_done
-unfolding is_done_reply
+ending_done : (x : Ending) (t s : Sent) → ending_answer x t ≡ Ok s → x ≡ all_done
 ending_done all_done t s e = refl
-ending_done timed_out t s e = absurd (true≢false (sym (ap is_done_reply e)))
-ending_done protected t s e = absurd (true≢false (sym (ap is_done_reply e)))
+ending_done timed_out t s e = absurd cc
+ending_done protected t s e = absurd cc
 
-reply_done : (o : Outcome) (r : Run) (s : Sent) → run_reply o r ≡ Done s → (o ≡ outcome.Done) × (r.ending ≡ all_done)
-unfolding is_done_reply
-reply_done outcome.Done r s e = (refl, ending_done r.ending _ s e)
-reply_done (outcome.Refused f) r s e = absurd (true≢false (sym (ap is_done_reply e)))
+reply_done : (o : Outcome) (r : Run) (s : Sent) → run_reply o r ≡ Ok s → (o ≡ no_refusal) × (r.ending ≡ all_done)
+reply_done (Ok _) r s e = (refl, ending_done r.ending _ s e)
+reply_done (Err f) r s e = absurd cc
 
 -- ---- what a run that is done leaves
 
 module _ (P : Part) (sound : Sound P) (a : ℕ) (bytes : List ℕ) where
-  module _ (c : Core) (m page : List ℕ) (i limit : ℕ) (s : Sent) (done : (driven P c m page a bytes i limit).answer ≡ Done s) where
+  module _ (c : Core) (m page : List ℕ) (i limit : ℕ) (s : Sent) (done : (driven P c m page a bytes i limit).answer ≡ Ok s) where
     abbrev found : Outcome
     found = drive_outcome P c (length m) (length page) a (length bytes) i limit
 
     abbrev went : Run
     went = run P i limit a bytes (frame_bench c m page)
 
-    says : (found ≡ outcome.Done) × (went.ending ≡ all_done)
+    says : (found ≡ no_refusal) × (went.ending ≡ all_done)
     unfolding driven
     says = reply_done found went s done
 
@@ -147,8 +136,8 @@ module _ (P : Part) (sound : Sound P) (a : ℕ) (bytes : List ℕ) where
     abbrev first_page : List ℕ
     first_page = driven_identification P c m page a bytes i limit
 
-    module _ (low : c.last < 2 ^ 32) (one : (driven P c m page a bytes i limit).answer ≡ Done s) (low_again : first_core.last < 2 ^ 32)
-        (two : (driven P first_core first_memory first_page a bytes j most).answer ≡ Done t) where
+    module _ (low : c.last < 2 ^ 32) (one : (driven P c m page a bytes i limit).answer ≡ Ok s) (low_again : first_core.last < 2 ^ 32)
+        (two : (driven P first_core first_memory first_page a bytes j most).answer ≡ Ok t) where
       pub run_twice : driven_memory P first_core first_memory first_page a bytes j most ≡ first_memory
       run_twice = elim (ℕ_discrete (length bytes) 0) [
         | yes none ↦ none_left first_core first_memory first_page j most t two none

@@ -1,34 +1,45 @@
-// Chance that is the same in every run: a xorshift generator, whose state is among the run's numbers.
+// Chance that is the same in every run: a xorshift generator.
 ghost use Rattle.std.specs.Prelude.{◌-◌, ◌≤◌};
 
-use crate::run::{CHANCE, Run};
-
-fn turned(state: u64) -> u64 {
-    let a = state ^ (state << 13);
-    let b = a ^ (a >> 7);
-    b ^ (b << 17)
+#[derive(Clone, Copy)]
+pub struct Chance {
+    state: u64,
 }
 
-// A number below n; 0 for n = 0.
-pub fn below(n: u64, run: &mut Run) -> u64
-    ensures { result ≤ n - 1 }
-{
-    let next = turned(run[CHANCE]);
-    run[CHANCE] = next;
-    if n == 0 {
-        return 0;
+impl Chance {
+    pub fn begun() -> Chance {
+        Chance {
+            state: 0x9e3779b97f4a7c15,
+        }
     }
-    (next >> 11) % n
-}
 
-pub fn percent(part: u64, run: &mut Run) -> bool {
-    below(100, run) < part
-}
+    fn turn(&mut self) -> u64 {
+        self.state ^= self.state << 13;
+        self.state ^= self.state >> 7;
+        self.state ^= self.state << 17;
+        self.state
+    }
 
-pub fn byte(run: &mut Run) -> u8 {
-    below(256, run) as u8
-}
+    // A number below n; 0 for n = 0.
+    pub fn below(&mut self, n: u64) -> u64
+        ensures { result ≤ n - 1 }
+    {
+        let next = self.turn();
+        if n == 0 {
+            return 0;
+        }
+        (next >> 11) % n
+    }
 
-pub fn word(run: &mut Run) -> u32 {
-    below(4294967296, run) as u32
+    pub fn percent(&mut self, part: u64) -> bool {
+        self.below(100) < part
+    }
+
+    pub fn byte(&mut self) -> u8 {
+        self.below(256) as u8
+    }
+
+    pub fn word(&mut self) -> u32 {
+        self.below(4294967296) as u32
+    }
 }

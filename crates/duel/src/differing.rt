@@ -1,42 +1,54 @@
-// What the two models may differ in: each is the place of its label where the first difference is printed.
-pub const READING: usize = 0;
+// What the two models may differ in.
+#[derive(Clone, Copy)]
+pub enum Differing {
+    Reading,
+    Frame,
+    Change,
+    Scanned,
+    Cell,
+    PageCell,
+    Q,
+    QDriven,
+    PastCount,
+    Latched,
+    Marks,
+    Waits,
+    StatusWaits,
+    PageWaits,
+    Cycle,
+    Left,
+    Last,
+    Blank,
+    Part,
+    Lock,
+    Status,
+}
 
-pub const FRAME: usize = 1;
-
-pub const CHANGE: usize = 2;
-
-pub const SCANNED: usize = 3;
-
-pub const CELL: usize = 4;
-
-pub const PAGE_CELL: usize = 5;
-
-pub const Q: usize = 6;
-
-pub const Q_DRIVEN: usize = 7;
-
-pub const PAST_COUNT: usize = 8;
-
-pub const LATCHED: usize = 9;
-
-pub const MARKS: usize = 10;
-
-pub const WAITS: usize = 11;
-
-pub const STATUS_WAITS: usize = 12;
-
-pub const PAGE_WAITS: usize = 13;
-
-pub const CYCLE: usize = 14;
-
-pub const LEFT: usize = 15;
-
-pub const LAST: usize = 16;
-
-pub const BLANK: usize = 17;
-
-pub const PART: usize = 18;
-
-pub const LOCK: usize = 19;
-
-pub const STATUS: usize = 20;
+impl Differing {
+    // Its label where the first difference is printed.
+    pub fn label(self) -> &'static str {
+        match self {
+            Differing::Reading => "number of a reading",
+            Differing::Frame => "number of a frame",
+            Differing::Change => "number of a change",
+            Differing::Scanned => "blank cells, scanned",
+            Differing::Cell => "cell",
+            Differing::PageCell => "identification cell",
+            Differing::Q => "Q at clock",
+            Differing::QDriven => "Q driven at clock",
+            Differing::PastCount => "output past count",
+            Differing::Latched => "latched byte",
+            Differing::Marks => "word of marks",
+            Differing::Waits => "what waits",
+            Differing::StatusWaits => "status that waits",
+            Differing::PageWaits => "page that waits",
+            Differing::Cycle => "cycle length",
+            Differing::Left => "time left",
+            Differing::Last => "last reading",
+            Differing::Blank => "blank cells",
+            Differing::Part => "part",
+            Differing::Lock => "lock",
+            Differing::Status => "status byte",
+        }
+    }
+}

@@ -1,246 +1,225 @@
 // A frame drawn as single pin changes: D free between edges, any pin set to the level it has, both modes, pauses that
 // begin and end with C low, C free in a pause and between frames. Clock readings come at byte boundaries, after the
 // falling edge in mode 0 and before it in mode 3, and never in a pause.
-use crate::cells::{Memory, Page, first};
-use crate::chance::{below, percent};
+use crate::cells::{Memory, Page};
+use crate::chance::Chance;
 use crate::compared::{bit_at, clock};
-use crate::differing;
-use crate::run::{CHANGES, LIVELY, PAUSES, Run, count, same};
-use crate::schedules::{MANY, Schedule, is_due};
-use codes::{page_of, size_of};
+use crate::differing::Differing;
+use crate::made::{Bytes, Frame};
+use crate::run::{Run, count};
+use crate::schedules::Schedule;
+use codes::{Numbered, page_of, size_of};
+use edges::Level;
 use pins::{Device, Stepped};
 
-const S: u64 = 0;
+#[derive(Clone, Copy, PartialEq, Eq)]
+pub enum Pin {
+    S,
+    C,
+    D,
+    W,
+    Hold,
+}
 
-const C: u64 = 1;
+impl Pin {
+    fn any(chance: &mut Chance) -> Pin {
+        match chance.below(5) {
+            0 => Pin::S,
+            1 => Pin::C,
+            2 => Pin::D,
+            3 => Pin::W,
+            _ => Pin::Hold,
+        }
+    }
+}
 
-const D: u64 = 2;
-
-pub const W: u64 = 3;
-
-const HOLD: u64 = 4;
-
-// The pin model: its device and its identification page.
-#[derive(Clone, Copy)]
+// The pin model: its device, over its memory and its identification page.
+#[derive(Drop)]
 pub struct PinSide {
     pub device: Device,
+    pub memory: Memory,
     pub page: Page,
 }
 
-// C to a level, with as many cells lent as the part has.
-fn set_c(device: Device, high: bool, memory: &[u8], page: &[u8]) -> Stepped {
+// A clock reading, with as many cells lent as the part has. No method: parts of two fields that stand behind a
+// reference are not lent at once.
+fn read_clock(device: Device, reading: u32, memory: &mut Memory, page: &mut Page) -> Stepped {
     let part = device.core.part;
-    let m = first(size_of(part), memory.len());
-    let n = first(page_of(part), page.len());
-    device.set_c(high, &memory[..m], &page[..n])
+    device.read_clock(
+        reading,
+        &mut memory[..size_of(part)],
+        &mut page[..page_of(part)],
+    )
 }
 
-fn changed(side: PinSide, pin: u64, high: bool, memory: &Memory) -> Stepped {
-    let device = side.device;
-    let page = side.page;
-    match pin {
-        S => device.set_s(high),
-        C => set_c(device, high, memory, &page),
-        D => device.set_d(high),
-        W => device.set_w(high),
-        _ => device.set_hold(high),
+impl PinSide {
+    // C to a level, with as many cells lent as the part has.
+    fn set_c(&self, high: bool) -> Stepped {
+        let part = self.device.core.part;
+        self.device.set_c(
+            high,
+            &self.memory[..size_of(part)],
+            &self.page[..page_of(part)],
+        )
     }
-}
 
-// One pin change, which a device inside its ranges does not refuse.
-pub fn set(side: PinSide, pin: u64, high: bool, memory: &Memory, run: &mut Run) -> PinSide {
-    let stepped = changed(side, pin, high, memory);
-    let outcome = stepped.outcome;
-    let device = stepped.device;
-    let page = side.page;
-    same(differing::CHANGE, 0, outcome.number(), run);
-    count(CHANGES, run);
-    PinSide {
-        device: device,
-        page: page,
+    // One pin change, which a device inside its ranges does not refuse.
+    pub fn set(&mut self, pin: Pin, high: bool, run: &mut Run) {
+        let stepped = match pin {
+            Pin::S => self.device.set_s(high),
+            Pin::C => self.set_c(high),
+            Pin::D => self.device.set_d(high),
+            Pin::W => self.device.set_w(high),
+            Pin::Hold => self.device.set_hold(high),
+        };
+        run.same(Differing::Change, 0u32, stepped.outcome.number());
+        count(&mut run.counts.changes);
+        self.device = stepped.device;
     }
-}
 
-// A clock reading, with as many cells lent as the part has.
-fn pins_timed(device: Device, reading: u32, memory: &mut [u8], page: &mut [u8]) -> Stepped {
-    let part = device.core.part;
-    let m = first(size_of(part), memory.len());
-    let n = first(page_of(part), page.len());
-    device.read_clock(reading, &mut memory[..m], &mut page[..n])
-}
-
-// A clock reading, which a device inside its ranges does not refuse.
-pub fn read_pins(side: PinSide, reading: u32, memory: &mut Memory, run: &mut Run) -> PinSide {
-    let mut page = side.page;
-    let stepped = pins_timed(side.device, reading, memory, &mut page);
-    let device = stepped.device;
-    let outcome = stepped.outcome;
-    same(differing::READING, 0, outcome.number(), run);
-    PinSide {
-        device: device,
-        page: page,
+    // A clock reading, which a device inside its ranges does not refuse.
+    pub fn read(&mut self, reading: u32, run: &mut Run) {
+        let PinSide {
+            device,
+            memory,
+            page,
+        } = self;
+        let stepped = read_clock(*device, reading, memory, page);
+        run.same(Differing::Reading, 0u32, stepped.outcome.number());
+        self.device = stepped.device;
     }
-}
 
-fn level(device: Device, pin: u64) -> bool {
-    match pin {
-        S => device.pins.s == 1,
-        C => device.pins.c == 1,
-        D => device.pins.d == 1,
-        W => device.pins.w == 1,
-        _ => device.pins.hold == 1,
+    fn level(&self, pin: Pin) -> bool {
+        let pins = self.device.pins;
+        let level = match pin {
+            Pin::S => pins.s,
+            Pin::C => pins.c,
+            Pin::D => pins.d,
+            Pin::W => pins.w,
+            Pin::Hold => pins.hold,
+        };
+        level == 1
     }
-}
 
-// A pin set to the level it has, or D, and C where it is free, to any.
-fn move_one(side: PinSide, free: bool, memory: &Memory, run: &mut Run) -> PinSide {
-    let pin = below(5, run);
-    let high = percent(50, run);
-    if (pin == D) | (free & (pin == C)) {
-        return set(side, pin, high, memory, run);
+    // A pin set to the level it has, or D, and C where it is free, to any.
+    fn move_one(&mut self, free: bool, run: &mut Run) {
+        let pin = Pin::any(&mut run.chance);
+        let any = run.chance.percent(50);
+        let high = if pin == Pin::D || free && pin == Pin::C {
+            any
+        } else {
+            self.level(pin)
+        };
+        self.set(pin, high, run);
     }
-    set(side, pin, level(side.device, pin), memory, run)
-}
 
-fn move_some(side: PinSide, free: bool, moves: u64, memory: &Memory, run: &mut Run) -> PinSide {
-    let mut next = side;
-    for _ in 0..moves {
-        next = move_one(next, free, memory, run);
-    }
-    next
-}
-
-// Here and there, up to five moves.
-fn stray(side: PinSide, free: bool, memory: &Memory, run: &mut Run) -> PinSide {
-    if percent(run[LIVELY], run) {
-        return move_some(side, free, below(6, run), memory, run);
-    }
-    side
-}
-
-// Here and there, a pause.
-fn pause(side: PinSide, memory: &Memory, run: &mut Run) -> PinSide {
-    if percent(run[LIVELY], run) {
-        count(PAUSES, run);
-        let begun = set(side, HOLD, false, memory, run);
-        let moved = move_some(begun, true, below(9, run), memory, run);
-        let low = set(moved, C, false, memory, run);
-        return set(low, HOLD, true, memory, run);
-    }
-    side
-}
-
-// The readings that come after k bits in a mode.
-fn read_at(
-    side: PinSide,
-    k: usize,
-    mode3: bool,
-    schedule: Schedule,
-    memory: &mut Memory,
-    run: &mut Run,
-) -> PinSide {
-    let readings = schedule.readings;
-    let mut next = side;
-    for i in 0..MANY {
-        if is_due(schedule, i, k, mode3) {
-            next = read_pins(next, readings[i], memory, run);
+    fn move_some(&mut self, free: bool, moves: u64, run: &mut Run) {
+        for _ in 0..moves {
+            self.move_one(free, run);
         }
     }
-    next
-}
 
-// C low, with room for a pause.
-fn fall(side: PinSide, memory: &Memory, run: &mut Run) -> PinSide {
-    let low = set(side, C, false, memory, run);
-    let strayed = stray(low, false, memory, run);
-    pause(strayed, memory, run)
-}
-
-// Bit k, with the bit that the frame model has there. The falling edge before it stands after the readings of mode 3
-// and before those of mode 0. Q is compared just before C rises.
-fn draw_bit(
-    side: PinSide,
-    k: usize,
-    sent: u8,
-    shown: u8,
-    schedule: Schedule,
-    memory: &mut Memory,
-    run: &mut Run,
-) -> PinSide {
-    let high = read_at(side, k, true, schedule, memory, run);
-    let fallen = fall(high, memory, run);
-    let low = read_at(fallen, k, false, schedule, memory, run);
-    let ready = set(low, D, sent == 1, memory, run);
-    clock(ready.device.q().value(), shown, k, run);
-    let risen = set(ready, C, true, memory, run);
-    stray(risen, false, memory, run)
-}
-
-fn draw_bits(
-    side: PinSide,
-    schedule: Schedule,
-    bits: usize,
-    bytes: &[u8],
-    out: &[u8],
-    memory: &mut Memory,
-    run: &mut Run,
-) -> PinSide {
-    let mut next = side;
-    for k in 0..bits {
-        let sent = bit_at(bytes, k);
-        next = draw_bit(next, k, sent, bit_at(out, k), schedule, memory, run);
+    // Here and there, up to five moves.
+    fn stray(&mut self, free: bool, run: &mut Run) {
+        if run.strays() {
+            let moves = run.chance.below(6);
+            self.move_some(free, moves, run);
+        }
     }
-    next
-}
 
-// C free between frames, then at the mode's rest, and S low.
-fn select(side: PinSide, mode3: bool, memory: &Memory, run: &mut Run) -> PinSide {
-    let strayed = stray(side, true, memory, run);
-    let resting = set(strayed, C, mode3, memory, run);
-    set(resting, S, false, memory, run)
-}
-
-// After the last bit: C at the mode's rest, the readings there, and S high. In mode 0 there is room for a last pause.
-fn deselect(
-    side: PinSide,
-    bits: usize,
-    schedule: Schedule,
-    memory: &mut Memory,
-    run: &mut Run,
-) -> PinSide {
-    if schedule.mode3 {
-        let high = read_at(side, bits, true, schedule, memory, run);
-        return set(high, S, true, memory, run);
+    // Up to eight moves in Hold, C and D free.
+    fn move_in_hold(&mut self, run: &mut Run) {
+        let moves = run.chance.below(9);
+        self.move_some(true, moves, run);
     }
-    let fallen = set(side, C, false, memory, run);
-    let low = read_at(fallen, bits, false, schedule, memory, run);
-    let rested = pause(low, memory, run);
-    set(rested, S, true, memory, run)
-}
 
-// In Hold, with C and D free in it; HOLD is high again afterwards.
-fn deselect_in_hold(side: PinSide, memory: &Memory, run: &mut Run) -> PinSide {
-    let low = set(side, C, false, memory, run);
-    let paused = set(low, HOLD, false, memory, run);
-    let moved = move_some(paused, true, below(9, run), memory, run);
-    let ended = set(moved, S, true, memory, run);
-    set(ended, HOLD, true, memory, run)
-}
-
-// The whole frame, from a device that is not selected to one that is not selected.
-pub fn draw(
-    side: PinSide,
-    bytes: &[u8],
-    out: &[u8],
-    bits: usize,
-    schedule: Schedule,
-    memory: &mut Memory,
-    run: &mut Run,
-) -> PinSide {
-    let begun = select(side, schedule.mode3, memory, run);
-    let clocked = draw_bits(begun, schedule, bits, bytes, out, memory, run);
-    if schedule.held {
-        return deselect_in_hold(clocked, memory, run);
+    // Here and there, a pause.
+    fn pause(&mut self, run: &mut Run) {
+        if run.strays() {
+            count(&mut run.counts.pauses);
+            self.set(Pin::Hold, false, run);
+            self.move_in_hold(run);
+            self.set(Pin::C, false, run);
+            self.set(Pin::Hold, true, run);
+        }
     }
-    deselect(clocked, bits, schedule, memory, run)
+
+    // The readings that come after k bits.
+    fn read_due(&mut self, k: usize, schedule: &Schedule, run: &mut Run) {
+        for moment in schedule.moments[..schedule.number].iter() {
+            if moment.is_due(k) {
+                self.read(moment.reading, run);
+            }
+        }
+    }
+
+    // C low, with room for a pause.
+    fn fall(&mut self, run: &mut Run) {
+        self.set(Pin::C, false, run);
+        self.stray(false, run);
+        self.pause(run);
+    }
+
+    // Bit k, with the bit that the frame model has there. The falling edge before it stands after the readings of
+    // mode 3 and before those of mode 0. Q is compared just before C rises.
+    fn draw_bit(&mut self, k: usize, sent: bool, shown: bool, schedule: &Schedule, run: &mut Run) {
+        if schedule.mode3 {
+            self.read_due(k, schedule, run);
+        }
+        self.fall(run);
+        if !schedule.mode3 {
+            self.read_due(k, schedule, run);
+        }
+        self.set(Pin::D, sent, run);
+        clock(self.device.q().unwrap_or(Level::Zero), shown, k, run);
+        self.set(Pin::C, true, run);
+        self.stray(false, run);
+    }
+
+    // C free between frames, then at the mode's rest, and S low.
+    fn select(&mut self, mode3: bool, run: &mut Run) {
+        self.stray(true, run);
+        self.set(Pin::C, mode3, run);
+        self.set(Pin::S, false, run);
+    }
+
+    // After the last bit: C at the mode's rest, the readings there, and S high. In mode 0 there is room for a last
+    // pause.
+    fn deselect(&mut self, bits: usize, schedule: &Schedule, run: &mut Run) {
+        if schedule.mode3 {
+            self.read_due(bits, schedule, run);
+        } else {
+            self.set(Pin::C, false, run);
+            self.read_due(bits, schedule, run);
+            self.pause(run);
+        }
+        self.set(Pin::S, true, run);
+    }
+
+    // In Hold, with C and D free in it; HOLD is high again afterwards.
+    fn deselect_in_hold(&mut self, run: &mut Run) {
+        self.set(Pin::C, false, run);
+        self.set(Pin::Hold, false, run);
+        self.move_in_hold(run);
+        self.set(Pin::S, true, run);
+        self.set(Pin::Hold, true, run);
+    }
+
+    // The whole frame, from a device that is not selected to one that is not selected.
+    pub fn draw(&mut self, frame: &Frame, out: &Bytes, run: &mut Run) {
+        let Frame {
+            bytes,
+            bits,
+            schedule,
+        } = *frame;
+        self.select(schedule.mode3, run);
+        for k in 0..bits {
+            self.draw_bit(k, bit_at(bytes, k), bit_at(out, k), &schedule, run);
+        }
+        if schedule.held {
+            self.deselect_in_hold(run);
+        } else {
+            self.deselect(bits, &schedule, run);
+        }
+    }
 }

@@ -1,45 +1,52 @@
 // A round's acts: each is made on both models, and then they are compared.
-use crate::cells::{Memory, Page, blanks, filled_page, first, memories, pages};
-use crate::chance::{below, percent, word};
+use crate::cells::{Memory, Page, blanks, count_changed, filled, filled_page};
+use crate::chance::Chance;
 use crate::compared::{padding, records};
-use crate::drawn::{PinSide, W, draw, read_pins, set};
+use crate::differing::Differing;
+use crate::drawn::{Pin, PinSide};
 use crate::held::{count_held, left_by};
 use crate::identified::count_identified;
-use crate::made::{Bytes, Head};
-use crate::run::{
-    ACTS, CLEARED, DIFFERENCES, ENDED, ENDED_NO_WEL, FRAMES, IDENTIFIED, LEVELS, LIVELY, LOCKS,
-    LONG, MODE_3, PAGES, PARTIAL, READINGS, ROUNDS_D, ROUNDS_M01, Run, STATUSES, UNDRIVEN, UPPER,
-    count, same,
-};
+use crate::made;
+use crate::made::{Bytes, Frame, Head, bits_in_hold, compose, whole_page};
+use crate::run::{Run, count};
 use crate::schedules::{Schedule, count_inside, falls, passing, scheduled};
-use crate::{differing, made};
-use chip::{Core, Timed};
-use codes::{M95M01, M95512, M95512D, RDSR, WRITE, longest_of, page_of, size_of};
-use frames::Framed;
+use chip::{Answered, Core, Kind};
+use codes::{
+    M95M01, M95512, M95512D, Numbered, RDSR, Refusal, WRITE, longest_of, page_of, size_of,
+};
 use timed_frames::{Mode, timed_frame};
 
-// The frame model: its record and its identification page.
-#[derive(Clone, Copy)]
-pub struct FrameSide {
-    pub core: Core,
-    pub page: Page,
+// The frame model: its record, over its memory and its identification page.
+#[derive(Drop)]
+struct FrameSide {
+    core: Core,
+    memory: Memory,
+    page: Page,
 }
 
 // Both models, the frame model with its level of W.
-#[derive(Clone, Copy)]
+#[derive(Drop)]
 pub struct Pair {
-    pub frames: FrameSide,
-    pub w: bool,
-    pub pins: PinSide,
+    frames: FrameSide,
+    w: bool,
+    pins: PinSide,
+}
+
+// What comes next.
+#[derive(Clone, Copy)]
+enum Act {
+    Reading,
+    Level,
+    Frame,
 }
 
 // ---- the start
 
 // A cycle length: any, often the shortest or the longest.
-fn cycle(part: u8, run: &mut Run) -> u32 {
-    let r = below(10, run);
+fn cycle(part: u8, chance: &mut Chance) -> u32 {
+    let r = chance.below(10);
     let longest = longest_of(part);
-    let any = 1 + below(longest as u64, run);
+    let any = 1 + chance.below(u64::from(longest));
     match r {
         0 => 1,
         1 => longest,
@@ -49,407 +56,327 @@ fn cycle(part: u8, run: &mut Run) -> u32 {
 
 // One of the three parts.
 fn part(run: &mut Run) -> u8 {
-    let r = below(3, run);
-    if r == 0 {
-        return M95512;
-    }
-    if r == 1 {
-        count(ROUNDS_D, run);
-        return M95512D;
-    }
-    count(ROUNDS_M01, run);
-    M95M01
-}
-
-// Both models powered up, with as many cells lent as the part has.
-fn powered_as(
-    part: u8,
-    lock: bool,
-    page: Page,
-    frame_side: &[u8],
-    pin_side: &[u8],
-    run: &mut Run,
-) -> Pair {
-    let cycle = cycle(part, run);
-    let srwd = percent(30, run);
-    let bp1 = percent(20, run);
-    let bp0 = percent(30, run);
-    let reading = word(run);
-    let m = first(size_of(part), frame_side.len());
-    let n = first(size_of(part), pin_side.len());
-    let core = chip::power_up(part, lock, cycle, srwd, bp1, bp0, reading, &frame_side[..m]).core;
-    let device = pins::power_up(part, lock, cycle, srwd, bp1, bp0, reading, &pin_side[..n]).device;
-    records(core, device, run);
-    Pair {
-        frames: FrameSide {
-            core: core,
-            page: page,
-        },
-        w: true,
-        pins: PinSide {
-            device: device,
-            page: page,
-        },
+    match run.chance.below(3) {
+        0 => M95512,
+        1 => {
+            count(&mut run.counts.rounds_d);
+            M95512D
+        }
+        _ => {
+            count(&mut run.counts.rounds_m01);
+            M95M01
+        }
     }
 }
 
-// Both powered up alike over their memories, with identification pages filled alike.
-pub fn powered(frame_side: &Memory, pin_side: &Memory, run: &mut Run) -> Pair {
-    let part = part(run);
-    let lock = percent(20, run);
-    let page = filled_page(percent(75, run));
-    powered_as(part, lock, page, frame_side, pin_side, run)
-}
+// ---- the frame model
 
-// ---- clock readings
-
-// The frame model's reading, with as many cells lent as the part has.
-fn frames_timed(core: Core, reading: u32, memory: &mut [u8], page: &mut [u8]) -> Timed {
-    let m = first(size_of(core.part), memory.len());
-    let n = first(page_of(core.part), page.len());
-    chip::clock_reading(core, reading, &mut memory[..m], &mut page[..n])
-}
-
-// The frame model's reading, which a record inside its ranges does not refuse.
-fn read_frames(side: FrameSide, reading: u32, memory: &mut Memory, run: &mut Run) -> FrameSide {
-    let mut page = side.page;
-    let timed = frames_timed(side.core, reading, memory, &mut page);
-    let core = timed.core;
-    let outcome = timed.outcome;
-    same(differing::READING, outcome.number(), 0, run);
-    FrameSide {
-        core: core,
-        page: page,
-    }
-}
-
-fn pass(
-    pair: Pair,
+// A clock reading, with as many cells lent as the part has. No method: parts of two fields that stand behind a
+// reference are not lent at once.
+fn read_clock(
+    core: Core,
     reading: u32,
-    frame_side: &mut Memory,
-    pin_side: &mut Memory,
-    run: &mut Run,
-) -> Pair {
-    let frames = read_frames(pair.frames, reading, frame_side, run);
-    let pins = read_pins(pair.pins, reading, pin_side, run);
-    records(frames.core, pins.device, run);
-    Pair {
-        frames: frames,
-        w: pair.w,
-        pins: pins,
+    memory: &mut Memory,
+    page: &mut Page,
+) -> Answered<(), Refusal> {
+    let part = core.part;
+    chip::clock_reading(
+        core,
+        reading,
+        &mut memory[..size_of(part)],
+        &mut page[..page_of(part)],
+    )
+}
+
+// The answer to so many bits of some bytes, with as many cells lent as the part has. A frame without readings is asked
+// of the same call, as one with empty lists.
+fn ask(
+    core: Core,
+    w: bool,
+    memory: &mut Memory,
+    page: &mut Page,
+    frame: &Frame,
+    out: &mut Bytes,
+) -> Answered<usize, Refusal> {
+    let Frame {
+        bytes,
+        bits,
+        schedule,
+    } = *frame;
+    let mode = if schedule.mode3 {
+        Mode::Three
+    } else {
+        Mode::Zero
+    };
+    let number = schedule.number;
+    let positions = schedule.moments.map(|moment| moment.at);
+    let readings = schedule.moments.map(|moment| moment.reading);
+    let n = bits.div_ceil(8).min(bytes.len());
+    timed_frame(
+        core,
+        &mut memory[..size_of(core.part)],
+        &mut page[..page_of(core.part)],
+        w,
+        mode,
+        &bytes[..n],
+        bits,
+        &positions[..number],
+        &readings[..number],
+        &mut out[..n],
+    )
+}
+
+impl FrameSide {
+    // A clock reading, which a record inside its ranges does not refuse.
+    fn read(&mut self, reading: u32, run: &mut Run) {
+        let FrameSide { core, memory, page } = self;
+        let timed = read_clock(*core, reading, memory, page);
+        run.same(Differing::Reading, timed.answer.number(), 0u32);
+        self.core = timed.core;
+    }
+
+    // A frame with W high or low. It leaves what the pin model's must leave: of one deselected in Hold that is no WRITE
+    // nothing.
+    fn send(&mut self, w: bool, frame: &Frame, out: &mut Bytes) -> Answered<usize, Refusal> {
+        let FrameSide { core, memory, page } = self;
+        let before = *core;
+        let asked = ask(before, w, memory, page, frame, out);
+        let bytes = frame.bytes;
+        let framed = left_by(asked, before, frame.schedule.held && bytes[0] != WRITE);
+        self.core = framed.core;
+        framed
     }
 }
 
-// A cycle ended: a frame in which one did begins none, since the end clears WEL.
-fn ended(before: u32, after: u32) -> bool {
-    (before > 0) & (after == 0)
-}
-
-// The whole memories and the whole identification pages, and the number of blank cells against a scan of the memory.
-pub fn cells_alike(pair: Pair, frame_side: &mut Memory, pin_side: &mut Memory, run: &mut Run) {
-    let core = pair.frames.core;
-    let frame_page = pair.frames.page;
-    let pin_page = pair.pins.page;
-    memories(frame_side, pin_side, run);
-    pages(frame_page, pin_page, run);
-    let scanned = blanks(frame_side, size_of(core.part));
-    same(differing::SCANNED, core.blank, scanned, run);
-}
-
-// A clock reading for both.
-fn read(pair: Pair, frame_side: &mut Memory, pin_side: &mut Memory, run: &mut Run) -> Pair {
-    let core = pair.frames.core;
-    let reading = std::num::wrapping_add_u32(core.last, passing(core.cycle, core.left, run));
-    count(READINGS, run);
-    pass(pair, reading, frame_side, pin_side, run)
-}
-
-// ---- levels of W
-
-fn protect(pair: Pair, pin_side: &mut Memory, run: &mut Run) -> Pair {
-    let high = percent(60, run);
-    count(LEVELS, run);
-    let frames = pair.frames;
-    let pins = set(pair.pins, W, high, pin_side, run);
-    records(frames.core, pins.device, run);
-    Pair {
-        frames: frames,
-        w: high,
-        pins: pins,
-    }
-}
-
-// ---- frames
+// ---- counts of frames
 
 fn count_frame(part: u8, bits: usize, mode3: bool, run: &mut Run) {
-    count(FRAMES, run);
+    count(&mut run.counts.frames);
     if mode3 {
-        count(MODE_3, run);
+        count(&mut run.counts.mode_3);
     }
     if bits % 8 != 0 {
-        count(PARTIAL, run);
+        count(&mut run.counts.partial);
     }
-    if bits > made::whole_page(part) {
-        count(LONG, run);
+    if bits > whole_page(part) {
+        count(&mut run.counts.long);
     }
 }
 
 // A cycle of a page; pages above FFFFh are the M95M01's.
 fn count_page(part: u8, page: u32, run: &mut Run) {
-    count(PAGES, run);
-    if (part == M95M01) & (page >= 256) {
-        count(UPPER, run);
+    count(&mut run.counts.pages);
+    if part == M95M01 && page >= 256 {
+        count(&mut run.counts.upper);
     }
 }
 
 // In a cycle a frame begins none; WRDI may clear WEL while the cycle goes on.
 fn count_in_cycle(before: Core, after: Core, run: &mut Run) {
-    if (before.wel != after.wel) & (after.left > 0) {
-        count(CLEARED, run);
+    if before.wel != after.wel && after.left > 0 {
+        count(&mut run.counts.cleared);
     }
 }
 
+// What a frame begins.
 fn count_begun(before: Core, after: Core, run: &mut Run) {
-    let kind = after.waits.kind;
     if before.left > 0 {
         return count_in_cycle(before, after, run);
     }
-    match kind {
-        1 => count(STATUSES, run),
-        2 => count_page(after.part, after.waits.page, run),
-        3 => count(IDENTIFIED, run),
-        4 => count(LOCKS, run),
-        _ => {}
+    let waits = after.waits;
+    if waits.has(Kind::Status) {
+        count(&mut run.counts.statuses);
+    }
+    if waits.has(Kind::Page) {
+        count_page(after.part, waits.page, run);
+    }
+    if waits.has(Kind::Identification) {
+        count(&mut run.counts.identified);
+    }
+    if waits.has(Kind::Lock) {
+        count(&mut run.counts.locks);
     }
 }
 
-// In how many of a hundred places pin changes stray: in half of the frames none.
-fn liveliness(bits: usize, run: &mut Run) -> u64 {
-    let r = below(60, run);
-    if bits > 1600 {
-        return r % 3;
-    }
-    if r < 30 { 0 } else { r - 30 }
+// A cycle ended: a frame in which one did begins none, since the end clears WEL.
+fn ended(before: Core, after: Core) -> bool {
+    before.left > 0 && after.left == 0
 }
 
-// The numbers of the frame in hand.
-fn begin(part: u8, bits: usize, mode3: bool, undriven: usize, run: &mut Run) {
-    let lively = liveliness(bits, run);
-    run[LIVELY] = lively;
-    run[UNDRIVEN] = undriven as u64;
-    count_frame(part, bits, mode3, run);
-}
-
-fn mode(mode3: bool) -> Mode {
-    if mode3 { Mode::Three } else { Mode::Zero }
-}
-
-// The frame model's answer to some bytes, with as many cells lent as the part has. A frame without readings is asked of
-// the same call, as one with empty lists.
-fn ask(
-    core: Core,
-    w: bool,
-    mode3: bool,
-    bits: usize,
-    number: usize,
-    memory: &mut [u8],
-    page: &mut [u8],
-    bytes: &[u8],
-    positions: &[usize],
-    readings: &[u32],
-    out: &mut [u8],
-) -> Framed {
-    let m = first(size_of(core.part), memory.len());
-    let n = first(page_of(core.part), page.len());
-    let p = first(number, positions.len());
-    let t = first(number, readings.len());
-    timed_frame(
-        core,
-        &mut memory[..m],
-        &mut page[..n],
-        w,
-        mode(mode3),
-        bytes,
-        bits,
-        &positions[..p],
-        &readings[..t],
-        out,
-    )
-}
-
-// As many bytes as so many bits take.
-fn bytes_for(bits: usize) -> usize {
-    let whole = bits / 8;
-    if bits % 8 > 0 { whole + 1 } else { whole }
-}
-
-// The answer to so many bits.
-fn ask_first(
-    schedule: Schedule,
-    core: Core,
-    memory: &mut [u8],
-    page: &mut [u8],
-    w: bool,
-    bytes: &[u8],
-    bits: usize,
-    out: &mut [u8],
-) -> Framed {
-    let n = bytes_for(bits);
-    let sent = first(n, bytes.len());
-    let shown = first(n, out.len());
-    let positions = schedule.positions;
-    let readings = schedule.readings;
-    ask(
-        core,
-        w,
-        schedule.mode3,
-        bits,
-        schedule.number,
-        memory,
-        page,
-        &bytes[..sent],
-        &positions,
-        &readings,
-        &mut out[..shown],
-    )
-}
-
-// The pin model's frame, deselected in Hold or not, against the frame model's answer, page and output.
-fn meet(
-    pair: Pair,
-    framed: Framed,
-    page: Page,
-    schedule: Schedule,
-    pin_side: &mut Memory,
-    bytes: &[u8],
-    bits: usize,
-    out: &[u8],
-    run: &mut Run,
-) -> Pair {
-    let answer = framed.answer;
-    let core = framed.core;
-    same(differing::FRAME, answer.number(), 0, run);
-    begin(core.part, bits, schedule.mode3, answer.undriven(), run);
-    padding(out, bits, run);
-    let drawn = draw(pair.pins, bytes, out, bits, schedule, pin_side, run);
-    records(core, drawn.device, run);
-    Pair {
-        frames: FrameSide {
-            core: core,
-            page: page,
-        },
-        w: pair.w,
-        pins: drawn,
-    }
-}
-
-// A frame from a record, with what it leaves.
+// A frame from a record, with so many leading bits undriven, and what it leaves.
 fn count_sent(
     before: Core,
-    framed: Framed,
-    schedule: Schedule,
+    after: Core,
+    undriven: usize,
+    schedule: &Schedule,
     head: Head,
     saw: bool,
     run: &mut Run,
 ) {
-    let after = framed.core;
-    let answer = framed.answer;
     count_begun(before, after, run);
-    count_identified(before, head, answer.undriven(), run);
-    count_inside(schedule, ended(before.left, after.left), saw, run);
+    count_identified(before, head, undriven, run);
+    count_inside(schedule, ended(before, after), saw, run);
     if schedule.held {
         count_held(before, after, head, run);
     }
 }
 
-// A frame for both, of so many bits of some bytes.
-fn send_bits(
-    pair: Pair,
-    schedule: Schedule,
-    frame_side: &mut Memory,
-    pin_side: &mut Memory,
-    bytes: &Bytes,
-    bits: usize,
-    out: &mut Bytes,
-    run: &mut Run,
-) -> Pair {
-    let core = pair.frames.core;
-    let mut page = pair.frames.page;
-    let asked = ask_first(
-        schedule, core, frame_side, &mut page, pair.w, bytes, bits, out,
-    );
-    let head = made::head_in(core.part, bytes, bits);
-    let reply = left_by(asked, core, schedule.held & (head.code != WRITE));
-    let saw = (head.code == RDSR) & falls(out, bits);
-    count_sent(core, reply, schedule, head, saw, run);
-    meet(pair, reply, page, schedule, pin_side, bytes, bits, out, run)
+// In how many of a hundred places pin changes stray: in half of the frames none.
+fn liveliness(bits: usize, chance: &mut Chance) -> u64 {
+    let r = chance.below(60);
+    if bits > 1600 {
+        return r % 3;
+    }
+    r.saturating_sub(30)
 }
 
-// A random frame, one in eight deselected in Hold.
-fn send(pair: Pair, frame_side: &mut Memory, pin_side: &mut Memory, run: &mut Run) -> Pair {
-    let mut bytes = console::large_buffer();
-    let mut out = console::large_buffer();
-    let core = pair.frames.core;
-    let n = made::compose(core.part, core.left > 0, core.wel == 1, &mut bytes, run);
-    let held = below(8, run) == 0;
-    let bits = if held {
-        made::bits_in_hold(core.part, n, run)
-    } else {
-        made::bits(n, run)
-    };
-    let schedule = scheduled(core.last, core.cycle, core.left, bits, held, run);
-    send_bits(
-        pair, schedule, frame_side, pin_side, &bytes, bits, &mut out, run,
-    )
-}
+// ---- acts
 
 // What comes next: a clock reading, every third time where a cycle runs; seldom a level of W; else a frame. Nothing
 // after a difference.
-fn kind(running: bool, run: &mut Run) -> u64 {
-    if run[DIFFERENCES] > 0 {
-        return 3;
+fn next_act(running: bool, run: &mut Run) -> Option<Act> {
+    if run.first.is_some() {
+        return None;
     }
-    count(ACTS, run);
-    let r = below(100, run);
-    if r < 15 {
-        return 0;
+    count(&mut run.counts.acts);
+    let r = run.chance.below(100);
+    if r < 15 || running && r < 36 {
+        return Some(Act::Reading);
     }
-    if running & (r < 36) {
-        return 0;
+    if r < 95 {
+        return Some(Act::Frame);
     }
-    if r < 95 { 2 } else { 1 }
+    Some(Act::Level)
 }
 
-// Where a cycle ended in an act, the memories and the identification pages are compared whole. Of the M95M01 WEL may be
-// 0 by then.
-fn compare_ended(
-    before: Core,
-    pair: Pair,
-    frame_side: &mut Memory,
-    pin_side: &mut Memory,
-    run: &mut Run,
-) {
-    if !ended(before.left, pair.frames.core.left) {
-        return;
+impl Pair {
+    // Both powered up alike, over memories and identification pages filled alike.
+    fn powered(patterned: bool, run: &mut Run) -> Pair {
+        let part = part(run);
+        let lock = run.chance.percent(20);
+        let page = filled_page(run.chance.percent(75));
+        let cycle = cycle(part, &mut run.chance);
+        let srwd = run.chance.percent(30);
+        let bp1 = run.chance.percent(20);
+        let bp0 = run.chance.percent(30);
+        let reading = run.chance.word();
+        let memory = filled(patterned);
+        let cells = &memory[..size_of(part)];
+        let core = chip::power_up(part, lock, cycle, srwd, bp1, bp0, reading, cells).core;
+        let device = pins::power_up(part, lock, cycle, srwd, bp1, bp0, reading, cells).device;
+        records(core, device, run);
+        Pair {
+            frames: FrameSide { core, memory, page },
+            w: true,
+            pins: PinSide {
+                device,
+                memory,
+                page,
+            },
+        }
     }
-    count(ENDED, run);
-    if before.wel == 0 {
-        count(ENDED_NO_WEL, run);
+
+    // The whole memories and the whole identification pages, and the number of blank cells against a scan of the
+    // memory.
+    fn compare_cells(&self, run: &mut Run) {
+        let core = self.frames.core;
+        run.same_each(Differing::Cell, &self.frames.memory, &self.pins.memory);
+        run.same_each(Differing::PageCell, &self.frames.page, &self.pins.page);
+        let scanned = blanks(&self.frames.memory, size_of(core.part));
+        run.same(Differing::Scanned, core.blank, scanned as u64);
     }
-    cells_alike(pair, frame_side, pin_side, run);
+
+    // Where a cycle ended in an act, the cells are compared. Of the M95M01 WEL may be 0 by then.
+    fn compare_ended(&self, before: Core, run: &mut Run) {
+        if !ended(before, self.frames.core) {
+            return;
+        }
+        count(&mut run.counts.ended);
+        if before.wel == 0 {
+            count(&mut run.counts.ended_no_wel);
+        }
+        self.compare_cells(run);
+    }
+
+    // A clock reading for both.
+    fn read(&mut self, run: &mut Run) {
+        let core = self.frames.core;
+        let gone = passing(core.cycle, core.left, &mut run.chance);
+        let reading = core.last.wrapping_add(gone);
+        count(&mut run.counts.readings);
+        self.frames.read(reading, run);
+        self.pins.read(reading, run);
+        records(self.frames.core, self.pins.device, run);
+    }
+
+    // A level of W for both.
+    fn protect(&mut self, run: &mut Run) {
+        let high = run.chance.percent(60);
+        count(&mut run.counts.levels);
+        self.pins.set(Pin::W, high, run);
+        records(self.frames.core, self.pins.device, run);
+        self.w = high;
+    }
+
+    // The pin model's frame, deselected in Hold or not, against the frame model's output and record.
+    fn meet(&mut self, frame: &Frame, out: &Bytes, run: &mut Run) {
+        let core = self.frames.core;
+        run.lively = liveliness(frame.bits, &mut run.chance);
+        count_frame(core.part, frame.bits, frame.schedule.mode3, run);
+        padding(out, frame.bits, run);
+        self.pins.draw(frame, out, run);
+        records(core, self.pins.device, run);
+    }
+
+    // A random frame for both, one in eight deselected in Hold.
+    fn send(&mut self, run: &mut Run) {
+        let mut bytes = console::zeros::<65536>();
+        let mut out = console::zeros::<65536>();
+        let before = self.frames.core;
+        let n = compose(before, &mut bytes, &mut run.chance);
+        let held = run.chance.below(8) == 0;
+        let bits = if held {
+            bits_in_hold(before.part, n, &mut run.chance)
+        } else {
+            made::bits(n, &mut run.chance)
+        };
+        let schedule = scheduled(before, bits, held, run);
+        let frame = Frame {
+            bytes: &bytes,
+            bits,
+            schedule,
+        };
+        let framed = self.frames.send(self.w, &frame, &mut out);
+        let undriven = framed.answer.unwrap_or(0);
+        let head = Head::of(before.part, &bytes, bits);
+        let saw = head.code == RDSR && falls(&out, bits);
+        count_sent(before, framed.core, undriven, &schedule, head, saw, run);
+        run.same(Differing::Frame, framed.answer.number(), 0u32);
+        run.undriven = undriven;
+        self.meet(&frame, &out, run);
+    }
+
+    // An act, and a comparison.
+    fn act(&mut self, run: &mut Run) {
+        let before = self.frames.core;
+        match next_act(before.left > 0, run) {
+            Some(Act::Reading) => self.read(run),
+            Some(Act::Level) => self.protect(run),
+            Some(Act::Frame) => self.send(run),
+            None => {}
+        }
+        self.compare_ended(before, run);
+    }
 }
 
-fn acted(pair: Pair, frame_side: &mut Memory, pin_side: &mut Memory, run: &mut Run) -> Pair {
-    match kind(pair.frames.core.left > 0, run) {
-        0 => read(pair, frame_side, pin_side, run),
-        1 => protect(pair, pin_side, run),
-        2 => send(pair, frame_side, pin_side, run),
-        _ => pair,
+// A round: one start for both models, then acts one after another, then the whole memories and pages.
+pub fn round(run: &mut Run) {
+    count(&mut run.counts.rounds);
+    let patterned = run.chance.percent(75);
+    let mut pair = Pair::powered(patterned, run);
+    for _ in 0..48 {
+        pair.act(run);
     }
-}
-
-pub fn act(pair: Pair, frame_side: &mut Memory, pin_side: &mut Memory, run: &mut Run) -> Pair {
-    let next = acted(pair, frame_side, pin_side, run);
-    compare_ended(pair.frames.core, next, frame_side, pin_side, run);
-    next
+    pair.compare_cells(run);
+    count_changed(&pair.frames.memory, patterned, run);
 }

@@ -1,271 +1,261 @@
-// The numbers of a run, in one array that every function is lent: the generator's state, the frame in hand and the
-// counts. Also the first difference, and the summary.
+// What a run holds: its chance, what it knows of the frame in hand, its counts and the first difference. Also the
+// summary.
+use crate::chance::Chance;
+use crate::differing::Differing;
 use console::say;
 use std::io;
 use std::io::Write;
 
-// the counts, in the summary's order
-pub const ROUNDS: usize = 0;
-
-pub const ROUNDS_D: usize = 1;
-
-pub const ROUNDS_M01: usize = 2;
-
-pub const ACTS: usize = 3;
-
-pub const FRAMES: usize = 4;
-
-pub const READINGS: usize = 5;
-
-pub const LEVELS: usize = 6;
-
-pub const MODE_3: usize = 7;
-
-pub const PARTIAL: usize = 8;
-
-pub const LONG: usize = 9;
-
-pub const PAUSES: usize = 10;
-
-pub const CHANGES: usize = 11;
-
-pub const CLOCKS: usize = 12;
-
-pub const DRIVEN: usize = 13;
-
-pub const SHOWN: usize = 14;
-
-pub const PAGES: usize = 15;
-
-pub const UPPER: usize = 16;
-
-pub const STATUSES: usize = 17;
-
-pub const IDENTIFIED: usize = 18;
-
-pub const LOCKS: usize = 19;
-
-pub const LOCK_32: usize = 20;
-
-pub const LOCK_40: usize = 21;
-
-pub const LOCK_48: usize = 22;
-
-pub const LOCKED: usize = 23;
-
-pub const CLEARED: usize = 24;
-
-pub const ENDED: usize = 25;
-
-pub const ENDED_NO_WEL: usize = 26;
-
-pub const CELLS: usize = 27;
-
-// deselects in Hold; of these the WRITEs, by their count, by what stops them, and those that begin a cycle
-pub const HELD: usize = 28;
-
-pub const HELD_WRITES: usize = 29;
-
-pub const HELD_ONE: usize = 30;
-
-pub const HELD_ODD: usize = 31;
-
-pub const HELD_TWO: usize = 32;
-
-pub const HELD_NO_WEL: usize = 33;
-
-pub const HELD_PROTECTED: usize = 34;
-
-pub const HELD_BEGUN: usize = 35;
-
-// clock readings inside frames: the frames, the readings by their place, the ends of cycles, the polls that saw one
-pub const TIMED: usize = 36;
-
-pub const INSIDE: usize = 37;
-
-pub const AT_START: usize = 38;
-
-pub const AT_END: usize = 39;
-
-pub const AT_SAME: usize = 40;
-
-pub const ROUND: usize = 41;
-
-pub const ENDED_INSIDE: usize = 42;
-
-pub const FALLS: usize = 43;
-
-pub const FALLS_3: usize = 44;
-
-pub const DIFFERENCES: usize = 45;
-
-// the generator's state
-pub const CHANCE: usize = 46;
-
-// of the frame in hand: in how many of a hundred places pin changes stray, and how many leading bits the frame model
-// left undriven
-pub const LIVELY: usize = 47;
-
-pub const UNDRIVEN: usize = 48;
-
-// of the first difference: its round and act, what differs, which clock or cell it is, and the number of each model
-const ROUND_THEN: usize = 49;
-
-const ACT_THEN: usize = 50;
-
-const WHAT: usize = 51;
-
-const AT: usize = 52;
-
-const FRAME_SIDE: usize = 53;
-
-const PIN_SIDE: usize = 54;
-
-// how many numbers there are
-const NUMBERS: usize = 55;
-
-pub type Run = [u64; NUMBERS];
-
-pub fn begun() -> Run {
-    let mut run: Run = [0; NUMBERS];
-    run[CHANCE] = 0x9e3779b97f4a7c15;
-    run
+// The counts but those of Hold and of readings inside frames.
+#[derive(Clone, Copy, Default)]
+pub struct Counts {
+    pub rounds: u64,
+    pub rounds_d: u64,
+    pub rounds_m01: u64,
+    pub acts: u64,
+    pub frames: u64,
+    pub readings: u64,
+    pub levels: u64,
+    pub mode_3: u64,
+    pub partial: u64,
+    pub long: u64,
+    pub pauses: u64,
+    pub changes: u64,
+    pub clocks: u64,
+    pub driven: u64,
+    pub shown: u64,
+    pub pages: u64,
+    pub upper: u64,
+    pub statuses: u64,
+    pub identified: u64,
+    pub locks: u64,
+    pub lock_32: u64,
+    pub lock_40: u64,
+    pub lock_48: u64,
+    pub locked: u64,
+    pub cleared: u64,
+    pub ended: u64,
+    pub ended_no_wel: u64,
+    pub cells: u64,
+    pub differences: u64,
 }
 
-pub fn count(what: usize, run: &mut Run) {
-    let at = what % NUMBERS;
-    let sum = std::num::wrapping_add_u64(run[at], 1);
-    run[at] = sum;
+// Deselects in Hold: all, and of the WRITEs all, by their count, by what stops them, and those that begin a cycle.
+#[derive(Clone, Copy, Default)]
+pub struct Held {
+    pub all: u64,
+    pub writes: u64,
+    pub one: u64,
+    pub odd: u64,
+    pub two: u64,
+    pub no_wel: u64,
+    pub protected: u64,
+    pub begun: u64,
 }
 
-// The first difference is kept, and printed before the summary: nothing else is, and no act follows it.
-fn differ(what: usize, at: u64, frame_side: u64, pin_side: u64, run: &mut Run) {
-    if run[DIFFERENCES] == 0 {
-        run[ROUND_THEN] = run[ROUNDS];
-        run[ACT_THEN] = run[ACTS];
-        run[WHAT] = what as u64;
-        run[AT] = at;
-        run[FRAME_SIDE] = frame_side;
-        run[PIN_SIDE] = pin_side;
+// Clock readings inside frames: the frames, the readings by their place, the ends of cycles, the polls that saw one.
+#[derive(Clone, Copy, Default)]
+pub struct Inside {
+    pub frames: u64,
+    pub readings: u64,
+    pub at_start: u64,
+    pub at_end: u64,
+    pub at_same: u64,
+    pub round: u64,
+    pub ended: u64,
+    pub falls: u64,
+    pub falls_3: u64,
+}
+
+// The first difference: its round and act, what differs, which clock or cell it is, and the number of each model.
+#[derive(Clone, Copy)]
+pub struct Difference {
+    round: u64,
+    act: u64,
+    what: Differing,
+    at: usize,
+    frame_side: u64,
+    pin_side: u64,
+}
+
+#[derive(Drop)]
+pub struct Run {
+    pub chance: Chance,
+    // of the frame in hand: in how many of a hundred places pin changes stray, and how many leading bits the frame
+    // model left undriven
+    pub lively: u64,
+    pub undriven: usize,
+    pub counts: Counts,
+    pub held: Held,
+    pub inside: Inside,
+    pub first: Option<Difference>,
+}
+
+// One more.
+pub fn count(number: &mut u64) {
+    *number = number.saturating_add(1);
+}
+
+impl Run {
+    pub fn begun() -> Run {
+        Run {
+            chance: Chance::begun(),
+            lively: 0,
+            undriven: 0,
+            counts: Counts::default(),
+            held: Held::default(),
+            inside: Inside::default(),
+            first: None,
+        }
     }
-    count(DIFFERENCES, run);
-}
 
-// A bit or a byte of each model; `at` says which clock or cell it is.
-pub fn same_at(what: usize, at: usize, frame_side: u8, pin_side: u8, run: &mut Run) {
-    if frame_side != pin_side {
-        differ(what, at as u64, frame_side as u64, pin_side as u64, run);
+    // Here and there in the frame in hand.
+    pub fn strays(&mut self) -> bool {
+        let lively = self.lively;
+        self.chance.percent(lively)
+    }
+
+    // A number of each model; `at` says which clock or cell it is. The first difference is kept, and printed before the
+    // summary: no other is, and no act follows it.
+    pub fn same_at(
+        &mut self,
+        what: Differing,
+        at: usize,
+        frame_side: impl Into<u64>,
+        pin_side: impl Into<u64>,
+    ) {
+        let frame_side = frame_side.into();
+        let pin_side = pin_side.into();
+        if frame_side == pin_side {
+            return;
+        }
+        if self.first.is_none() {
+            self.first = Some(Difference {
+                round: self.counts.rounds,
+                act: self.counts.acts,
+                what,
+                at,
+                frame_side,
+                pin_side,
+            });
+        }
+        count(&mut self.counts.differences);
+    }
+
+    pub fn same(&mut self, what: Differing, frame_side: impl Into<u64>, pin_side: impl Into<u64>) {
+        self.same_at(what, 0, frame_side, pin_side);
+    }
+
+    // The same of whole lists.
+    pub fn same_each<T: Into<u64> + Copy>(
+        &mut self,
+        what: Differing,
+        frame_side: &[T],
+        pin_side: &[T],
+    ) {
+        for (at, (x, y)) in frame_side.iter().zip(pin_side).enumerate() {
+            self.same_at(what, at, *x, *y);
+        }
+    }
+
+    // The first difference, where there is one.
+    fn say_difference(&self, to: &mut impl Write) -> io::Result<()> {
+        let Some(first) = self.first else {
+            return Ok(());
+        };
+        say(to, b"difference in round", first.round)?;
+        say(to, b"act", first.act)?;
+        say_rows(to, &[(first.what.label(), first.at as u64)])?;
+        say(to, b"the frame model's", first.frame_side)?;
+        say(to, b"the pin model's", first.pin_side)
+    }
+
+    fn say_counts(&self, to: &mut impl Write) -> io::Result<()> {
+        let counts = self.counts;
+        say_rows(
+            to,
+            &[
+                ("rounds", counts.rounds),
+                ("rounds with M95512-D", counts.rounds_d),
+                ("rounds with M95M01", counts.rounds_m01),
+                ("acts", counts.acts),
+                ("frames", counts.frames),
+                ("clock readings", counts.readings),
+                ("levels of W", counts.levels),
+                ("frames in mode 3", counts.mode_3),
+                ("with part of a byte", counts.partial),
+                ("with over a page", counts.long),
+                ("pauses", counts.pauses),
+                ("pin changes", counts.changes),
+                ("counted clocks", counts.clocks),
+                ("driven bits", counts.driven),
+                ("83h that drove Q", counts.shown),
+                ("page cycles begun", counts.pages),
+                ("begun above FFFFh", counts.upper),
+                ("status cycles begun", counts.statuses),
+                ("identification begun", counts.identified),
+                ("lock cycles begun", counts.locks),
+                ("82h to lock, 32 bits", counts.lock_32),
+                ("82h to lock, 40 bits", counts.lock_40),
+                ("82h to lock, 48 bits", counts.lock_48),
+                ("82h stopped by lock", counts.locked),
+                ("WEL cleared in cycle", counts.cleared),
+                ("cycles ended", counts.ended),
+                ("ended with WEL 0", counts.ended_no_wel),
+                ("cells changed", counts.cells),
+            ],
+        )
+    }
+
+    fn say_held(&self, to: &mut impl Write) -> io::Result<()> {
+        let held = self.held;
+        say_rows(
+            to,
+            &[
+                ("deselected in Hold", held.all),
+                ("WRITEs among them", held.writes),
+                ("with one data byte", held.one),
+                ("and one bit more", held.odd),
+                ("with two data bytes", held.two),
+                ("without WEL", held.no_wel),
+                ("to a protected cell", held.protected),
+                ("begun in Hold", held.begun),
+            ],
+        )
+    }
+
+    fn say_inside(&self, to: &mut impl Write) -> io::Result<()> {
+        let inside = self.inside;
+        say_rows(
+            to,
+            &[
+                ("frames with readings", inside.frames),
+                ("readings in frames", inside.readings),
+                ("at position 0", inside.at_start),
+                ("at the last boundary", inside.at_end),
+                ("where the last was", inside.at_same),
+                ("round the counter", inside.round),
+                ("cycles ended inside", inside.ended),
+                ("RDSR saw WIP fall", inside.falls),
+                ("of these in mode 3", inside.falls_3),
+            ],
+        )
+    }
+
+    // The first difference and the counts.
+    pub fn summary(&self, to: &mut impl Write) -> io::Result<()> {
+        self.say_difference(to)?;
+        self.say_counts(to)?;
+        self.say_held(to)?;
+        self.say_inside(to)?;
+        say_rows(to, &[("differences", self.counts.differences)])
     }
 }
 
-// A number of each model.
-pub fn same(what: usize, frame_side: u32, pin_side: u32, run: &mut Run) {
-    if frame_side != pin_side {
-        differ(what, 0, frame_side as u64, pin_side as u64, run);
-    }
-}
-
-// The first difference, where there is one: its round and act, what differs, and both models' numbers. The labels are
-// in the order of `differing`.
-fn say_difference(to: &mut impl Write, run: &Run) -> io::Result<()> {
-    if run[DIFFERENCES] == 0 {
-        return Ok(());
-    }
-    say(to, b"difference in round", run[ROUND_THEN])?;
-    say(to, b"act", run[ACT_THEN])?;
-    row(
-        to,
-        b"number of a reading number of a frame   number of a change  blank cells, scannedcell                \
-        identification cell Q at clock          Q driven at clock   output past count   latched byte        \
-        word of marks       what waits          status that waits   page that waits     cycle length        \
-        time left           last reading        blank cells         part                lock                \
-        status byte         ",
-        run[WHAT] as usize,
-        run[AT],
-    )?;
-    say(to, b"the frame model's", run[FRAME_SIDE])?;
-    say(to, b"the pin model's", run[PIN_SIDE])
-}
-
-// Row i of up to 32: its label has 20 characters.
-fn row(to: &mut impl Write, labels: &[u8], i: usize, number: u64) -> io::Result<()> {
-    let from = 20 * (i % 32);
-    let end = from + 20;
-    if end <= labels.len() {
-        return say(to, &labels[from..end], number);
+// A line for each: a label, to 20 characters, a tab and a number.
+fn say_rows(to: &mut impl Write, rows: &[(&str, u64)]) -> io::Result<()> {
+    for (label, number) in rows {
+        writeln!(to, "{label:<20}\t{number}")?;
     }
     Ok(())
-}
-
-// As many rows as there are labels, with the counts from `first` on.
-fn rows(to: &mut impl Write, labels: &[u8], first: usize, run: &Run) -> io::Result<()> {
-    for i in 0..8 {
-        row(to, labels, i, run[(first % NUMBERS + i) % NUMBERS])?;
-    }
-    Ok(())
-}
-
-// The readings inside frames, and the differences.
-fn summary_inside(to: &mut impl Write, run: &Run) -> io::Result<()> {
-    rows(
-        to,
-        b"frames with readingsreadings in frames  at position 0       at the last boundarywhere the last was  ",
-        TIMED,
-        run,
-    )?;
-    rows(
-        to,
-        b"round the counter   cycles ended inside RDSR saw WIP fall   of these in mode 3  differences         ",
-        ROUND,
-        run,
-    )
-}
-
-// The first difference and the counts.
-pub fn summary(to: &mut impl Write, run: &Run) -> io::Result<()> {
-    say_difference(to, run)?;
-    rows(
-        to,
-        b"rounds              rounds with M95512-Drounds with M95M01  acts                frames              ",
-        ROUNDS,
-        run,
-    )?;
-    rows(
-        to,
-        b"clock readings      levels of W         frames in mode 3    with part of a byte with over a page    ",
-        READINGS,
-        run,
-    )?;
-    rows(
-        to,
-        b"pauses              pin changes         counted clocks      driven bits         83h that drove Q    ",
-        PAUSES,
-        run,
-    )?;
-    rows(
-        to,
-        b"page cycles begun   begun above FFFFh   status cycles begun identification begunlock cycles begun   ",
-        PAGES,
-        run,
-    )?;
-    rows(
-        to,
-        b"82h to lock, 32 bits82h to lock, 40 bits82h to lock, 48 bits82h stopped by lock WEL cleared in cycle",
-        LOCK_32,
-        run,
-    )?;
-    rows(
-        to,
-        b"cycles ended        ended with WEL 0    cells changed       deselected in Hold  WRITEs among them   ",
-        ENDED,
-        run,
-    )?;
-    rows(
-        to,
-        b"with one data byte  and one bit more    with two data bytes without WEL         to a protected cell ",
-        HELD_ONE,
-        run,
-    )?;
-    rows(to, b"begun in Hold       ", HELD_BEGUN, run)?;
-    summary_inside(to, run)
 }

@@ -1,57 +1,63 @@
 // How a frame is drawn, by chance: the mode, a deselect in Hold, and clock readings inside the frame at byte positions
 // (document 02, Item 12). Also how far the clock goes between two readings.
-ghost use Rattle.std.specs.Prelude.{◌<◌, ◌≤◌};
+ghost use Rattle.std.specs.Prelude.{◌≤◌};
 
-use crate::chance::{below, percent, word};
+use crate::chance::Chance;
 use crate::compared::bit_at;
-use crate::run::{
-    AT_END, AT_SAME, AT_START, ENDED_INSIDE, FALLS, FALLS_3, INSIDE, ROUND, Run, TIMED, count,
-};
+use crate::run::{Run, count};
+use chip::Core;
 
 // The most readings that come inside a frame.
 pub const MANY: usize = 4;
 
-// The mode of a frame, whether it is deselected in Hold, and the readings inside it: the first few of each list. No
-// position falls.
+// A position and its reading, and what is then left of the cycle.
+#[derive(Clone, Copy)]
+pub struct Moment {
+    pub at: usize,
+    pub reading: u32,
+    left: u32,
+}
+
+impl Moment {
+    // It comes after k bits.
+    pub fn is_due(&self, k: usize) -> bool {
+        k % 8 == 0 && self.at == k / 8
+    }
+}
+
+// The mode of a frame, whether it is deselected in Hold, and the readings inside it: the first so many moments, of
+// which no position falls.
 #[derive(Clone, Copy)]
 pub struct Schedule {
     pub mode3: bool,
     pub held: bool,
     pub number: usize,
-    pub positions: [usize; MANY],
-    pub readings: [u32; MANY],
-}
-
-// A position and its reading, and what is then left of the cycle.
-#[derive(Clone, Copy)]
-struct Moment {
-    at: usize,
-    reading: u32,
-    left: u32,
+    pub moments: [Moment; MANY],
+    ghost few: { number ≤ 4 },
 }
 
 // How far the clock goes: a part of a cycle, to the end of the one that runs or half of the way, a whole one, one
 // reading back, or anywhere.
-pub fn passing(cycle: u32, left: u32, run: &mut Run) -> u32 {
-    let r = below(100, run);
-    let any = word(run);
+pub fn passing(cycle: u32, left: u32, chance: &mut Chance) -> u32 {
+    let r = chance.below(100);
+    let any = chance.word();
     match r {
         0..=44 => any % (cycle / 2 + 1),
         45..=74 => left,
         75..=82 => left / 2,
         83..=91 => cycle,
-        92..=95 => 4294967295,
+        92..=95 => u32::MAX,
         _ => any,
     }
 }
 
 // The next position: the same again, the last boundary, or any from the one up to the other.
-fn position(at: usize, most: usize, run: &mut Run) -> usize
+fn position(at: usize, most: usize, chance: &mut Chance) -> usize
     requires { at ≤ most }
     ensures { result ≤ most }
 {
-    let between = below((most - at) as u64, run) as usize;
-    match below(6, run) {
+    let between = chance.below((most - at) as u64) as usize;
+    match chance.below(6) {
         0 => at,
         1 => most,
         _ => at + between,
@@ -60,18 +66,18 @@ fn position(at: usize, most: usize, run: &mut Run) -> usize
 
 // Reading i, by its place and by the counter.
 fn count_reading(i: usize, from: Moment, to: Moment, most: usize, run: &mut Run) {
-    count(INSIDE, run);
+    count(&mut run.inside.readings);
     if to.at == 0 {
-        count(AT_START, run);
+        count(&mut run.inside.at_start);
     }
     if to.at == most {
-        count(AT_END, run);
+        count(&mut run.inside.at_end);
     }
-    if (i > 0) & (to.at == from.at) {
-        count(AT_SAME, run);
+    if i > 0 && to.at == from.at {
+        count(&mut run.inside.at_same);
     }
     if to.reading < from.reading {
-        count(ROUND, run);
+        count(&mut run.inside.round);
     }
 }
 
@@ -80,115 +86,71 @@ fn later(i: usize, from: Moment, cycle: u32, most: usize, run: &mut Run) -> Mome
     requires { from.at ≤ most }
     ensures { result.at ≤ most }
 {
-    let gone = passing(cycle, from.left, run);
+    let gone = passing(cycle, from.left, &mut run.chance);
     let to = Moment {
-        at: position(from.at, most, run),
-        reading: std::num::wrapping_add_u32(from.reading, gone),
-        left: if gone < from.left {
-            from.left - gone
-        } else {
-            0
-        },
+        at: position(from.at, most, &mut run.chance),
+        reading: from.reading.wrapping_add(gone),
+        left: from.left.saturating_sub(gone),
     };
     count_reading(i, from, to, most, run);
     to
 }
 
-// So many readings, from a moment before the first of them.
-fn filled(
-    start: Moment,
-    cycle: u32,
-    mode3: bool,
-    held: bool,
-    number: usize,
-    most: usize,
-    run: &mut Run,
-) -> Schedule
-    requires { (number ≤ 4) × (start.at ≤ most) }
-{
-    let mut positions: [usize; MANY] = [0; MANY];
-    let mut readings: [u32; MANY] = [0; MANY];
-    let mut moment = start;
-    for i in 0..number {
-        moment = later(i, moment, cycle, most, run);
-        positions[i] = moment.at;
-        readings[i] = moment.reading;
-    }
-    Schedule {
-        mode3: mode3,
-        held: held,
-        number: number,
-        positions: positions,
-        readings: readings,
-    }
-}
-
 // How many: mostly none, where a cycle runs often some. A frame that is deselected in Hold has none: the frame model
 // knows no Hold, and does not say what readings leave of a frame that is dropped.
-fn how_many(running: bool, held: bool, run: &mut Run) -> usize
+fn how_many(running: bool, held: bool, chance: &mut Chance) -> usize
     ensures { result ≤ 4 }
 {
-    let often = if running { 50 } else { 25 };
-    if held | !percent(often, run) {
+    let some = chance.percent(if running { 50 } else { 25 });
+    if held || !some {
         return 0;
     }
-    1 + below(4, run) as usize
+    1 + chance.below(4) as usize
 }
 
-// For a frame of so many bits, from the record's last reading, its cycle length and its time left.
-pub fn scheduled(
-    last: u32,
-    cycle: u32,
-    left: u32,
-    bits: usize,
-    held: bool,
-    run: &mut Run,
-) -> Schedule {
-    let mode3 = percent(50, run);
-    let number = how_many(left > 0, held, run);
-    let start = Moment {
+// For a frame of so many bits, from the record before it.
+pub fn scheduled(before: Core, bits: usize, held: bool, run: &mut Run) -> Schedule {
+    let mode3 = run.chance.percent(50);
+    let number = how_many(before.left > 0, held, &mut run.chance);
+    let most = bits / 8;
+    let mut moment = Moment {
         at: 0,
-        reading: last,
-        left: left,
+        reading: before.last,
+        left: before.left,
     };
-    filled(start, cycle, mode3, held, number, bits / 8, run)
-}
-
-// Reading i comes after k bits in a mode.
-pub fn is_due(schedule: Schedule, i: usize, k: usize, mode3: bool) -> bool
-    requires { i < 4 }
-{
-    let positions = schedule.positions;
-    (schedule.mode3 == mode3) & (i < schedule.number) & (k % 8 == 0) & (positions[i] == k / 8)
+    let mut moments = [moment; MANY];
+    for (i, next) in moments[..number].iter_mut().enumerate() {
+        moment = later(i, moment, before.cycle, most, run);
+        *next = moment;
+    }
+    Schedule {
+        mode3,
+        held,
+        number,
+        moments,
+    }
 }
 
 // WIP is 1 in the first status byte and 0 in the last whole one.
 pub fn falls(out: &[u8], bits: usize) -> bool {
     let last = bits - bits % 8;
-    if last < 24 {
-        return false;
-    }
-    (bit_at(out, 15) == 1) & (bit_at(out, last - 1) == 0)
+    last >= 24 && bit_at(out, 15) && !bit_at(out, last - 1)
 }
 
-// A poll that sits on RDSR while the cycle ends.
-fn count_poll(mode3: bool, run: &mut Run) {
-    count(FALLS, run);
-    if mode3 {
-        count(FALLS_3, run);
-    }
-}
-
-// A frame with readings inside, whether it met a cycle's end, and whether it is a poll that saw WIP fall.
-pub fn count_inside(schedule: Schedule, ended: bool, saw: bool, run: &mut Run) {
+// A frame with readings inside, whether it met a cycle's end, and whether it is a poll that saw WIP fall: one that sits
+// on RDSR while the cycle ends.
+pub fn count_inside(schedule: &Schedule, ended: bool, saw: bool, run: &mut Run) {
     if schedule.number == 0 {
         return;
     }
-    count(TIMED, run);
+    count(&mut run.inside.frames);
     if ended {
-        count(ENDED_INSIDE, run);
+        count(&mut run.inside.ended);
     }
     if saw {
-        count_poll(schedule.mode3, run);
+        count(&mut run.inside.falls);
+    }
+    if saw && schedule.mode3 {
+        count(&mut run.inside.falls_3);
     }
 }

@@ -20,15 +20,9 @@ pub fn outputs(part: u8, i: Instruction, taken: u8, ran: bool) -> bool
     ensures { result ≡ outputs (part_of part) i taken ran }
 {
     match i {
-        Instruction::Wren => false,
-        Instruction::Wrdi => false,
         Instruction::Rdsr => 1 <= taken,
-        Instruction::Wrsr => false,
-        Instruction::Read => (head_of(part) <= taken) & !ran,
-        Instruction::Write => false,
-        Instruction::Rdid => (head_of(part) <= taken) & !ran,
-        Instruction::Wrid => false,
-        Instruction::Silence => false,
+        Instruction::Read | Instruction::Rdid => (head_of(part) <= taken) & !ran,
+        _ => false,
     }
 }
 
@@ -36,11 +30,7 @@ pub fn outputs(part: u8, i: Instruction, taken: u8, ran: bool) -> bool
 pub fn cell(memory: &[u8], address: u32) -> u8
     ensures { result ≡ get_or memory.now address 0 }
 {
-    let at = address as usize;
-    if at < memory.len() {
-        return memory[at];
-    }
-    0
+    memory.get(address as usize).copied().unwrap_or(0)
 }
 
 // The next address, from the last one back to the first.
@@ -82,19 +72,14 @@ impl Frame {
             (lent memory.now identification.now) core i self }
     {
         match i {
-            Instruction::Wren => self,
-            Instruction::Wrdi => self,
             Instruction::Rdsr => self.with_out(core.status(), 1),
-            Instruction::Wrsr => self,
             Instruction::Read => self.load_cell(core.part, memory),
-            Instruction::Write => self,
             Instruction::Rdid => self.load_identification(
                 core.part,
                 core.lock_byte(),
                 identification,
             ),
-            Instruction::Wrid => self,
-            Instruction::Silence => self,
+            _ => self,
         }
     }
 }
@@ -104,11 +89,7 @@ impl Level {
     pub fn number(self) -> u8
         ensures { result ≡ level_number self }
     {
-        match self {
-            Level::Zero => 0,
-            Level::One => 1,
-            Level::Z => 2,
-        }
+        self as u8
     }
 }
 
@@ -120,18 +101,12 @@ fn bit_of(k: u8, byte: u8) -> u8
     byte >> k & 1
 }
 
-fn bits_left(shown: u8) -> u8
-    ensures { result ≡ 8 - shown }
-{
-    if shown < 8 { 8 - shown } else { 0 }
-}
-
 // What Q shows, of the four fields that say it.
 pub fn level_of(s: u8, held: u8, shown: u8, out: u8) -> Level
     ensures { result ≡ level_shown s held shown out }
 {
-    if !(s == 1) & !(held == 1) & (1 <= shown) {
-        if bit_of(bits_left(shown), out) == 1 {
+    if (s != 1) & (held != 1) & (1 <= shown) {
+        if bit_of(8u8.saturating_sub(shown), out) == 1 {
             return Level::One;
         }
         return Level::Zero;

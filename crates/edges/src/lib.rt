@@ -15,7 +15,7 @@ pub use falling::{cell, level_of, one_up, outputs};
 pub use records::{bit, one_more};
 pub use rising::{address_with, next_address, shifted_in};
 
-// The frame in hand. Fields that it has not reached are 0.
+// The frame in hand. Fields that it has not reached are 0. All its fields are numbers, since the record is C's too.
 #[repr(C)]
 #[derive(Clone, Copy)]
 pub struct Frame {
@@ -38,9 +38,9 @@ pub struct Frame {
 }
 
 // What Q shows.
-#[derive(Clone, Copy)]
+#[derive(Clone, Copy, PartialEq, Eq)]
 pub enum Level {
-    Zero,
-    One,
-    Z,
+    Zero = 0,
+    One = 1,
+    Z = 2,
 }

@@ -7,19 +7,7 @@ pub(crate) fn place(left: u8) -> u64
     ensures value { result ≡ 256 ^ left }
     ensures result_nonzero { (0 < result) × (result ≤ 256 ^ 4) }
 {
-    if left == 0 {
-        return 1;
-    }
-    if left == 1 {
-        return 256;
-    }
-    if left == 2 {
-        return 65536;
-    }
-    if left == 3 {
-        return 16777216;
-    }
-    4294967296
+    1 << 8 * left
 }
 
 // How many are still to come.
@@ -27,5 +15,5 @@ pub(crate) fn less(bytes: u8, taken: u8) -> u8
     ensures value { result ≡ bytes - taken }
     ensures upper_bound { result ≤ bytes }
 {
-    if taken < bytes { bytes - taken } else { 0 }
+    bytes.saturating_sub(taken)
 }

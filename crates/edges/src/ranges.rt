@@ -10,22 +10,11 @@ use crate::falling::outputs;
 use crate::places::{less, place};
 use codes::{Instruction, head_of, is_wrid, is_write, most_of, picks_lock, size_of};
 
-// 2 to the number of bits taken, for one byte.
-fn two_to(bits: u8) -> u32
-    requires { bits < 8 }
-    ensures { result ≡ 2 ^ bits }
-{
-    1u32 << bits
-}
-
 // The bits taken of the current byte, and no others.
 fn partial_fits(bits: u8, partial: u8) -> bool
     ensures { result ≡ partial_fits bits partial }
 {
-    if bits <= 7 {
-        return (partial as u32) < two_to(bits);
-    }
-    false
+    bits <= 7 && u32::from(partial) < 1 << bits
 }
 
 // What lies below the last address byte taken is 0.
@@ -34,29 +23,16 @@ fn taken_so_far(part: u8, taken: u8, address: u32) -> bool
         ≡ (ltb address (part_of part).size && eqb (address % 256 ^ ((part_of part).address_bytes + 1 - taken)) 0) }
 {
     let place = place(less(head_of(part), taken));
-    ((address as usize) < size_of(part)) & (left_over(address as u64, place) == 0)
-}
-
-fn left_over(address: u64, place: u64) -> u64
-    requires { 0 < place }
-    ensures { result ≡ address % place }
-{
-    address % place
+    ((address as usize) < size_of(part)) & (u64::from(address) % place == 0)
 }
 
 fn address_fits(part: u8, i: Instruction, taken: u8, address: u32) -> bool
     ensures { result ≡ address_fits (part_of part) i taken address }
 {
     match i {
-        Instruction::Wren => address == 0,
-        Instruction::Wrdi => address == 0,
-        Instruction::Rdsr => address == 0,
-        Instruction::Wrsr => address == 0,
-        Instruction::Read => taken_so_far(part, taken, address),
-        Instruction::Write => taken_so_far(part, taken, address),
-        Instruction::Rdid => taken_so_far(part, taken, address),
-        Instruction::Wrid => taken_so_far(part, taken, address),
-        Instruction::Silence => address == 0,
+        Instruction::Read | Instruction::Write | Instruction::Rdid | Instruction::Wrid =>
+            taken_so_far(part, taken, address),
+        _ => address == 0,
     }
 }
 
@@ -64,15 +40,9 @@ fn valued(part: u8, i: Instruction, address: u32, taken: u8) -> bool
     ensures { result ≡ valued (part_of part) i address taken }
 {
     match i {
-        Instruction::Wren => false,
-        Instruction::Wrdi => false,
-        Instruction::Rdsr => false,
         Instruction::Wrsr => 2 <= taken,
-        Instruction::Read => false,
-        Instruction::Write => false,
-        Instruction::Rdid => false,
         Instruction::Wrid => picks_lock(address) & (head_of(part) < taken),
-        Instruction::Silence => false,
+        _ => false,
     }
 }
 

@@ -81,13 +81,12 @@ impl Frame {
 pub fn one_more(part: u8, taken: u8) -> u8
     ensures { result ≡ min (part_of part).most (taken + 1) }
 {
-    let most = most_of(part);
-    if taken < most { taken + 1 } else { most }
+    taken.saturating_add(1).min(most_of(part))
 }
 
-// A level as a number: 1 for high.
+// A level as a number: 1 for high. By name, as the contracts of those who call it speak of it.
 pub fn bit(level: bool) -> u8
     ensures { result ≡ bit level }
 {
-    if level { 1 } else { 0 }
+    u8::from(level)
 }

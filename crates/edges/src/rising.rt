@@ -14,10 +14,7 @@ use latch::{cell_of, next_cell};
 pub fn shifted_in(partial: u8, d: u8) -> u8
     ensures { result ≡ shifted_in partial d }
 {
-    if d == 1 {
-        return (partial % 128) * 2 + 1;
-    }
-    (partial % 128) * 2
+    partial % 128 * 2 + u8::from(d == 1)
 }
 
 // One more address byte goes to its place, by the whole bytes before it: the first one is the high byte.
@@ -53,15 +50,6 @@ impl Frame {
             .with_address(next_address(part, address))
     }
 
-    fn write_byte(self, part: u8, before: u8, byte: u8) -> Frame
-        ensures { result ≡ taking (part_of part) Write before byte self }
-    {
-        if before <= address_bytes_of(part) {
-            return self.address_byte(part, before, byte);
-        }
-        self.latch_byte(part, byte)
-    }
-
     // A data byte of 82h: the lock's, of which the first stays, or one of the identification page.
     fn identification_data(self, part: u8, before: u8, byte: u8) -> Frame
         ensures { result ≡ identification_data (part_of part) before byte self }
@@ -75,25 +63,6 @@ impl Frame {
         self.latch_byte(part, byte)
     }
 
-    fn wrid_byte(self, part: u8, before: u8, byte: u8) -> Frame
-        ensures { result ≡ taking (part_of part) Wrid before byte self }
-    {
-        if before <= address_bytes_of(part) {
-            return self.address_byte(part, before, byte);
-        }
-        self.identification_data(part, before, byte)
-    }
-
-    // READ and 83h take their address alone.
-    fn read_byte(self, part: u8, before: u8, byte: u8) -> Frame
-        ensures { result ≡ taking (part_of part) Read before byte self }
-    {
-        if before <= address_bytes_of(part) {
-            return self.address_byte(part, before, byte);
-        }
-        self
-    }
-
     fn status_byte(self, part: u8, before: u8, byte: u8) -> Frame
         ensures { result ≡ taking (part_of part) Wrsr before byte self }
     {
@@ -103,20 +72,18 @@ impl Frame {
         self
     }
 
-    // What a whole byte is for, by the instruction and by the whole bytes before it.
+    // What a whole byte is for, by the instruction and by the whole bytes before it: an address's comes before the
+    // data, and READ and 83h take their address alone.
     fn taking(self, part: u8, i: Instruction, before: u8, byte: u8) -> Frame
         ensures { result ≡ taking (part_of part) i before byte self }
     {
         match i {
-            Instruction::Wren => self,
-            Instruction::Wrdi => self,
-            Instruction::Rdsr => self,
             Instruction::Wrsr => self.status_byte(part, before, byte),
-            Instruction::Read => self.read_byte(part, before, byte),
-            Instruction::Write => self.write_byte(part, before, byte),
-            Instruction::Rdid => self.read_byte(part, before, byte),
-            Instruction::Wrid => self.wrid_byte(part, before, byte),
-            Instruction::Silence => self,
+            Instruction::Read | Instruction::Write | Instruction::Rdid | Instruction::Wrid
+                if before <= address_bytes_of(part) => { self.address_byte(part, before, byte) }
+            Instruction::Write => self.latch_byte(part, byte),
+            Instruction::Wrid => self.identification_data(part, before, byte),
+            _ => self,
         }
     }
 

@@ -10,15 +10,13 @@ use native.Mathlib.Omega.{arith}
 use lib.ListN.{length, get_or, take, drop, set, replicate, length-set, length-drop, length-replicate, get_or-replicate}
 use lib.ListN.{take-append-drop, replicate-append-replicate}
 use lib.Seq.{sets, sets-eq, drop-set-lt, drop-drop, drop_at, take_all, length-take-le}
-use lib.Bits.{or_zero_r}
-use Rattle.laws.specs.Table.{table, from}
 use Rattle.laws.specs.Spliced.{spliced, spliced_length, spliced_before, spliced_in, spliced_after}
 use Rattle.laws.specs.Flags.{bit}
 use Rattle.laws.specs.Marks.{mark, mark_set, mark_bytes, Wide, wide_none, wide_set}
 use Rattle.laws.specs.Marks.{mark_bytes_none, mark_bytes_set, mark_bytes_is, mark_bytes_same}
 use Rattle.codes.specs.Part.{Part, room, room_words}
 use Rattle.latch.specs.Latches.{zeros, no_latch, latched}
-use Rattle.latch.specs.Words.{run_marks, run_word}
+use Rattle.latch.specs.Words.{run_marks}
 use Rattle.latch.specs.declared.Latch.{Latch}
 use Rattle.latch.proofs.Runs.{run_marks_length, run_marks_wide, marked_in_run, marked_in_rest, unmarked_before, unmarked_after}
 use Rattle.fields.specs.Bytes.{latched_from, latched_up}
@@ -315,8 +313,3 @@ module _ (P : Part) (reach : P.page ≤ room) where
       ap (λ (xs : List ℕ). latched_from P (a % P.page) xs no_latch) (up_to (P.page - a % P.page) vs e)
       ∙ one_run (a % P.page) (take n vs) below (omega arith)
       ∙ rw long refl
-
--- its marks, a word at a time
-pub run_words_one : (s e : ℕ) → run_marks s e 0 ≡ run_word 0 s e ∷ run_word 64 s e ∷ run_word 128 s e ∷ run_word 192 s e ∷ []
-unfolding run_marks table from
-run_words_one s e = rw (or_zero_r (run_word 0 s e), or_zero_r (run_word 64 s e), or_zero_r (run_word 128 s e), or_zero_r (run_word 192 s e)) refl

@@ -3,7 +3,6 @@ ghost use Rattle.std.specs.Prelude.{◌≡◌, leb};
 ghost use Rattle.codes.specs.Part.{part_of};
 ghost use Rattle.fields.specs.Counts.{bits_fit, longest_frame};
 
-use crate::runs::at_most;
 use codes::size_of;
 
 // As many bytes are a frame: at most the memory's size, and four more.
@@ -17,5 +16,5 @@ pub fn length_fits(part: u8, len: usize) -> bool
 pub fn bits_fit(len: usize, bits: usize) -> bool
     ensures { result ≡ bits_fit len bits }
 {
-    bits / 8 + at_most(1, bits % 8) == len
+    bits.div_ceil(8) == len
 }

@@ -5,17 +5,13 @@ ghost use Rattle.codes.specs.Part.{part_of, room_cells};
 ghost use Rattle.latch.specs.Latches.{no_latch};
 ghost use Rattle.fields.specs.Bytes.{instruction, address, latched_from, latched_up, written};
 
-use crate::runs::at_most;
 use codes::{ADDRESS_BYTES, Instruction, address_bytes_of, head_of, page_of, size_of};
-use latch::{Latch, ROOM, WORD, cell_of, run_marks, run_word};
+use latch::{Latch, ROOM, cell_of, run_marks};
 
 pub fn byte_at(bytes: &[u8], i: usize) -> u8
     ensures { result ≡ get_or bytes.now i 0 }
 {
-    if i < bytes.len() {
-        return bytes[i];
-    }
-    0
+    bytes.get(i).copied().unwrap_or(0)
 }
 
 pub fn instruction_of(part: u8, bytes: &[u8]) -> Instruction
@@ -27,7 +23,7 @@ pub fn instruction_of(part: u8, bytes: &[u8]) -> Instruction
 fn joined(high: u8, low: u8) -> usize
     ensures { result ≡ high * 256 + low }
 {
-    high as usize * 256 + low as usize
+    usize::from(u16::from_be_bytes([high, low]))
 }
 
 // The address, high byte first.
@@ -39,7 +35,7 @@ pub fn address_of(part: u8, bytes: &[u8]) -> usize
     if address_bytes_of(part) == ADDRESS_BYTES {
         return two;
     }
-    (two * 256 + byte_at(bytes, 3) as usize) & (size_of(part) - 1)
+    (two * 256 + usize::from(byte_at(bytes, 3))) & (size_of(part) - 1)
 }
 
 // A run of bytes latched: into the cells from `start` on.
@@ -61,10 +57,10 @@ fn latch_all(part: u8, address: usize, values: &[u8]) -> Latch
     let mut cells = [0u8; ROOM];
     let page = page_of(part);
     let n = values.len();
-    let kept = at_most(page, n);
+    let kept = n.min(page);
     let skip = n - kept;
     let start = cell_of(part, cell_of(part, address) + skip);
-    let first = at_most(page - start, kept);
+    let first = kept.min(page - start);
     let turn = skip + first;
     latch_run(&mut cells, start, &values[skip..turn]);
     latch_run(&mut cells, 0, &values[turn..n]);
@@ -74,24 +70,12 @@ fn latch_all(part: u8, address: usize, values: &[u8]) -> Latch
     }
 }
 
-// Bytes latched from an address up to the end of its page, in one run; those past it are not.
+// Bytes latched from an address up to the end of its page; those past it are not.
 pub fn latch_part(part: u8, address: usize, values: &[u8]) -> Latch
     ensures { result ≡ latched_up (part_of part) address values.now }
 {
-    let mut cells = [0u8; ROOM];
-    let start = cell_of(part, address);
-    let n = at_most(page_of(part) - start, values.len());
-    let end = start + n;
-    latch_run(&mut cells, start, &values[0..n]);
-    Latch {
-        bytes: cells,
-        marks: [
-            run_word(0, start, end),
-            run_word(WORD, start, end),
-            run_word(2 * WORD, start, end),
-            run_word(3 * WORD, start, end),
-        ],
-    }
+    let n = values.len().min(page_of(part) - cell_of(part, address));
+    latch_all(part, address, &values[..n])
 }
 
 // The page write of a WRITE or 82h frame: each data byte into its cell, from the start address up and round within the
@@ -99,10 +83,8 @@ pub fn latch_part(part: u8, address: usize, values: &[u8]) -> Latch
 pub fn latch_of(part: u8, bytes: &[u8]) -> Latch
     ensures { result ≡ written (part_of part) bytes.now }
 {
-    let n = bytes.len();
-    let head = head_of(part) as usize;
-    if n < head {
+    let Some(data) = bytes.get(usize::from(head_of(part))..) else {
         return Latch::none();
-    }
-    latch_all(part, address_of(part, bytes), &bytes[head..n])
+    };
+    latch_all(part, address_of(part, bytes), data)
 }

@@ -3,7 +3,6 @@ pub mod Outcomes
 pub mod Polls
 pub mod Disabling
 pub mod Ones
-pub mod Effects
 pub mod Kept
 pub mod Ignored
 pub mod Unused

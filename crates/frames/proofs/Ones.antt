@@ -6,10 +6,6 @@ use Rattle.frames.proofs.sent.wren.Kinds as wren
 use Rattle.frames.proofs.sent.wren.Reads as wren-reads
 use Rattle.frames.proofs.sent.write.Kinds as write
 use Rattle.frames.proofs.sent.write.Reads as write-reads
-use Rattle.frames.proofs.FrameReply.number.Kinds as framereply-number
-use Rattle.frames.proofs.FrameReply.number.Reads as framereply-number-reads
-use Rattle.frames.proofs.FrameReply.undriven.Kinds as framereply-undriven
-use Rattle.frames.proofs.FrameReply.undriven.Reads as framereply-undriven-reads
 
 pub frame_one : OneResult frame.ps frame.r frame-reads.Post
 frame_one κs a z z' e e' p q = same p.0 q.0
@@ -24,9 +20,3 @@ wren_one κs a z z' e e' p q = same p q
 
 pub write_one_law : OneResult write.ps write.r write-reads.Post
 write_one_law κs a z z' e e' p q = same p q
-
-pub framereply_number_one : OneResult framereply-number.ps framereply-number.r framereply-number-reads.Post
-framereply_number_one κs a z z' e e' p q = same p q
-
-pub framereply_undriven_one : OneResult framereply-undriven.ps framereply-undriven.r framereply-undriven-reads.Post
-framereply_undriven_one κs a z z' e e' p q = same p q

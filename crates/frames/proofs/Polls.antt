@@ -1,4 +1,6 @@
 -- A poll is RDSR with one status byte: its frame leaves the record as it was, and shows the status byte.
+use Rattle.codes.specs.Refusals.{no_refusal}
+use Rattle.std.specs.Prelude.{Ok}
 use mathlib.Core.Path.{◌≡◌, refl, ap}
 use mathlib.Core.Bool.{true}
 use mathlib.Core.List.{List, [], ◌∷◌}
@@ -10,7 +12,6 @@ use Rattle.laws.specs.Table.{from, table}
 use Rattle.codes.specs.Part.{Part}
 use Rattle.codes.specs.Instructions.{decode, rdsr_code}
 use Rattle.codes.specs.Verdicts.{is_executed}
-use Rattle.codes.specs.declared.Outcome.TheVariants.{Done}
 use Rattle.chip.specs.Records.{running, status, lock_byte}
 use Rattle.chip.specs.Ranges.{in_ranges}
 use Rattle.chip.specs.Time.{lent_fits}
@@ -19,7 +20,6 @@ use Rattle.fields.specs.Counts.{bits_fit, longest_frame}
 use Rattle.shown.specs.Shown.{sights, padded, output}
 use Rattle.frames.specs.After.{judged, after}
 use Rattle.frames.specs.Answers.{frame_outcome, framed, framed_output}
-use Rattle.frames.specs.declared.FrameReply.TheVariants as reply
 use Rattle.frames.proofs.Outcomes.{accepted}
 
 -- the code, and a byte in which the status shows
@@ -44,15 +44,15 @@ two_bytes = refl
 
 -- slices of the part's lengths, a record inside the ranges and room for two bytes
 module _ (P : Part) (c : Core) (m i : List ℕ) (size : lent_fits P (length m) (length i) ≡ true) (ranges : in_ranges P c ≡ true) where
-  poll_accepted : (room : ℕ) → room ≡ 2 → frame_outcome P c (length m) (length i) 2 16 room ≡ Done
+  poll_accepted : (room : ℕ) → room ≡ 2 → frame_outcome P c (length m) (length i) 2 16 room ≡ no_refusal
   poll_accepted room two =
       let short : 2 ≤ longest_frame P = omega arith in
       accepted P c (length m) (length i) 2 16 room size ranges short two_bytes two
 
   -- the call answers 8 undriven bits, and hands the record back as it was
-  pub poll_framed : framed P c m i true poll_bytes 16 2 ≡ record { answer = reply.Shown 8; core = c }
+  pub poll_framed : framed P c m i true poll_bytes 16 2 ≡ record { answer = Ok 8; core = c }
   unfolding framed decode pick
-  poll_framed = rw (poll_accepted 2 refl) (ap (λ (x : Core). record { answer = reply.Shown 8; core = x }) (poll_leaves P c))
+  poll_framed = rw (poll_accepted 2 refl) (ap (λ (x : Core). record { answer = Ok 8; core = x }) (poll_leaves P c))
 
   -- the second byte of its output is the status byte
   pub polled_status : (out : List ℕ) → length out ≡ 2 → get_or (framed_output P c m i poll_bytes 16 out) 1 0 ≡ status c

@@ -1,5 +1,6 @@
 -- The unused low bits of a frame's last byte change nothing: two frames of one count whose bytes before the last are the same, and whose last bytes agree on
 -- the bits that are counted, give the same answer, record and output.
+use Rattle.std.specs.Prelude.{Err, Ok}
 use mathlib.Core.Path.{◌≡◌, refl, ap, ap₂, sym, ◌∙◌}
 use mathlib.Core.Bool.{Bool, true, false, not, ◌&&◌}
 use mathlib.Core.List.{List, [], ◌∷◌, ◌++◌}
@@ -13,9 +14,7 @@ use Rattle.laws.specs.Table.{table, table_cong}
 use Rattle.codes.specs.Part.{Part}
 use Rattle.codes.specs.Output.{outputs}
 use Rattle.codes.specs.Instructions.{decode, count_fits, picks_lock, write_bits}
-use Rattle.codes.specs.Refusals.{is_done}
-use Rattle.codes.specs.declared.Outcome.{Outcome}
-use Rattle.codes.specs.declared.Outcome.TheVariants.{Done, Refused}
+use Rattle.codes.specs.Refusals.{is_done, no_refusal, Outcome}
 use Rattle.codes.specs.declared.Count.{Count}
 use Rattle.codes.specs.declared.Count.TheVariants.{Exactly, WholeBytes}
 use Rattle.codes.specs.declared.Instruction.{Instruction}
@@ -25,9 +24,8 @@ use Rattle.chip.specs.Records.{running, status, lock_byte}
 use Rattle.fields.specs.Bytes.{instruction, address_to, address}
 use Rattle.fields.specs.Counts.{bits_fit}
 use Rattle.shown.specs.Shown.{Sights, sights, byte_out, padded_at, output, undriven}
-use Rattle.frames.specs.declared.Framed.{Framed}
+use Rattle.frames.specs.Answers.{Framed, frame_outcome, frame_reply, framed, framed_output}
 use Rattle.frames.specs.After.{after}
-use Rattle.frames.specs.Answers.{frame_outcome, frame_reply, framed, framed_output}
 use Rattle.frames.proofs.Outcomes.{taken}
 use Rattle.frames.proofs.Ignored.{miscounted}
 
@@ -198,14 +196,14 @@ module _ (P : Part) where
   abbrev replied : Outcome → ℕ → Core → Core → Framed
   replied o k x c = record { answer = frame_reply o k; core = pick (is_done o) x c }
 
-  replied_same : (o : Outcome) (c : Core) {k k' : ℕ} {x x' : Core} → (o ≡ Done → (k ≡ k') × (x ≡ x')) → replied o k x c ≡ replied o k' x' c
+  replied_same : (o : Outcome) (c : Core) {k k' : ℕ} {x x' : Core} → (o ≡ no_refusal → (k ≡ k') × (x ≡ x')) → replied o k x c ≡ replied o k' x' c
   unfolding pick
-  replied_same Done c h = ap₂ (λ k x. replied Done k x c) (h refl).0 (h refl).1
-  replied_same (Refused r) c h = refl
+  replied_same (Ok _) c h = ap₂ (λ k x. replied no_refusal k x c) (h refl).0 (h refl).1
+  replied_same (Err r) c h = refl
 
   module _ (c : Core) (m i : List ℕ) (w : Bool) (t : List ℕ) (u v n : ℕ)
       (same : u / 2 ^ (8 * (length t + 1) - n) ≡ v / 2 ^ (8 * (length t + 1) - n)) where
-    counted : (room : ℕ) → frame_outcome P c (length m) (length i) (length t + 1) n room ≡ Done → bits_fit (length t + 1) n ≡ true
+    counted : (room : ℕ) → frame_outcome P c (length m) (length i) (length t + 1) n room ≡ no_refusal → bits_fit (length t + 1) n ≡ true
     counted room e = (taken P c (length m) (length i) (length t + 1) n room refl e).counted
 
     pub unused_framed : (room : ℕ) → framed P c m i w (ending t u) n room ≡ framed P c m i w (ending t v) n room

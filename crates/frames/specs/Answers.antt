@@ -1,21 +1,18 @@
 -- The public frame call, for every input: the refusals in their order, the answer, the record and the output.
-use Rattle.std.specs.Prelude.{ℕ, Bool, List, length, eqb, leb}
+use Rattle.std.specs.Prelude.{ℕ, Bool, List, length, eqb, leb, Err, Ok, Result}
 use Rattle.laws.specs.Pick.{pick}
 use Rattle.codes.specs.Part.{Part}
 use Rattle.chip.specs.Records.{running, status, lock_byte}
 use Rattle.chip.specs.Ranges.{in_ranges}
 use Rattle.chip.specs.Time.{lent_fits}
-use Rattle.codes.specs.Refusals.{refusal_number, is_done}
 use Rattle.chip.specs.declared.Core.{Core}
+use Rattle.codes.specs.declared.Refusal.{Refusal}
 use Rattle.codes.specs.declared.Refusal.TheVariants.{MemoryLength, RecordRange, FrameLength, BitCount, OutputLength}
-use Rattle.codes.specs.declared.Outcome.{Outcome}
-use Rattle.codes.specs.declared.Outcome.TheVariants.{Done, Refused}
+use Rattle.codes.specs.Refusals.{Outcome, no_refusal, is_done}
 use Rattle.fields.specs.Bytes.{instruction}
 use Rattle.fields.specs.Counts.{bits_fit, longest_frame}
 use Rattle.shown.specs.Shown.{sights, output, undriven}
-use Rattle.frames.specs.declared.FrameReply.{FrameReply}
-use Rattle.frames.specs.declared.FrameReply.TheVariants as reply
-use Rattle.frames.specs.declared.Framed.{Framed}
+use Rattle.chip.specs.declared.Answered.{Answered}
 use Rattle.frames.specs.After.{after}
 
 -- what stands for refusals 1, 2, 3, 4, 5, in that order, and for none; size is the memory's length, cells the
@@ -31,22 +28,17 @@ frame_choice P c size cells len n room one two three four five done =
 
 abbrev pub frame_outcome : Part → Core → ℕ → ℕ → ℕ → ℕ → ℕ → Outcome
 frame_outcome P c size cells len n room =
-    frame_choice P c size cells len n room (Refused MemoryLength) (Refused RecordRange) (Refused FrameLength)
-    (Refused BitCount) (Refused OutputLength) Done
+    frame_choice P c size cells len n room (Err MemoryLength) (Err RecordRange) (Err FrameLength)
+    (Err BitCount) (Err OutputLength) no_refusal
 
 -- the answer of a frame: how many leading bits were undriven, or the refusal
-abbrev pub frame_reply : Outcome → ℕ → FrameReply
-frame_reply Done u = reply.Shown u
-frame_reply (Refused r) u = reply.Refused r
+abbrev pub frame_reply : Outcome → ℕ → Result ℕ Refusal
+frame_reply (Ok _) u = Ok u
+frame_reply (Err r) u = Err r
 
--- its number in document 01, and its value: every count is 0 in a refusal
-abbrev pub frame_reply_number : FrameReply → ℕ
-frame_reply_number (reply.Shown u) = 0
-frame_reply_number (reply.Refused r) = refusal_number r
-
-abbrev pub frame_reply_undriven : FrameReply → ℕ
-frame_reply_undriven (reply.Shown u) = u
-frame_reply_undriven (reply.Refused r) = 0
+-- what a frame hands back
+abbrev pub Framed : Type 0
+Framed = Answered ℕ Refusal
 
 -- no time passes inside a frame: "no cycle" and the status are those of the record
 unfoldable pub framed : Part → Core → List ℕ → List ℕ → Bool → List ℕ → ℕ → ℕ → Framed

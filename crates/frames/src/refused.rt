@@ -3,8 +3,8 @@ ghost use Rattle.std.specs.Prelude.{◌≡◌};
 ghost use Rattle.chip.specs.Records.{own_part};
 ghost use Rattle.frames.specs.Answers.{frame_outcome};
 
-use chip::{Core, lent_fits};
-use codes::{Outcome, Refusal};
+use chip::Core;
+use codes::Refusal;
 use fields::{bits_fit, length_fits};
 
 pub(crate) fn outcome(
@@ -14,23 +14,18 @@ pub(crate) fn outcome(
     len: usize,
     bits: usize,
     room: usize,
-) -> Outcome
+) -> Result<(), Refusal>
     ensures { result ≡ frame_outcome (own_part core) core size cells len bits room }
 {
-    if lent_fits(core.part, size, cells) {
-        if core.in_ranges() {
-            if length_fits(core.part, len) {
-                if bits_fit(len, bits) {
-                    if room == len {
-                        return Outcome::Done;
-                    }
-                    return Outcome::Refused(Refusal::OutputLength);
-                }
-                return Outcome::Refused(Refusal::BitCount);
-            }
-            return Outcome::Refused(Refusal::FrameLength);
-        }
-        return Outcome::Refused(Refusal::RecordRange);
+    core.admitted(size, cells)?;
+    if !length_fits(core.part, len) {
+        return Err(Refusal::FrameLength);
     }
-    Outcome::Refused(Refusal::MemoryLength)
+    if !bits_fit(len, bits) {
+        return Err(Refusal::BitCount);
+    }
+    if room != len {
+        return Err(Refusal::OutputLength);
+    }
+    Ok(())
 }

@@ -6,7 +6,7 @@ ghost use Rattle.chip.specs.Records.{own_part};
 ghost use Rattle.frames.specs.Sent.{after_all, wren_bytes, in_page, after_write};
 
 use chip::Core;
-use codes::{Instruction, head_of, judge, page_number, page_of, size_of};
+use codes::{Deselect, Instruction, head_of, judge, page_number, page_of, size_of};
 use fields::latch_part;
 use latch::cell_of;
 
@@ -19,12 +19,14 @@ pub fn wren(core: Core) -> Core
         Instruction::Wren,
         0,
         0,
-        8,
-        core.running(),
-        core.wel == 1,
-        false,
-        false,
-        false,
+        Deselect {
+            bits: 8,
+            ran: core.running(),
+            wel: core.wel == 1,
+            locked: false,
+            protected: false,
+            held: false,
+        },
     );
     if verdict.is_executed() {
         return core.with_wel(1);
@@ -51,12 +53,14 @@ pub fn write(core: Core, address: usize, bytes: &[u8]) -> Core
         Instruction::Write,
         address as u32,
         0,
-        8 * (head_of(core.part) as usize + bytes.len()),
-        core.running(),
-        core.wel == 1,
-        false,
-        core.protects(address as u32),
-        false,
+        Deselect {
+            bits: 8 * (usize::from(head_of(core.part)) + bytes.len()),
+            ran: core.running(),
+            wel: core.wel == 1,
+            locked: false,
+            protected: core.protects(address as u32),
+            held: false,
+        },
     );
     if verdict.is_executed() {
         let page = page_number(core.part, address) as u32;

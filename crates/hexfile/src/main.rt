@@ -8,7 +8,7 @@ ghost use Rattle.std.specs.Char.{IsAsciiAlphanumeric};
 
 use chip::Core;
 use codes::M95512;
-use console::{Tell, fail, file_name, is_word, word};
+use console::{Tell, WORD, fail, file_name, is_word, word, zeros};
 use intel_hex::{IMAGE_SIZE, TEXT_SIZE};
 use std::env::Env;
 use std::fs::{OpenFile, OpenOptions, Permissions};
@@ -20,18 +20,6 @@ use std::{fs, io};
 
 // The longest text that is read.
 const MOST: usize = 1048576;
-
-fn text_room() -> [u8; MOST]
-    ensures { 1048576 ≡ length result }
-{
-    [0; MOST]
-}
-
-fn exported_room() -> [u8; TEXT_SIZE]
-    ensures { 180236 ≡ length result }
-{
-    [0; TEXT_SIZE]
-}
 
 // An image with every byte FFh.
 fn blank() -> [u8; IMAGE_SIZE]
@@ -91,6 +79,7 @@ fn read_full(file: &mut impl Read, bytes: &mut [u8]) -> usize
     ensures { result ≤ length bytes.new }
 {
     let mut done = 0;
+    // Stays a while: a read takes as many bytes as it likes.
     while done < bytes.len() {
         match file.read(&mut bytes[done..]) {
             Ok(n) if n > 0 => done += n,
@@ -100,27 +89,31 @@ fn read_full(file: &mut impl Read, bytes: &mut [u8]) -> usize
     done
 }
 
-// Reads a whole file, and answers how many bytes it has; where it cannot, says why and answers more than there is room
-// for.
-fn read_file<R: Files + Tell>(rt: &R, name: &[u8], bytes: &mut [u8], too_long: &[u8]) -> usize {
+// Reads a whole file, and answers its bytes; where it cannot, says why.
+fn read_file<'a, R: Files + Tell>(
+    rt: &R,
+    name: &[u8],
+    room: &'a mut [u8],
+    too_long: &[u8],
+) -> Option<&'a [u8]> {
     match console::open(rt, name) {
         Ok(mut file) => {
-            let n = read_full(&mut file, bytes);
+            let n = read_full(&mut file, room);
             if at_end(rt, &mut file, name, too_long) {
-                return n;
+                return Some(&room[..n]);
             }
         }
         Err(error) => fail(rt, name, error),
     }
-    MOST + 1
+    None
 }
 
-fn read_image<R: Files + Tell>(rt: &R, name: &[u8], image: &mut [u8]) -> bool {
-    let n = read_file(rt, name, image, b": too long: an image has 65,536 bytes\n");
-    if MOST < n {
+// Whether it could be read whole, and has an image's length.
+fn read_image<R: Files + Tell>(rt: &R, name: &[u8], image: &mut [u8; IMAGE_SIZE]) -> bool {
+    let Some(bytes) = read_file(rt, name, image, b": too long: an image has 65,536 bytes\n") else {
         return false;
-    }
-    if n != IMAGE_SIZE {
+    };
+    if bytes.len() != IMAGE_SIZE {
         complain(rt, name, b": an image has 65,536 bytes\n");
         return false;
     }
@@ -138,14 +131,11 @@ fn fill(file: &mut (impl Write + OpenFile), bytes: &[u8]) -> io::Result<()> {
 fn letter(byte: u8) -> char
     ensures { IsAsciiAlphanumeric result }
 {
-    let n = byte % 62;
-    if n < 26 {
-        return (b'A' + n) as char;
-    }
-    if n < 52 {
-        return (b'a' + (n - 26)) as char;
-    }
-    (b'0' + (n - 52)) as char
+    char::from(match byte % 62 {
+        n @ 0..=25 => b'A' + n,
+        n @ 26..=51 => b'a' + (n - 26),
+        n => b'0' + (n - 52),
+    })
 }
 
 // The name, a dot and six letters and digits by chance.
@@ -232,9 +222,10 @@ fn out<R: Files + RandomSource + Print + Tell + Alloc>(rt: &R, image: &[u8], tex
     if !read_image(rt, image, &mut memory) {
         return;
     }
-    let mut room = exported_room();
-    intel_hex::export(Core::delivered(M95512), &memory, &mut room);
-    put(rt, text, &room);
+    let mut room = zeros::<TEXT_SIZE>();
+    if intel_hex::export(Core::delivered(M95512), &memory, &mut room).is_ok() {
+        put(rt, text, &room);
+    }
 }
 
 fn bad(rt: &impl Tell, name: &[u8], line: usize) {
@@ -266,15 +257,10 @@ fn read_in<R: Files + RandomSource + Print + Tell + Alloc>(
     memory: &mut [u8],
     image: &[u8],
 ) {
-    let mut text = text_room();
-    let n = read_file(
-        rt,
-        name,
-        &mut text,
-        b": too long: a text has at most 1,048,576 bytes\n",
-    );
-    if n <= MOST {
-        over(rt, name, memory, &text[..n], image);
+    let mut text = zeros::<MOST>();
+    let too_long = b": too long: a text has at most 1,048,576 bytes\n";
+    if let Some(bytes) = read_file(rt, name, &mut text, too_long) {
+        over(rt, name, memory, bytes, image);
     }
 }
 
@@ -299,9 +285,9 @@ fn in_over<R: Files + RandomSource + Print + Tell + Alloc>(
 
 // A word of over 4,096 bytes counts as empty, and names no file.
 fn run<R: Env + Files + RandomSource + Print + Tell + Alloc>(rt: &R) {
-    let mut first = console::buffer();
-    let mut second = console::buffer();
-    let mut third = console::buffer();
+    let mut first = zeros::<WORD>();
+    let mut second = zeros::<WORD>();
+    let mut third = zeros::<WORD>();
     let a = word(rt, 2, &mut first);
     let b = word(rt, 3, &mut second);
     let c = word(rt, 4, &mut third);

@@ -20,6 +20,10 @@ pub by_test_law : {A : Type 0} (t : Bool) → (t ≡ true → A) → (t ≡ fals
 by_test_law true f g = f refl
 by_test_law false f g = g refl
 
+-- a test of each that one fails
+pub each_not : (f : ℕ → Bool) (n i : ℕ) → i < n → f i ≡ false → each f n ≡ false
+each_not f n i h e = by_test_law (each f n) (λ p. absurd (true≢false (sym (each_at f n i p h) ∙ e))) (λ p. p)
+
 -- no LF after the digits: the text is too short for them
 pub unframed : (t : List ℕ) → length t < 2 * data_length t + 12 → is_framed t ≡ false
 unframed t h =
@@ -35,9 +39,7 @@ too_short P t h =
 pub no_length : (P : Part) (t : List ℕ) → 256 ≤ data_length t → says_record P t ≡ false
 unfolding says_record
 no_length P t h =
-    let no : each (is_byte t) (data_length t + 5) ≡ false =
-    by_test_law (each (is_byte t) (data_length t + 5))
-    (λ e. absurd (true≢false (sym (each_at (is_byte t) (data_length t + 5) 0 e (omega arith)) ∙ le-ltb (line_byte t 0) 256 h))) (λ e. e) in
+    let no : each (is_byte t) (data_length t + 5) ≡ false = each_not (is_byte t) (data_length t + 5) 0 (omega arith) (le-ltb (line_byte t 0) 256 h) in
     and_no_right (is_framed t && is_placed P t) (sums_up t (data_length t + 5))
     (and_no_left (each (is_byte t) (data_length t + 5)) (eqb (total (table (data_length t + 5) (line_byte t)) % 256) 0) no)
 

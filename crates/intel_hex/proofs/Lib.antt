@@ -2,6 +2,8 @@
 pub mod Sums
 pub mod Fronts
 pub mod Digits
+pub mod Same
+pub mod Refusing
 pub mod Parting
 pub mod Writes
 pub mod Lays

@@ -6,8 +6,6 @@ use Rattle.intel_hex.proofs.public.import.Kinds as import
 use Rattle.intel_hex.proofs.public.import.Reads as import-reads
 use Rattle.intel_hex.proofs.public.bad_line.Kinds as bad-line
 use Rattle.intel_hex.proofs.public.bad_line.Reads as bad-line-reads
-use Rattle.intel_hex.proofs.HexReply.number.Kinds as hexreply-number
-use Rattle.intel_hex.proofs.HexReply.number.Reads as hexreply-number-reads
 
 pub export_one : OneResult export.ps export.r export-reads.Post
 export_one κs a z z' e e' p q = same p.0 q.0
@@ -23,8 +21,3 @@ import_memory_law κs a z z' e e' p q = same p.1.1 q.1.1
 
 pub bad_line_one : OneResult bad-line.ps bad-line.r bad-line-reads.Post
 bad_line_one κs a z z' e e' p q = same p q
-
--- ---- inner calls
-
-pub hexreply_number_one : OneResult hexreply-number.ps hexreply-number.r hexreply-number-reads.Post
-hexreply_number_one κs a z z' e e' p q = same p q

@@ -1,12 +1,14 @@
 -- Sums of bytes and tables with one element more.
 use mathlib.Core.Path.{◌≡◌, refl, ap, sym, ◌∙◌}
 use mathlib.Core.List.{List, [], ◌∷◌, ◌++◌}
-use Prim.Native.Nat.{ℕ, zero, suc, ◌+◌, ◌<◌}
+use Prim.Native.Nat.{ℕ, zero, suc, ◌+◌, ◌*◌, ◌<◌, ◌≤◌}
 use native.Mathlib.Nat.{add-zero, zero-add}
 use native.Mathlib.Numerals.{add-one}
 use native.Mathlib.Omega.{arith}
 use lib.ListN.{length, get_or, take}
 use lib.Seq.{take-suc}
+use Rattle.std.specs.Prelude.{sum_by}
+use Rattle.std.proofs.lemmas.List.Recursion.{is_sum_by}
 use Rattle.laws.specs.Table.{from, table}
 use Rattle.intel_hex.specs.Writing.{total}
 
@@ -14,6 +16,16 @@ pub total_append : (x y : List ℕ) → total (x ++ y) ≡ total x + total y
 unfolding total
 total_append [] y = omega arith
 total_append (v ∷ x) y = rw (total_append x y) (omega arith)
+
+-- std's sum is the total
+pub total_is : (l : List ℕ) → total l ≡ sum_by (λ b. b) l
+unfolding total
+total_is l = is_sum_by total (λ b. b) refl (λ _ _. refl) l
+
+pub total_most : (l : List ℕ) → ((i : ℕ) → get_or l i 0 < 256) → total l ≤ 255 * length l
+unfolding total
+total_most [] h = omega arith
+total_most (v ∷ l) h = omega (arith, h 0, total_most l (λ i. h (suc i)))
 
 pub total_one : (v : ℕ) → total (v ∷ []) ≡ v
 unfolding total

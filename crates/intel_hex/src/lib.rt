@@ -4,8 +4,11 @@
 // Public calls, each for every input: export, import; bad_line, where a text is not good.
 #![tactic(auto)]
 
-use chip::Core;
-use codes::Refusal;
+ghost use Rattle.std.specs.Prelude.{◌≡◌};
+ghost use Rattle.intel_hex.specs.declared.HexError.TheVariants.{Refused};
+ghost use Rattle.intel_hex.specs.Numbers.{hex_error_number};
+
+use codes::{Numbered, Refusal};
 
 mod public;
 mod reading;
@@ -14,20 +17,32 @@ mod writing;
 
 pub use public::{bad_line, export, import};
 
-// What export and import are answered with. A text that is not good is not taken, nor is any while a cycle runs; of a
-// part of another size, the M95M01, no image is taken either way.
-#[derive(Clone, Copy)]
-pub enum HexReply {
-    Done,
+// Why export or import did nothing. A text that is not good is not taken, nor is any while a cycle runs; of a part of
+// another size, the M95M01, no image is taken either way.
+#[derive(Clone, Copy, PartialEq, Eq)]
+pub enum HexError {
     NotTaken,
     Refused(Refusal),
 }
 
-// What import hands back.
-#[derive(Clone, Copy)]
-pub struct Imported {
-    pub answer: HexReply,
-    pub core: Core,
+impl From<Refusal> for HexError {
+    ghost from_gives = { λ refusal r. r ≡ Refused refusal };
+
+    fn from(refusal: Refusal) -> HexError {
+        HexError::Refused(refusal)
+    }
+}
+
+// Document 02's number: 12 for what is not taken, else the refusal's.
+impl Numbered for HexError {
+    ghost number = { hex_error_number };
+
+    fn number(self) -> u32 {
+        match self {
+            HexError::NotTaken => 12,
+            HexError::Refused(refusal) => refusal.number(),
+        }
+    }
 }
 
 // Cells of an image, which are the M95512's. A constant, since programs make arrays of it.

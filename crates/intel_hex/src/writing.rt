@@ -1,4 +1,7 @@
 // A text written: a byte, the line of a record, the text of an image.
+//
+// That a memory has an image's cells, and a record at most 255, stands in the contracts. `export` is lent slices of any
+// length, tests them (refusals 1 and 5) and hands them on as they are.
 ghost use Rattle.std.specs.Prelude.{◌≡◌, ◌+◌, ◌*◌, ◌<◌, ◌≤◌, [], ◌∷◌, ◌++◌, length};
 ghost use Rattle.codes.specs.Part.{m95512};
 ghost use Rattle.printing.specs.Put.{put};
@@ -6,6 +9,7 @@ ghost use Rattle.intel_hex.specs.Writing.{digit_text, byte_text, bytes_text, tot
 ghost use Rattle.intel_hex.specs.Writing.{records_text, image_records, image_room, image_text};
 
 use crate::IMAGE_SIZE;
+use crate::reading::END_LINE;
 use printing::put_bytes;
 
 // Cells of a record of an image, bytes of its line, and how many there are.
@@ -22,14 +26,11 @@ fn digit_text(value: u8) -> u8
     requires { value < 16 }
     ensures { result ≡ digit_text value }
 {
-    if value < 10 { 48 + value } else { 55 + value }
-}
-
-fn put_one(out: &mut [u8], at: usize, byte: u8)
-    requires { at < length out.old }
-    ensures { out.new ≡ put out.old at (byte ∷ []) }
-{
-    out[at] = byte;
+    if value < 10 {
+        b'0' + value
+    } else {
+        b'A' + (value - 10)
+    }
 }
 
 // A byte as two digits.
@@ -46,30 +47,16 @@ fn put_values(out: &mut [u8], at: usize, bytes: &[u8])
     requires { at + 2 * length bytes.now ≤ length out.old }
     ensures { out.new ≡ put out.old at (bytes_text bytes.now) }
 {
-    let mut i: usize = 0;
-    while i < bytes.len() {
-        put_byte(out, at + 2 * i, bytes[i]);
-        i += 1;
+    for (i, byte) in bytes.iter().enumerate() {
+        put_byte(out, at + 2 * i, *byte);
     }
-}
-
-fn wide(byte: u8) -> u32
-    ensures { (result ≡ byte) × (result ≤ 255) }
-{
-    byte as u32
 }
 
 fn sum_of(bytes: &[u8]) -> u32
     requires { length bytes.now ≤ 255 }
     ensures { (result ≡ total bytes.now) × (result ≤ 65025) }
 {
-    let mut sum: u32 = 0;
-    let mut i: usize = 0;
-    while i < bytes.len() {
-        sum += wide(bytes[i]);
-        i += 1;
-    }
-    sum
+    bytes.iter().map(|byte| u32::from(*byte)).sum()
 }
 
 fn sum_byte(sum: u32) -> u8
@@ -86,14 +73,15 @@ fn put_fields(out: &mut [u8], at: usize, head: &[u8], bytes: &[u8])
 {
     let end = at + 2 * bytes.len() + 9;
     let sum = sum_byte(sum_of(head) + sum_of(bytes));
-    put_one(out, at, b':');
+    out[at] = b':';
     put_values(out, at + 1, head);
     put_values(out, at + 9, bytes);
     put_byte(out, end, sum);
-    put_one(out, end + 2, b'\n');
+    out[end + 2] = b'\n';
 }
 
 // The line of a record.
+#[tactic(auto, unfolding(crate::specs::Writing::record_line))]
 fn put_line(out: &mut [u8], at: usize, address: u32, bytes: &[u8])
     requires { (at + 2 * length bytes.now + 12 ≤ length out.old) × (length bytes.now ≤ 255)
         × (address < 65536) }
@@ -115,12 +103,8 @@ fn put_lines(out: &mut [u8], memory: &[u8])
     ensures { out.new
         ≡ put out.old 0 (records_text (image_records m95512 memory.now)) }
 {
-    let mut k: usize = 0;
-    while k < LINES {
-        let start = CELLS * k;
-        let end = start + CELLS;
-        put_line(out, LINE * k, start as u32, &memory[start..end]);
-        k += 1;
+    for (k, cells) in memory.chunks_exact(CELLS).enumerate() {
+        put_line(out, LINE * k, (CELLS * k) as u32, cells);
     }
 }
 
@@ -130,5 +114,5 @@ pub(crate) fn put_image(out: &mut [u8], memory: &[u8])
     ensures { out.new ≡ image_text m95512 memory.now }
 {
     put_lines(out, memory);
-    put_bytes(out, LAST, b":00000001FF\n");
+    put_bytes(out, LAST, &END_LINE);
 }

@@ -5,4 +5,6 @@ pub mod Fitting
 pub mod WordRanges
 pub mod WordStores
 pub mod Runs
+pub mod Made
+pub mod Counted
 pub mod Ones

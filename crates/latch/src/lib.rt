@@ -25,7 +25,7 @@ pub const WORD: usize = 64;
 pub(crate) const FULL: u64 = 0xffff_ffff_ffff_ffff;
 
 // Up to a page of latched bytes, and a mark on each addressed one: cell i has bit i % 64 of word i / 64. Unmarked bytes
-// read 0.
+// read 0. Two arrays side by side: the record is C's too.
 #[repr(C)]
 #[derive(Clone, Copy)]
 pub struct Latch {

@@ -7,7 +7,7 @@ ghost use Rattle.latch.specs.Latches.{latch_fits, latched, marked, next_cell, no
 
 use crate::lay::store_page;
 use crate::ranges::cells_fit;
-use crate::words::{ones_of, with_bit};
+use crate::words::with_bit;
 use crate::{Latch, ROOM, WORD, WORDS};
 use codes::page_of;
 
@@ -23,33 +23,25 @@ impl Latch {
     }
 
     // One more byte latched, for the cell of its page that an address is in.
-    pub fn with(self, part: u8, address: usize, byte: u8) -> Latch
+    pub fn with(mut self, part: u8, address: usize, byte: u8) -> Latch
         ensures { result ≡ latched (address % (part_of part).page) byte self }
     {
-        let mut bytes = self.bytes;
-        let mut marks = self.marks;
-        latch_byte(part, &mut bytes, &mut marks, address, byte);
-        Latch {
-            bytes: bytes,
-            marks: marks,
-        }
+        latch_byte(part, &mut self.bytes, &mut self.marks, address, byte);
+        self
     }
 
     // How many cells a cycle will touch: the ones of all words, which are the marked cells.
     pub fn touched(self) -> u32
         ensures { (result ≡ touched self) × (result ≡ count (marked self) room) }
     {
-        let marks = self.marks;
-        ones_of(marks[0]) + ones_of(marks[1]) + ones_of(marks[2]) + ones_of(marks[3])
+        self.marks.iter().map(|word| word.count_ones()).sum()
     }
 
     // Unmarked bytes read 0; there are marks only where there may be, and in the part's page.
     pub fn fits(self, part: u8, may: bool) -> bool
         ensures { result ≡ latch_fits (part_of part) may self }
     {
-        let bytes = self.bytes;
-        let marks = self.marks;
-        cells_fit(part, may, &bytes, &marks)
+        cells_fit(part, may, &self)
     }
 
     // Lays the write over page number `page` of the memory: that page's bytes alone are lent on. A page that the
@@ -57,13 +49,11 @@ impl Latch {
     pub fn store(self, part: u8, page: u32, memory: &mut [u8])
         ensures { memory.new ≡ stored (part_of part) page self memory.old }
     {
-        let bytes = self.bytes;
-        let marks = self.marks;
         let cells = page_of(part);
         let start = page as usize * cells;
         let end = start + cells;
         if end <= memory.len() {
-            store_page(&mut memory[start..end], &bytes, &marks);
+            store_page(&mut memory[start..end], &self);
         }
     }
 }
@@ -76,6 +66,8 @@ pub fn cell_of(part: u8, address: usize) -> usize
     address & (page_of(part) - 1)
 }
 
+// Two arrays and no latch: a list of events holds them apart.
+//
 // One more byte latched where it stands, for the cell of its page that an address is in; the latest byte for a cell
 // wins.
 pub fn latch_byte(

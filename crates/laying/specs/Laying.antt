@@ -1,6 +1,7 @@
 -- One page write laid over another, the later winning; and the public call. No part is asked for: both have all the
 -- room, and past a smaller page nothing is marked.
-use Rattle.std.specs.Prelude.{ℕ, ◌<◌, Bool, true, false, ◌&&◌, ◌≡◌, length}
+use Rattle.codes.specs.Refusals.{no_refusal}
+use Rattle.std.specs.Prelude.{ℕ, ◌<◌, Bool, true, false, ◌&&◌, ◌≡◌, length, Err, Ok}
 use Rattle.laws.specs.Pick.{pick}
 use Rattle.laws.specs.Each.{each}
 use Rattle.laws.specs.Marks.{or_words}
@@ -8,7 +9,6 @@ use Rattle.codes.specs.Part.{room, room_words}
 use Rattle.latch.specs.Latches.{marked, laid, cell_fits}
 use Rattle.latch.specs.declared.Latch.{Latch}
 use Rattle.codes.specs.declared.Refusal.TheVariants.{RecordRange}
-use Rattle.codes.specs.declared.Outcome.TheVariants.{Done, Refused}
 use Rattle.laying.specs.declared.Laid.{Laid}
 
 -- k laid over l: k's marked bytes over l's bytes, and the marks of both
@@ -27,7 +27,7 @@ lay_choice l k two done = pick (room_fits l) (pick (room_fits k) done two) two
 
 abbrev pub laid_over : Latch → Latch → Laid
 laid_over l k =
-    lay_choice l k (record { outcome = Refused RecordRange; latch = l }) (record { outcome = Done; latch = over l k })
+    lay_choice l k (record { outcome = Err RecordRange; latch = l }) (record { outcome = no_refusal; latch = over l k })
 
 abbrev pub lay_number : Latch → Latch → ℕ
 lay_number l k = lay_choice l k 2 0

@@ -7,13 +7,15 @@ ghost use Rattle.std.specs.Prelude.{◌≡◌};
 ghost use Rattle.codes.specs.Refusals.{number};
 ghost use Rattle.laying.specs.Laying.{lay_number, laid_over, over};
 
-use codes::{M95M01, Outcome, Refusal};
+use codes::{M95M01, Refusal};
 use latch::Latch;
+use std::array;
 
-// What laying hands back: the page write, or the earlier one as it was given.
+// What laying hands back: the page write, or the earlier one as it was given. The latch stands beside the outcome,
+// since a refusal hands one back too (lay, clause value).
 #[derive(Clone, Copy)]
 pub struct Laid {
-    pub outcome: Outcome,
+    pub outcome: Result<(), Refusal>,
     pub latch: Latch,
 }
 
@@ -23,17 +25,10 @@ pub fn over(earlier: Latch, later: Latch) -> Latch
     ensures { result ≡ over earlier later }
 {
     let mut bytes = earlier.bytes;
-    let marks = earlier.marks;
-    let more = later.marks;
     later.store(M95M01, 0, &mut bytes);
     Latch {
-        bytes: bytes,
-        marks: [
-            marks[0] | more[0],
-            marks[1] | more[1],
-            marks[2] | more[2],
-            marks[3] | more[3],
-        ],
+        bytes,
+        marks: array::from_fn(|k| earlier.marks[k] | later.marks[k]),
     }
 }
 
@@ -43,16 +38,14 @@ pub fn lay(earlier: Latch, later: Latch) -> Laid
     ensures value { result ≡ laid_over earlier later }
     ensures as_number { number result.outcome ≡ lay_number earlier later }
 {
-    if earlier.fits(M95M01, true) {
-        if later.fits(M95M01, true) {
-            return Laid {
-                outcome: Outcome::Done,
-                latch: over(earlier, later),
-            };
-        }
+    if !earlier.fits(M95M01, true) || !later.fits(M95M01, true) {
+        return Laid {
+            outcome: Err(Refusal::RecordRange),
+            latch: earlier,
+        };
     }
     Laid {
-        outcome: Outcome::Refused(Refusal::RecordRange),
-        latch: earlier,
+        outcome: Ok(()),
+        latch: over(earlier, later),
     }
 }

@@ -4,10 +4,8 @@ use mathlib.Core.Bool.{Bool, true, false, ◌&&◌, ◌||◌, true≢false}
 use mathlib.Core.List.{List, [], ◌∷◌, ◌++◌, append_assoc, append-nil}
 use Prim.Native.Nat.{ℕ, zero, suc, ◌+◌, ◌-◌, ◌*◌, ◌^◌, ◌<◌, ◌≤◌}
 use native.Mathlib.Omega.{arith}
-use native.Mathlib.Nat.{add-zero}
-use native.Mathlib.Numerals.{add-one}
-use lib.ListN.{length, take, get_or, set, length-append}
-use lib.Seq.{take-suc, take-suc-set, take-set-le}
+use lib.ListN.{length, take, get_or, length-append}
+use lib.Seq.{take-suc}
 use lib.Dec.{eqb, ltb}
 use borrow.Author.Tests.{ne_eqb}
 use Rattle.laws.specs.Pick.{pick, pick_case, and_both, and_no_left, and_no_right}
@@ -41,17 +39,6 @@ read_more l x i h = ap (read l) (take-suc x i 0 h) ∙ read_end l (take i x) (ge
 
 pub found_more : (l : Line) (x : List ℕ) (i : ℕ) → i < length x → found l (take (suc i) x) ≡ found l (take i x) ++ said (read l (take i x)) (get_or x i 0)
 found_more l x i h = ap (found l) (take-suc x i 0 h) ∙ found_end l (take i x) (get_or x i 0)
-
--- an event written at the end of those before it, and counted once or not at all
-pub taken_set : (es : List ℕ) (n e k : ℕ) → k ≤ 1 → n < length es → take (n + k) (set es n e) ≡ take n es ++ take k (e ∷ [])
-taken_set es n e zero i h = rw add-zero (take-set-le n es n e (omega arith) ∙ sym (append-nil (take n es)))
-taken_set es n e (suc zero) i h = rw add-one (take-suc-set es n e h)
-taken_set es n e (suc (suc k)) i h = absurd (omega arith)
-
-pub taken_length : (e k : ℕ) → k ≤ 1 → length (take k (e ∷ [])) ≡ k
-taken_length e zero i = refl
-taken_length e (suc zero) i = refl
-taken_length e (suc (suc k)) i = absurd (omega arith)
 
 pub said_length : (l : Line) (b : ℕ) → length (said l b) ≡ pick (closes l b) 1 0
 unfolding pick

@@ -2,12 +2,13 @@
 use mathlib.Core.Path.{◌≡◌, refl, ap, sym, ◌∙◌}
 use mathlib.Core.Bool.{Bool, true, false, ◌&&◌, ◌||◌, and-false}
 use mathlib.Core.List.{List, [], ◌∷◌, ◌++◌, append_assoc}
+use Rattle.std.specs.Prelude.{Some, None}
 use Prim.Native.Nat.{ℕ, suc, ◌+◌, ◌%◌, ◌<◌, ◌≤◌, min}
 use native.Mathlib.Omega.{arith}
 use lib.ListN.{length, take, get_or}
 use lib.Dec.{eqb, ltb}
 use borrow.Author.Tests.{eqb-true, lt-ltb, ltb-true}
-use Rattle.laws.specs.Pick.{pick, at_yes, at_no, and_left, and_right, and_no_right}
+use Rattle.laws.specs.Pick.{pick, and_left, and_right, and_no_right}
 use Rattle.laws.specs.And.{and_4_out}
 use Rattle.lines.specs.declared.Line.{Line}
 use Rattle.lines.specs.Reading.{kind_of, event_number, is_level_line, line_at, fresh, next, said, read, found}
@@ -64,15 +65,15 @@ module _ (l : Line) (name tab level end : ℕ) (at : (eqb l.place 0 && ltb l.who
 
 -- ---- the kind that the code gives for four bytes
 
-pub kind_given : (name tab level end : ℕ) → is_level_line name tab level end ≡ true → pick (is_level_line name tab level end) (kind_of name) 6 ≡ kind_of name
-kind_given name tab level end is = at_yes _ _ is
-
-pub kind_known : (name tab level end : ℕ) → (pick (is_level_line name tab level end) (kind_of name) 6 ≡ 6 → ⊥) → is_level_line name tab level end ≡ true
-kind_known name tab level end other = by_test_law (is_level_line name tab level end) refl
+pub kind_known : (name tab level end k : ℕ) → pick (is_level_line name tab level end) (Some (kind_of name)) None ≡ Some k
+    → (is_level_line name tab level end ≡ true) × (k ≡ kind_of name)
+unfolding pick
+kind_known name tab level end k = by_test_law (is_level_line name tab level end) refl
   where
-    by_test_law : (t : Bool) → is_level_line name tab level end ≡ t → is_level_line name tab level end ≡ true
-    by_test_law true e = e
-    by_test_law false e = absurd (other (at_no _ _ e))
+    by_test_law : (t : Bool) → is_level_line name tab level end ≡ t → pick t (Some (kind_of name)) None ≡ Some k
+        → (is_level_line name tab level end ≡ true) × (k ≡ kind_of name)
+    by_test_law true p e = (p, cc)
+    by_test_law false p e = cc
 
 -- ---- the same within a text
 

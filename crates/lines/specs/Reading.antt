@@ -1,6 +1,7 @@
 -- A text byte by byte: the line in hand after each, and the events of the lines that end. What it has to do with whole
 -- lines is a theorem of `trace` (its proofs/Whole.antt).
 use Rattle.std.specs.Prelude.{ℕ, ◌+◌, ◌*◌, ◌-◌, ◌^◌, min, Bool, ◌&&◌, ◌||◌, List, [], ◌∷◌, ◌++◌, eqb, leb, ltb}
+use Rattle.std.specs.Prelude.{Option, Some, None}
 use Rattle.laws.specs.Pick.{pick}
 use Rattle.lines.specs.declared.Line.{Line}
 
@@ -10,6 +11,10 @@ unfoldable pub kind_of : ℕ → ℕ
 kind_of b =
     pick (eqb b 83) 0
     (pick (eqb b 67) 1 (pick (eqb b 68) 2 (pick (eqb b 87) 3 (pick (eqb b 72) 4 (pick (eqb b 84) 5 6)))))
+
+-- the same as a function gives it: None for no name
+abbrev pub kind_named : ℕ → Option ℕ
+kind_named b = pick (ltb (kind_of b) 6) (Some (kind_of b)) None
 
 -- the number of an event in such a list: the kind above the low 32 bits, which are the level or the reading
 abbrev pub event_number : ℕ → ℕ → ℕ

@@ -1,27 +1,27 @@
 // A line of a level, whole: four bytes at once, where the byte before them ended a line.
-ghost use Rattle.std.specs.Prelude.{◌≡◌, ◌&&◌, ◌+◌, ◌%◌, min, eqb, ltb};
+ghost use Rattle.std.specs.Prelude.{◌≡◌, ◌&&◌, ◌+◌, ◌%◌, Some, None, min, eqb, ltb};
 ghost use Rattle.laws.specs.Pick.{pick};
 ghost use Rattle.lines.specs.Reading.{kind_of, event_number, is_level_line, fresh};
 
-use crate::Line;
-use crate::reading::{kind_of, one_more};
+use crate::reading::{event_number, kind_of};
+use crate::{Line, MOST_LINES, READING};
 
-// The kind that the four bytes of such a line give; 6 where they are none.
-pub fn level_kind(name: u8, tab: u8, level: u8, end: u8) -> u8
-    ensures { result ≡ pick (is_level_line name tab level end) (kind_of name) 6 }
+// The kind that the four bytes of such a line give; None where they are none.
+pub fn level_kind(name: u8, tab: u8, level: u8, end: u8) -> Option<u8>
+    ensures { result ≡ pick (is_level_line name tab level end) (Some (kind_of name)) None }
 {
-    let kind = kind_of(name);
-    if (kind < 5) & (tab == 9) & ((level == 48) | (level == 49)) & (end == 10) {
-        return kind;
+    let kind = kind_of(name)?;
+    if kind < READING && tab == b'\t' && (level == b'0' || level == b'1') && end == b'\n' {
+        return Some(kind);
     }
-    6
+    None
 }
 
 // What it says.
 pub fn level_event(kind: u8, level: u8) -> u64
     ensures { result ≡ event_number kind (level % 2) }
 {
-    (kind as u64) * 4294967296 + (level % 2) as u64
+    event_number(kind, u32::from(level % 2))
 }
 
 impl Line {
@@ -29,15 +29,15 @@ impl Line {
     pub fn is_fresh(self) -> bool
         ensures { result ≡ (eqb self.place 0 && ltb self.whole 1000000) }
     {
-        (self.place == 0) & (self.whole < 1000000)
+        self.place == 0 && self.whole < MOST_LINES
     }
 
-    // At the start of the line after the one in hand.
+    // At the start of the line after the one in hand. The count of whole lines stays at a million.
     pub fn past_line(self) -> Line
         ensures { result ≡ fresh (min 1000000 (self.whole + 1)) }
     {
         Line {
-            whole: one_more(self.whole),
+            whole: self.whole.min(MOST_LINES - 1) + 1,
             place: 0,
             kind: 0,
             value: 0,

@@ -3,14 +3,21 @@
 // Its calls are inner ones, for the player, each for every line: next, what a byte makes of it; closing, whether a
 // byte ends it; event, what it says; fits, its ranges; ended, the end of the text. Four of them take a line of a level
 // whole: is_fresh, level_kind, level_event, past_line.
-#![tactic(auto)]
+#![tactic(auto, unfolding(laws::specs::Pick::pick))]
 
 mod levels;
 mod reading;
 
 pub use levels::{level_event, level_kind};
 
-// The line in hand.
+// So many lines a text may have.
+const MOST_LINES: u32 = 1_000_000;
+
+// The kind of a clock reading. The kinds below it set a pin to a level.
+const READING: u8 = 5;
+
+// The line in hand. Its fields stay numbers: `fits` looks at every line in hand, also at one outside the ranges, and a
+// narrower type would ask more of its callers.
 #[derive(Clone, Copy)]
 pub struct Line {
     // lines that are whole, 0 to 1,000,000

@@ -1,46 +1,33 @@
 // The line in hand: what the next byte makes of it, and its ranges.
-ghost use Rattle.std.specs.Prelude.{◌≡◌, true, ◌+◌, ◌*◌, ◌-◌, min};
+ghost use Rattle.std.specs.Prelude.{◌≡◌, true};
 ghost use Rattle.laws.specs.Pick.{pick};
-ghost use Rattle.lines.specs.Reading.{kind_of, event_number, is_digit, line_at, stopped, named, tabbed, begun};
+ghost use Rattle.lines.specs.Reading.{kind_named, event_number, is_digit, line_at, stopped, named, tabbed, begun};
 ghost use Rattle.lines.specs.Reading.{closed, longer, counted, next, closes, ended, line_fits, hand_fits};
 ghost use Rattle.lines.specs.Reading.{value_fits, none_fits};
 
-use crate::Line;
+use crate::{Line, MOST_LINES, READING};
 
-// The kind of event that a name gives, 6 for no name.
-pub(crate) fn kind_of(name: u8) -> u8
-    ensures { result ≡ kind_of name }
+// The kind of event that a name gives, None for no name.
+#[tactic(auto, unfolding(laws::specs::Pick::pick, crate::specs::Reading::kind_of))]
+pub(crate) fn kind_of(name: u8) -> Option<u8>
+    ensures { result ≡ kind_named name }
 {
     match name {
-        b'S' => 0,
-        b'C' => 1,
-        b'D' => 2,
-        b'W' => 3,
-        b'H' => 4,
-        b'T' => 5,
-        _ => 6,
+        b'S' => Some(0),
+        b'C' => Some(1),
+        b'D' => Some(2),
+        b'W' => Some(3),
+        b'H' => Some(4),
+        b'T' => Some(READING),
+        _ => None,
     }
 }
 
-fn is_digit(byte: u8) -> bool
-    ensures { result ≡ is_digit byte }
+// The number of an event: the kind above the low 32 bits, which are the level or the reading.
+pub(crate) fn event_number(kind: u8, value: u32) -> u64
+    ensures { result ≡ event_number kind value }
 {
-    (48 <= byte) & (byte <= 57)
-}
-
-// The reading with one more digit at its end, however large.
-fn with_digit(value: u32, byte: u8) -> u64
-    requires { is_digit byte ≡ true }
-    ensures { result ≡ value * 10 + (byte - 48) }
-{
-    (value as u64) * 10 + ((byte - 48) as u64)
-}
-
-// The count of whole lines stays at a million.
-pub(crate) fn one_more(whole: u32) -> u32
-    ensures { result ≡ min 1000000 (whole + 1) }
-{
-    if whole < 1000000 { whole + 1 } else { 1000000 }
+    u64::from(kind) * (1 << 32) + u64::from(value)
 }
 
 impl Line {
@@ -49,9 +36,9 @@ impl Line {
     {
         Line {
             whole: self.whole,
-            place: place,
-            kind: kind,
-            value: value,
+            place,
+            kind,
+            value,
         }
     }
 
@@ -64,80 +51,68 @@ impl Line {
     fn named(self, byte: u8) -> Line
         ensures { result ≡ named self byte }
     {
-        let kind = kind_of(byte);
-        if (self.whole < 1000000) & (kind < 6) {
-            return self.at(1, kind, 0);
+        match kind_of(byte) {
+            Some(kind) if self.whole < MOST_LINES => self.at(1, kind, 0),
+            _ => self.stopped(),
         }
-        self.stopped()
     }
 
     fn tabbed(self, byte: u8) -> Line
         ensures { result ≡ tabbed self byte }
     {
-        if byte == 9 {
-            return self.at(2, self.kind, 0);
+        match byte {
+            b'\t' => self.at(2, self.kind, 0),
+            _ => self.stopped(),
         }
-        self.stopped()
     }
 
     fn begun(self, byte: u8) -> Line
         ensures { result ≡ begun self byte }
     {
-        if byte == 48 {
-            return self.at(3, self.kind, 0);
+        match byte {
+            b'0' => self.at(3, self.kind, 0),
+            b'1' if self.kind < READING => self.at(3, self.kind, 1),
+            b'1'..=b'9' if READING <= self.kind => self.at(4, self.kind, u32::from(byte - b'0')),
+            _ => self.stopped(),
         }
-        if self.kind < 5 {
-            if byte == 49 {
-                return self.at(3, self.kind, 1);
-            }
-            return self.stopped();
-        }
-        if is_digit(byte) {
-            return self.at(4, self.kind, (byte - 48) as u32);
-        }
-        self.stopped()
     }
 
     fn closed(self, byte: u8) -> Line
         ensures { result ≡ closed self byte }
     {
-        if byte == 10 {
-            return Line {
-                whole: one_more(self.whole),
-                place: 0,
-                kind: 0,
-                value: 0,
-            };
+        match byte {
+            b'\n' => self.past_line(),
+            _ => self.stopped(),
         }
-        self.stopped()
     }
 
+    // With one more digit, unless the reading grows too large.
     fn longer(self, byte: u8) -> Line
         requires { is_digit byte ≡ true }
         ensures { result ≡ longer self byte }
     {
-        let value = with_digit(self.value, byte);
-        if value < 4294967296 {
-            return self.at(4, self.kind, value as u32);
+        let value = u64::from(self.value) * 10 + u64::from(byte - b'0');
+        match u32::try_from(value) {
+            Ok(value) => self.at(4, self.kind, value),
+            Err(_) => self.stopped(),
         }
-        self.stopped()
     }
 
     fn counted(self, byte: u8) -> Line
         ensures { result ≡ counted self byte }
     {
-        if is_digit(byte) {
+        if byte.is_ascii_digit() {
             return self.longer(byte);
         }
         self.closed(byte)
     }
 
     // What the next byte makes of the line.
+    #[tactic(auto, unfolding(laws::specs::Pick::pick, crate::specs::Reading::next))]
     pub fn next(self, byte: u8) -> Line
         ensures { result ≡ next self byte }
     {
-        let place = self.place;
-        match place {
+        match self.place {
             0 => self.named(byte),
             1 => self.tabbed(byte),
             2 => self.begun(byte),
@@ -147,21 +122,18 @@ impl Line {
         }
     }
 
-    // How many lines the byte ends: one, or none.
+    // How many lines the byte ends: one, or none. A number, since it is added to a count.
     pub fn closing(self, byte: u8) -> usize
         ensures { result ≡ pick (closes self byte) 1 0 }
     {
-        if (byte == 10) & ((self.place == 3) | (self.place == 4)) {
-            return 1;
-        }
-        0
+        usize::from(byte == b'\n' && (self.place == 3 || self.place == 4))
     }
 
     // What the line says, where its value is whole.
     pub fn event(self) -> u64
         ensures { result ≡ event_number self.kind self.value }
     {
-        (self.kind as u64) * 4294967296 + (self.value as u64)
+        event_number(self.kind, self.value)
     }
 }
 
@@ -171,38 +143,39 @@ impl Line {
     fn value_fits(self) -> bool
         ensures { result ≡ value_fits self }
     {
-        if self.place <= 2 {
-            return self.value == 0;
+        match self.place {
+            0..=2 => self.value == 0,
+            3 => self.value <= 1,
+            _ => self.kind == READING,
         }
-        if self.place == 3 {
-            return self.value <= 1;
-        }
-        self.kind == 5
     }
 
     fn hand_fits(self) -> bool
         ensures { result ≡ hand_fits self }
     {
-        (self.whole < 1000000) & (self.kind <= 5) & self.value_fits()
+        self.whole < MOST_LINES && self.kind <= READING && self.value_fits()
     }
 
     fn none_fits(self) -> bool
         ensures { result ≡ none_fits self }
     {
-        (self.whole <= 1000000) & (self.kind == 0) & (self.value == 0)
+        self.whole <= MOST_LINES && self.kind == 0 && self.value == 0
     }
 
     // Is it inside its ranges, for every line in hand.
+    #[tactic(auto, unfolding(laws::specs::Pick::pick, crate::specs::Reading::line_fits))]
     pub fn fits(self) -> bool
         ensures { result ≡ line_fits self }
     {
-        if (self.place == 0) | (self.place == 5) {
-            return self.none_fits();
+        match self.place {
+            0 | 5 => self.none_fits(),
+            1..=4 => self.hand_fits(),
+            _ => false,
         }
-        (self.place < 5) & self.hand_fits()
     }
 
     // The end of the text.
+    #[tactic(auto, unfolding(laws::specs::Pick::pick, crate::specs::Reading::ended))]
     pub fn ended(self) -> Line
         ensures { result ≡ ended self }
     {

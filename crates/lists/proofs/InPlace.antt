@@ -13,8 +13,9 @@ use Rattle.chip.specs.Effects.{effect}
 use Rattle.codes.specs.Instructions.{decode}
 use Rattle.chip.specs.Lents.{Lent}
 use Rattle.chip.specs.declared.Core.{Core}
+use Rattle.latch.specs.declared.Latch.{Latch}
 use Rattle.codes.specs.declared.Instruction.{Instruction}
-use Rattle.codes.specs.declared.Instruction.TheVariants.{Rdsr, Read}
+use Rattle.codes.specs.declared.Instruction.TheVariants.{Wren, Wrdi, Rdsr, Wrsr, Read, Write, Rdid, Wrid, Silence}
 use Rattle.edges.specs.declared.Frame.{Frame}
 use Rattle.pins.specs.declared.Device.{Device}
 use Rattle.pins.specs.Devices.{with_c, with_pins, with_frame, with_core, selected, counting, with_held_at}
@@ -85,6 +86,19 @@ module _ (P : Part) (m : Lent) (x : Device) where
   down_counted h f moves e t p = down h (with_frame f x) moves e (yes_so _ t (ap (λ (g : Frame). with_frame g x) p))
 
 -- ---- S
+
+-- an instruction that begins no cycle and leaves WEL does nothing to the core
+pub quiet : (P : Part) (i : Instruction) (a v : ℕ) (l : Latch) (c : Core) → (i ≡ Wren → ⊥) → (i ≡ Wrdi → ⊥) → (i ≡ Wrsr → ⊥) → (i ≡ Write → ⊥)
+    → (i ≡ Wrid → ⊥) → effect P i a v l c ≡ c
+quiet P Wren a v l c e d s w i = absurd (e refl)
+quiet P Wrdi a v l c e d s w i = absurd (d refl)
+quiet P Rdsr a v l c e d s w i = refl
+quiet P Wrsr a v l c e d s w i = absurd (s refl)
+quiet P Read a v l c e d s w i = refl
+quiet P Write a v l c e d s w i = absurd (w refl)
+quiet P Rdid a v l c e d s w i = refl
+quiet P Wrid a v l c e d s w i = absurd (i refl)
+quiet P Silence a v l c e d s w i = refl
 
 module _ (P : Part) (x : Device) (moves : x.pins.s ≡ 1 → ⊥) where
   -- a deselect that leaves the core c

@@ -1,11 +1,10 @@
 -- The public call, for every input: the refusals in their order, and Q after each event.
-use Rattle.std.specs.Prelude.{ℕ, List, [], ◌∷◌, length, eqb}
+use Rattle.std.specs.Prelude.{ℕ, List, [], ◌∷◌, length, eqb, Err, Ok}
 use Rattle.laws.specs.Pick.{pick}
 use Rattle.codes.specs.Part.{Part}
 use Rattle.chip.specs.Lents.{Lent}
 use Rattle.codes.specs.declared.Refusal.TheVariants.{MemoryLength, RecordRange, OutputLength}
-use Rattle.codes.specs.declared.Outcome.{Outcome}
-use Rattle.codes.specs.declared.Outcome.TheVariants.{Done, Refused}
+use Rattle.codes.specs.Refusals.{Outcome, no_refusal}
 use Rattle.edges.specs.Falling.{level_number}
 use Rattle.pins.specs.declared.Device.{Device}
 use Rattle.pins.specs.Devices.{q}
@@ -26,7 +25,7 @@ play_choice P x m es room one two five done =
 
 abbrev pub play_outcome : Part → Device → Lent → List ℕ → ℕ → Outcome
 play_outcome P x m es room =
-    play_choice P x m es room (Refused MemoryLength) (Refused RecordRange) (Refused OutputLength) Done
+    play_choice P x m es room (Err MemoryLength) (Err RecordRange) (Err OutputLength) no_refusal
 
 abbrev pub play_number : Part → Device → Lent → List ℕ → ℕ → ℕ
 play_number P x m es room = play_choice P x m es room 1 2 5 0

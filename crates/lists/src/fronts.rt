@@ -61,9 +61,9 @@ impl Front {
                 out: self.out,
                 shown: self.shown,
                 address: self.address,
-                latch: latch,
+                latch,
             },
-            core: core,
+            core,
         }
     }
 }

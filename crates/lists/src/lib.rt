@@ -10,7 +10,8 @@ mod ways;
 
 pub use listed::play;
 
-// All of a device but the bytes it latches and its core.
+// All of a device but the bytes it latches and its core. It repeats the fields of Pins and Frame for speed
+// (docs/SPEED.md): most events move a few of these numbers, and no record is copied for them.
 #[derive(Clone, Copy)]
 pub(crate) struct Front {
     pub s: u8,

@@ -4,14 +4,13 @@ ghost use Rattle.codes.specs.Refusals.{number};
 ghost use Rattle.chip.specs.Lents.{lent};
 ghost use Rattle.pins.specs.Devices.{device_part};
 ghost use Rattle.pins.specs.Answers.{played, pin_bench};
-ghost use Rattle.lists.specs.Answers.{play_answer, play_number, play_memory, play_identification};
+ghost use Rattle.lists.specs.Answers.{play_answer, play_number, play_outcome, play_memory, play_identification};
 ghost use Rattle.lists.specs.Answers.{play_output, played_q};
 
 use crate::Way;
 use crate::fronts::front_of;
 use crate::stretches::stretch_on;
-use chip::lent_fits;
-use codes::{Outcome, Refusal};
+use codes::Refusal;
 use events::{are_events, event_of};
 use latch::{Latch, ROOM, WORDS, latch_byte};
 use pins::{Device, Stepped};
@@ -43,6 +42,7 @@ fn play_all(
     let mut core = device.core;
     let mut q = front.q();
     let mut i: usize = 0;
+    // Stays a loop by index: a stretch takes many events at once, and says where it ended.
     while i < events.len() {
         let event = event_of(events[i]);
         let way = front.way_for(event, memory, core);
@@ -110,17 +110,14 @@ fn play_all(
                 bytes = [0; ROOM];
                 marks = [0; WORDS];
                 core.wel = wel;
-                q = 2;
+                q = 2; // Z
             }
             Way::Pass { reading, left } => {
                 core.last = reading;
                 core.left = left;
             }
             Way::Whole => {
-                let latch = Latch {
-                    bytes: bytes,
-                    marks: marks,
-                };
+                let latch = Latch { bytes, marks };
                 let next = front
                     .whole(latch, core)
                     .stepped(event, memory, identification);
@@ -140,11 +137,28 @@ fn play_all(
         q = stretch.q;
         i = stretch.i;
     }
-    let latch = Latch {
-        bytes: bytes,
-        marks: marks,
-    };
+    let latch = Latch { bytes, marks };
     front.whole(latch, core)
+}
+
+// Refusals 1 and 2 as of any event, then 2 for a number that is no event, and 5 for an output of another length.
+fn admitted(
+    device: Device,
+    memory: &[u8],
+    identification: &[u8],
+    events: &[u64],
+    room: usize,
+) -> Result<(), Refusal>
+    ensures { result ≡ play_outcome (device_part device) device (lent memory.now identification.now) events.now room }
+{
+    device.admitted(memory.len(), identification.len())?;
+    if !are_events(events) {
+        return Err(Refusal::RecordRange);
+    }
+    if room != events.len() {
+        return Err(Refusal::OutputLength);
+    }
+    Ok(())
 }
 
 // A lent list of events, each a number, and a lent output for Q after each: 0, 1, or 2 for Z.
@@ -168,33 +182,14 @@ pub fn play(
     ensures out_after { out.new ≡ play_output (device_part device) device
         (lent memory.old identification.old) events.now out.old }
 {
-    if lent_fits(device.core.part, memory.len(), identification.len()) {
-        if device.in_ranges() {
-            if are_events(events) {
-                if out.len() == events.len() {
-                    let next = play_all(device, memory, identification, events, out);
-                    return Stepped {
-                        outcome: Outcome::Done,
-                        device: next,
-                    };
-                }
-                return Stepped {
-                    outcome: Outcome::Refused(Refusal::OutputLength),
-                    device: device,
-                };
-            }
-            return Stepped {
-                outcome: Outcome::Refused(Refusal::RecordRange),
-                device: device,
-            };
-        }
-        return Stepped {
-            outcome: Outcome::Refused(Refusal::RecordRange),
-            device: device,
-        };
-    }
-    Stepped {
-        outcome: Outcome::Refused(Refusal::MemoryLength),
-        device: device,
+    match admitted(device, memory, identification, events, out.len()) {
+        Ok(()) => Stepped {
+            outcome: Ok(()),
+            device: play_all(device, memory, identification, events, out),
+        },
+        Err(refusal) => Stepped {
+            outcome: Err(refusal),
+            device,
+        },
     }
 }

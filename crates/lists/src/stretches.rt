@@ -1,6 +1,8 @@
 // Stretches of events that stay within a byte: D moves, and an edge of C takes a bit or shows one, or moves C alone.
 // Nearly all events are such. The loop here moves six numbers and is short, so that a compiler holds them in registers;
 // an event that moves anything else is left to `ways`.
+// Whether edges count and whether Q moves go beside the front, and are said in each contract: they hold for the whole
+// stretch, and are asked once, before it.
 ghost use Rattle.std.specs.Prelude.{◌≡◌, List, false, ℕ, ◌≤◌, length};
 ghost use Rattle.codes.specs.Part.{Part, part_of};
 ghost use Rattle.latch.specs.declared.Latch.{Latch};
@@ -22,15 +24,13 @@ impl Front {
         requires { counted self ≡ counts }
         ensures { result ≡ moving (part_of part) self }
     {
-        if counts {
-            return outputs(
+        counts
+            && outputs(
                 part,
                 codes::decode(part, self.code),
                 self.taken,
                 self.ran == 1,
-            );
-        }
-        false
+            )
     }
 
     // An edge of C. Where it counts, a bit is taken, unless it is the eighth; where Q moves, the next bit is shown,
@@ -58,10 +58,7 @@ impl Front {
                 }
                 return Move::Other;
             }
-            return Move::Bit {
-                bits: bits,
-                partial: partial,
-            };
+            return Move::Bit { bits, partial };
         }
         let shown = self.shown;
         if moves {
@@ -117,6 +114,7 @@ fn stretch(
     let mut front = from;
     let mut q = level;
     let mut i = start;
+    // Stays a loop by index: the index at which it ends is handed back.
     while i < events.len() {
         let moved = front.move_for(events[i], counts, moves);
         match moved {
@@ -134,21 +132,13 @@ fn stretch(
                 q = front.q();
             }
             Move::Other => {
-                return Stretch {
-                    front: front,
-                    q: q,
-                    i: i,
-                };
+                return Stretch { front, q, i };
             }
         }
         out[i] = q;
         i += 1;
     }
-    Stretch {
-        front: front,
-        q: q,
-        i: i,
-    }
+    Stretch { front, q, i }
 }
 
 // The stretch from `start` on. There is none where a falling edge would begin or end a pause.
@@ -167,14 +157,14 @@ pub(crate) fn stretch_on(
     ensures leads { Leads (part_of part) events.now start front out.old
         result.i result.front out.new }
 {
-    let held = bit(!(front.s == 1) & !(front.hold == 1));
+    let held = bit((front.s != 1) & (front.hold != 1));
     if front.held == held {
-        let counts = !(front.s == 1) & !(front.held == 1);
+        let counts = (front.s != 1) & (front.held != 1);
         let moves = front.moves_q(part, counts);
         return stretch(front, counts, moves, level, start, events, out);
     }
     Stretch {
-        front: front,
+        front,
         q: level,
         i: start,
     }

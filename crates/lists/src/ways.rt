@@ -5,14 +5,13 @@ ghost use Rattle.laws.specs.Pick.{pick};
 ghost use Rattle.codes.specs.Part.{Part, part_of};
 ghost use Rattle.codes.specs.Status.{on};
 ghost use Rattle.codes.specs.Verdicts.{verdict, is_executed};
-ghost use Rattle.codes.specs.declared.Instruction.TheVariants.{Rdsr, Read};
 ghost use Rattle.latch.specs.declared.Latch.{Latch};
 ghost use Rattle.chip.specs.declared.Waiting.{Waiting};
 ghost use Rattle.chip.specs.declared.Core.{Core};
 ghost use Rattle.chip.specs.Lents.{Lent, lent};
 ghost use Rattle.chip.specs.Records.{own_part, running};
 ghost use Rattle.chip.specs.Time.{timed_cells};
-ghost use Rattle.edges.specs.Frames.{with_bits, with_byte, with_value};
+ghost use Rattle.edges.specs.Frames.{with_address, with_bits, with_byte, with_value};
 ghost use Rattle.edges.specs.Rising.{address_byte, identification_data, latch_byte, taking, whole_byte};
 ghost use Rattle.pins.specs.declared.Event.TheVariants.{S, C, Hold, Time};
 ghost use Rattle.pins.specs.Events.{on_s, on_c, on_hold, on_time, stepped, stepped_cells};
@@ -21,7 +20,7 @@ ghost use Rattle.lists.specs.Ways.{whole, risen_to, after_way, after_way_cells};
 
 use crate::{Front, Way};
 use chip::{Core, elapsed, left_after};
-use codes::{Instruction, address_bytes_of, head_of, picks_lock};
+use codes::{Deselect, Instruction, address_bytes_of, head_of, picks_lock};
 use edges::{address_with, bit, cell, next_address, one_more, one_up, outputs, shifted_in};
 use pins::Event;
 
@@ -35,12 +34,29 @@ impl Front {
     {
         Way::Rise {
             taken: self.taken,
-            bits: bits,
-            partial: partial,
+            bits,
+            partial,
             code: self.code,
             ran: self.ran,
             value: self.value,
             address: self.address,
+        }
+    }
+
+    // One whole byte more, with the value and the address that it leaves.
+    fn byte_taken(self, part: u8, value: u8, address: u32) -> Way
+        ensures { (m : Lent) (l : Latch) (k : Core) → after_way (part_of part) m (C true) result (whole self l k)
+            ≡ risen_to (with_value value (with_address address (with_byte (part_of part) (whole self l k).frame)))
+            (whole self l k) }
+    {
+        Way::Rise {
+            taken: one_more(part, self.taken),
+            bits: 0,
+            partial: 0,
+            code: self.code,
+            ran: self.ran,
+            value,
+            address,
         }
     }
 
@@ -49,16 +65,7 @@ impl Front {
         ensures { (m : Lent) (l : Latch) (k : Core) → after_way (part_of part) m (C true) result (whole self l k)
             ≡ risen_to (with_byte (part_of part) (whole self l k).frame) (whole self l k) }
     {
-        let taken = one_more(part, self.taken);
-        Way::Rise {
-            taken: taken,
-            bits: 0,
-            partial: 0,
-            code: self.code,
-            ran: self.ran,
-            value: self.value,
-            address: self.address,
-        }
+        self.byte_taken(part, self.value, self.address)
     }
 
     fn address_byte(self, part: u8, byte: u8) -> Way
@@ -66,17 +73,8 @@ impl Front {
             ≡ risen_to (address_byte (part_of part) self.taken byte (with_byte (part_of part) (whole self l k).frame))
             (whole self l k) }
     {
-        let taken = one_more(part, self.taken);
         let address = address_with(part, self.address, self.taken, byte);
-        Way::Rise {
-            taken: taken,
-            bits: 0,
-            partial: 0,
-            code: self.code,
-            ran: self.ran,
-            value: self.value,
-            address: address,
-        }
+        self.byte_taken(part, self.value, address)
     }
 
     fn latch_byte(self, part: u8, byte: u8) -> Way
@@ -87,9 +85,9 @@ impl Front {
         let taken = one_more(part, self.taken);
         let address = next_address(part, self.address);
         Way::Latched {
-            taken: taken,
-            byte: byte,
-            address: address,
+            taken,
+            byte,
+            address,
         }
     }
 
@@ -97,16 +95,7 @@ impl Front {
         ensures { (m : Lent) (l : Latch) (k : Core) → after_way (part_of part) m (C true) result (whole self l k)
             ≡ risen_to (with_value byte (with_byte (part_of part) (whole self l k).frame)) (whole self l k) }
     {
-        let taken = one_more(part, self.taken);
-        Way::Rise {
-            taken: taken,
-            bits: 0,
-            partial: 0,
-            code: self.code,
-            ran: self.ran,
-            value: byte,
-            address: self.address,
-        }
+        self.byte_taken(part, byte, self.address)
     }
 
     // A data byte of 82h: the lock's, of which the first stays, or one of the identification page.
@@ -132,40 +121,12 @@ impl Front {
     {
         let before = self.taken;
         match i {
-            Instruction::Wrsr => {
-                if before == 1 {
-                    return self.value_byte(part, byte);
-                }
-                self.unkept(part)
-            }
-            Instruction::Read => {
-                if before <= address_bytes_of(part) {
-                    return self.address_byte(part, byte);
-                }
-                self.unkept(part)
-            }
-            Instruction::Write => {
-                if before <= address_bytes_of(part) {
-                    return self.address_byte(part, byte);
-                }
-                self.latch_byte(part, byte)
-            }
-            Instruction::Rdid => {
-                if before <= address_bytes_of(part) {
-                    return self.address_byte(part, byte);
-                }
-                self.unkept(part)
-            }
-            Instruction::Wrid => {
-                if before <= address_bytes_of(part) {
-                    return self.address_byte(part, byte);
-                }
-                self.identification_data(part, byte)
-            }
-            Instruction::Wren => self.unkept(part),
-            Instruction::Wrdi => self.unkept(part),
-            Instruction::Rdsr => self.unkept(part),
-            Instruction::Silence => self.unkept(part),
+            Instruction::Wrsr if before == 1 => self.value_byte(part, byte),
+            Instruction::Read | Instruction::Write | Instruction::Rdid | Instruction::Wrid
+                if before <= address_bytes_of(part) => { self.address_byte(part, byte) }
+            Instruction::Write => self.latch_byte(part, byte),
+            Instruction::Wrid => self.identification_data(part, byte),
+            _ => self.unkept(part),
         }
     }
 
@@ -178,11 +139,11 @@ impl Front {
             let taken = one_more(part, self.taken);
             let ran = bit(cycle);
             return Way::Rise {
-                taken: taken,
+                taken,
                 bits: 0,
                 partial: 0,
                 code: byte,
-                ran: ran,
+                ran,
                 value: self.value,
                 address: self.address,
             };
@@ -198,7 +159,7 @@ impl Front {
     {
         let bits = self.bits;
         let partial = self.partial;
-        if !(self.s == 1) & !(self.held == 1) {
+        if (self.s != 1) & (self.held != 1) {
             let byte = shifted_in(partial, self.d);
             if bits < 7 {
                 let more = bits + 1;
@@ -212,24 +173,6 @@ impl Front {
 
 // ---- C falls
 
-fn reads(i: Instruction) -> bool
-    ensures { result ≡ true → i ≡ Read }
-{
-    match i {
-        Instruction::Read => true,
-        _ => false,
-    }
-}
-
-fn polls(i: Instruction) -> bool
-    ensures { result ≡ true → i ≡ Rdsr }
-{
-    match i {
-        Instruction::Rdsr => true,
-        _ => false,
-    }
-}
-
 impl Front {
     // A falling edge: the same bit, the next bit, or the next byte of a READ or an RDSR.
     fn falling(self, memory: &[u8], core: Core) -> Way
@@ -238,46 +181,41 @@ impl Front {
             → after_way (own_part core) (lent memory.now i) (C false) result (whole self l core)
             ≡ on_c (own_part core) false (lent memory.now i) (whole self l core) }
     {
-        let counted = !(self.s == 1) & !(self.held == 1);
+        let counted = (self.s != 1) & (self.held != 1);
         let i = codes::decode(core.part, self.code);
         let drives = outputs(core.part, i, self.taken, self.ran == 1);
-        let held = bit(!(self.s == 1) & !(self.hold == 1));
+        let held = bit((self.s != 1) & (self.hold != 1));
         let shown = self.shown;
         if counted & drives {
             if (1 <= shown) & (shown < 8) {
                 let next = shown + 1;
                 return Way::Fall {
-                    held: held,
+                    held,
                     out: self.out,
                     shown: next,
                     address: self.address,
                 };
             }
-            if reads(i) {
-                let byte = cell(memory, self.address);
-                let up = one_up(core.part, self.address);
-                return Way::Fall {
-                    held: held,
-                    out: byte,
+            return match i {
+                Instruction::Read => Way::Fall {
+                    held,
+                    out: cell(memory, self.address),
                     shown: 1,
-                    address: up,
-                };
-            }
-            if polls(i) {
-                let status = core.status();
-                return Way::Fall {
-                    held: held,
-                    out: status,
+                    address: one_up(core.part, self.address),
+                },
+                Instruction::Rdsr => Way::Fall {
+                    held,
+                    out: core.status(),
                     shown: 1,
                     address: self.address,
-                };
-            }
-            return Way::Whole;
+                },
+                _ => Way::Whole,
+            };
         }
         Way::Fall {
-            held: held,
+            held,
             out: self.out,
-            shown: shown,
+            shown,
             address: self.address,
         }
     }
@@ -305,18 +243,19 @@ impl Front {
         ensures { result ≡ pick (is_executed (verdict (part_of part) i self.address self.value
             (8 * self.taken + self.bits) (on self.ran) true false false (on self.held))) wel old }
     {
-        let bits = 8 * self.taken as usize + self.bits as usize;
         let verdict = codes::judge(
             part,
             i,
             self.address,
             self.value,
-            bits,
-            self.ran == 1,
-            true,
-            false,
-            false,
-            self.held == 1,
+            Deselect {
+                bits: 8 * self.taken as usize + self.bits as usize,
+                ran: self.ran == 1,
+                wel: true,
+                locked: false,
+                protected: false,
+                held: self.held == 1,
+            },
         );
         if verdict.is_executed() { wel } else { old }
     }
@@ -329,21 +268,10 @@ impl Front {
     {
         let i = codes::decode(core.part, self.code);
         match i {
-            Instruction::Wren => {
-                let wel = self.wel_after(core.part, i, 1, core.wel);
-                Way::Clear(1, 0, wel)
-            }
-            Instruction::Wrdi => {
-                let wel = self.wel_after(core.part, i, 0, core.wel);
-                Way::Clear(1, 0, wel)
-            }
-            Instruction::Rdsr => Way::Clear(1, 0, core.wel),
-            Instruction::Wrsr => Way::Whole,
-            Instruction::Read => Way::Clear(1, 0, core.wel),
-            Instruction::Write => Way::Whole,
-            Instruction::Rdid => Way::Clear(1, 0, core.wel),
-            Instruction::Wrid => Way::Whole,
-            Instruction::Silence => Way::Clear(1, 0, core.wel),
+            Instruction::Wren => Way::Clear(1, 0, self.wel_after(core.part, i, 1, core.wel)),
+            Instruction::Wrdi => Way::Clear(1, 0, self.wel_after(core.part, i, 0, core.wel)),
+            Instruction::Wrsr | Instruction::Write | Instruction::Wrid => Way::Whole,
+            _ => Way::Clear(1, 0, core.wel),
         }
     }
 
@@ -357,7 +285,7 @@ impl Front {
         if level {
             return self.deselecting(core);
         }
-        let held = bit(!(self.c == 1) & !(self.hold == 1));
+        let held = bit((self.c != 1) & (self.hold != 1));
         Way::Clear(0, held, core.wel)
     }
 }
@@ -374,15 +302,15 @@ impl Front {
         if self.c == 1 {
             return Way::Set {
                 w: self.w,
-                hold: hold,
+                hold,
                 held: self.held,
             };
         }
-        let held = bit(!(self.s == 1) & !(hold == 1));
+        let held = bit((self.s != 1) & (hold != 1));
         Way::Set {
             w: self.w,
-            hold: hold,
-            held: held,
+            hold,
+            held,
         }
     }
 }
@@ -400,10 +328,7 @@ fn passing(reading: u32, core: Core) -> Way
         return Way::Whole;
     }
     let left = left_after(core.left, passed);
-    Way::Pass {
-        reading: reading,
-        left: left,
-    }
+    Way::Pass { reading, left }
 }
 
 impl Front {
@@ -423,7 +348,7 @@ impl Front {
             Event::W(level) => {
                 let w = bit(level);
                 Way::Set {
-                    w: w,
+                    w,
                     hold: self.hold,
                     held: self.held,
                 }

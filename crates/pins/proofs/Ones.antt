@@ -24,14 +24,6 @@ use Rattle.pins.proofs.Device.cells_touched.Kinds as cells-touched
 use Rattle.pins.proofs.Device.cells_touched.Reads as cells-touched-reads
 use Rattle.pins.proofs.Device.in_ranges.Kinds as in-ranges
 use Rattle.pins.proofs.Device.in_ranges.Reads as in-ranges-reads
-use Rattle.pins.proofs.QAnswer.number.Kinds as qanswer-number
-use Rattle.pins.proofs.QAnswer.number.Reads as qanswer-number-reads
-use Rattle.pins.proofs.QAnswer.value.Kinds as qanswer-value
-use Rattle.pins.proofs.QAnswer.value.Reads as qanswer-value-reads
-use Rattle.pins.proofs.StatusAnswer.number.Kinds as statusanswer-number
-use Rattle.pins.proofs.StatusAnswer.number.Reads as statusanswer-number-reads
-use Rattle.pins.proofs.StatusAnswer.value.Kinds as statusanswer-value
-use Rattle.pins.proofs.StatusAnswer.value.Reads as statusanswer-value-reads
 use Rattle.pins.proofs.Device.stepped.Kinds as device-stepped
 use Rattle.pins.proofs.Device.stepped.Reads as device-stepped-reads
 use Rattle.pins.proofs.Device.resting.Kinds as device-resting
@@ -86,18 +78,6 @@ pub in_ranges_one : OneResult in-ranges.ps in-ranges.r in-ranges-reads.Post
 in_ranges_one κs a z z' e e' p q = same p q
 
 -- ---- inner calls
-
-pub qanswer_number_one : OneResult qanswer-number.ps qanswer-number.r qanswer-number-reads.Post
-qanswer_number_one κs a z z' e e' p q = same p q
-
-pub qanswer_value_one : OneResult qanswer-value.ps qanswer-value.r qanswer-value-reads.Post
-qanswer_value_one κs a z z' e e' p q = same p q
-
-pub statusanswer_number_one : OneResult statusanswer-number.ps statusanswer-number.r statusanswer-number-reads.Post
-statusanswer_number_one κs a z z' e e' p q = same p q
-
-pub statusanswer_value_one : OneResult statusanswer-value.ps statusanswer-value.r statusanswer-value-reads.Post
-statusanswer_value_one κs a z z' e e' p q = same p q
 
 pub device_stepped_one : OneResult device-stepped.ps device-stepped.r device-stepped-reads.Post
 device_stepped_one κs a z z' e e' p q = same p.0 q.0

@@ -1,27 +1,25 @@
 -- The public calls, for every input: the refusals in their order, the device that follows and the memory.
-use Rattle.std.specs.Prelude.{ℕ, Bool, List, [], ◌∷◌, length}
+use Rattle.codes.specs.declared.Refusal.{Refusal}
+use Rattle.codes.specs.Refusals.{number, value_of, value_by, no_refusal}
+use Rattle.std.specs.Prelude.{ℕ, Bool, List, [], ◌∷◌, length, Err, Ok, Result}
 use Rattle.laws.specs.Pick.{pick}
 use Rattle.codes.specs.Part.{Part}
 use Rattle.chip.specs.Lents.{Lent, lent}
 use Rattle.chip.specs.Records.{status}
 use Rattle.chip.specs.Time.{lent_fits}
 use Rattle.chip.specs.Power.{powered_up}
-use Rattle.chip.specs.declared.PoweredUp.{PoweredUp}
+use Rattle.chip.specs.declared.Answered.{Answered}
 use Rattle.cuts.specs.Cuts.{cut_in}
 use Rattle.cuts.specs.declared.Choice.{Choice}
-use Rattle.codes.specs.Refusals.{refusal_number, is_done}
+use Rattle.codes.specs.Refusals.{is_done}
 use Rattle.codes.specs.declared.Refusal.TheVariants.{MemoryLength, RecordRange}
-use Rattle.codes.specs.declared.Outcome.{Outcome}
-use Rattle.codes.specs.declared.Outcome.TheVariants.{Done, Refused}
+use Rattle.codes.specs.Refusals.{Outcome}
 use Rattle.pins.specs.declared.Device.{Device}
 use Rattle.pins.specs.declared.Event.{Event}
 use Rattle.pins.specs.declared.Stepped.{Stepped}
-use Rattle.pins.specs.declared.QAnswer.{QAnswer}
-use Rattle.pins.specs.declared.QAnswer.TheVariants as q-answer
-use Rattle.pins.specs.declared.StatusAnswer.{StatusAnswer}
-use Rattle.pins.specs.declared.StatusAnswer.TheVariants as status-answer
 use Rattle.pins.specs.Devices.{resting, q}
 use Rattle.pins.specs.Ranges.{device_fits}
+use Rattle.edges.specs.declared.Level.{Level}
 use Rattle.edges.specs.Falling.{level_number}
 use Rattle.pins.specs.Events.{stepped, stepped_memory, stepped_identification, event_of}
 
@@ -36,10 +34,14 @@ memory_choice P x m one two done =
     pick (lent_fits P (length m.memory) (length m.identification)) (record_choice P x two done) one
 
 abbrev pub record_outcome : Part → Device → Outcome
-record_outcome P x = record_choice P x (Refused RecordRange) Done
+record_outcome P x = record_choice P x (Err RecordRange) no_refusal
 
 abbrev pub memory_outcome : Part → Device → Lent → Outcome
-memory_outcome P x m = memory_choice P x m (Refused MemoryLength) (Refused RecordRange) Done
+memory_outcome P x m = memory_choice P x m (Err MemoryLength) (Err RecordRange) no_refusal
+
+-- where the lent slices are given by their lengths
+abbrev pub admitted : Part → Device → ℕ → ℕ → Outcome
+admitted P x size cells = pick (lent_fits P size cells) (record_outcome P x) (Err MemoryLength)
 
 -- their numbers in document 01
 abbrev pub record_number : Part → Device → ℕ
@@ -65,40 +67,23 @@ cut_device P h m x = resting (cut_in P h x.core m)
 
 -- ---- what a device shows
 
-abbrev pub q_answer : Part → Device → QAnswer
-q_answer P x = record_choice P x (q-answer.Refused RecordRange) (q-answer.Shows (q x))
+abbrev pub q_answer : Part → Device → Result Level Refusal
+q_answer P x = record_choice P x (Err RecordRange) (Ok (q x))
 
-abbrev pub q_number : QAnswer → ℕ
-q_number (q-answer.Shows l) = 0
-q_number (q-answer.Refused r) = refusal_number r
-
--- 0, 1 or 2 for Z; 0 in a refusal
-abbrev pub q_value : QAnswer → ℕ
-q_value (q-answer.Shows l) = level_number l
-q_value (q-answer.Refused r) = 0
-
--- the value, by the input
+-- the value, by the input: 0, 1 or 2 for Z, and 0 in a refusal
 abbrev pub q_asked : Part → Device → ℕ
 q_asked P x = record_choice P x 0 (level_number (q x))
 
-abbrev pub status_answer : Part → Device → StatusAnswer
-status_answer P x = record_choice P x (status-answer.Refused RecordRange) (status-answer.Byte (status x.core))
-
-abbrev pub status_number : StatusAnswer → ℕ
-status_number (status-answer.Byte v) = 0
-status_number (status-answer.Refused r) = refusal_number r
-
-abbrev pub status_value : StatusAnswer → ℕ
-status_value (status-answer.Byte v) = v
-status_value (status-answer.Refused r) = 0
+abbrev pub status_answer : Part → Device → Result ℕ Refusal
+status_answer P x = record_choice P x (Err RecordRange) (Ok (status x.core))
 
 abbrev pub status_asked : Part → Device → ℕ
 status_asked P x = record_choice P x 0 (status x.core)
 
 -- ---- power-up: the pins at rest around chip's record
 
-abbrev pub powered_device : PoweredUp → Stepped
-powered_device p = stepped_to p.outcome (resting p.core)
+abbrev pub powered_device : Answered (Unit {0}) Refusal → Stepped
+powered_device p = stepped_to p.answer (resting p.core)
 
 abbrev pub powered : ℕ → Bool → ℕ → Bool → Bool → Bool → ℕ → List ℕ → Stepped
 powered part k n s b a t m = powered_device (powered_up part k n s b a t m)

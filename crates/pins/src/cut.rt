@@ -7,7 +7,6 @@ ghost use Rattle.pins.specs.Devices.{device_part};
 ghost use Rattle.pins.specs.Answers.{memory_outcome, memory_number, answer, answer_memory, cut_device};
 
 use crate::{Device, Stepped};
-use chip::lent_fits;
 use cuts::{Choice, cut_core};
 
 impl Device {
@@ -29,11 +28,12 @@ impl Device {
             (cut_identification (device_part self) choice self.core identification.old)
             identification.old }
     {
-        let core = self.core;
-        if lent_fits(core.part, memory.len(), identification.len()) & self.in_ranges() {
-            let next = cut_core(core, choice, memory, identification);
-            return Device::resting(next).done();
+        match self.admitted(memory.len(), identification.len()) {
+            Ok(()) => {
+                let next = cut_core(self.core, choice, memory, identification);
+                Device::resting(next).done()
+            }
+            Err(refusal) => self.refused(refusal),
         }
-        self.read_clock(core.last, memory, identification)
     }
 }

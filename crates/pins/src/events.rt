@@ -10,7 +10,7 @@ ghost use Rattle.pins.specs.Events.{stepped_identification};
 
 use crate::{Device, Event};
 use chip::Core;
-use codes::{Instruction, Verdict, judge, page_number};
+use codes::{Deselect, Instruction, Verdict, judge, page_number};
 use edges::{Frame, bit, outputs, shifted_in};
 
 impl Device {
@@ -18,7 +18,7 @@ impl Device {
     fn selecting(mut self) -> Device
         ensures { result ≡ selecting self }
     {
-        let held = bit(!(self.pins.c == 1) & !(self.pins.hold == 1));
+        let held = bit((self.pins.c != 1) & (self.pins.hold != 1));
         let empty = Frame::none();
         self.pins.s = 0;
         self.held = held;
@@ -30,21 +30,20 @@ impl Device {
         ensures { result ≡ judged_now (device_part self) self }
     {
         let core = self.core;
-        let bits = 8 * self.frame.taken as usize + self.frame.bits as usize;
-        let locked = (core.srwd == 1) & !(self.pins.w == 1);
-        let i = codes::decode(self.core.part, self.frame.code);
-        let barred = core.barred(i, self.frame.address);
+        let i = codes::decode(core.part, self.frame.code);
         judge(
             core.part,
             i,
             self.frame.address,
             self.frame.value,
-            bits,
-            self.frame.ran == 1,
-            core.wel == 1,
-            locked,
-            barred,
-            self.held == 1,
+            Deselect {
+                bits: 8 * self.frame.taken as usize + self.frame.bits as usize,
+                ran: self.frame.ran == 1,
+                wel: core.wel == 1,
+                locked: (core.srwd == 1) & (self.pins.w != 1),
+                protected: core.barred(i, self.frame.address),
+                held: self.held == 1,
+            },
         )
     }
 
@@ -56,16 +55,13 @@ impl Device {
         match codes::decode(self.core.part, self.frame.code) {
             Instruction::Wren => core.with_wel(1),
             Instruction::Wrdi => core.with_wel(0),
-            Instruction::Rdsr => core,
             Instruction::Wrsr => core.begin_status(self.frame.value),
-            Instruction::Read => core,
             Instruction::Write => core.begin_page(
                 page_number(self.core.part, self.frame.address as usize) as u32,
                 latch,
             ),
-            Instruction::Rdid => core,
             Instruction::Wrid => core.begin_identification(self.frame.address, latch),
-            Instruction::Silence => core,
+            _ => core,
         }
     }
 
@@ -109,14 +105,14 @@ impl Device {
     fn renewed(self) -> Device
         ensures { result ≡ renewed self }
     {
-        self.with_held(!(self.pins.s == 1) & !(self.pins.hold == 1))
+        self.with_held((self.pins.s != 1) & (self.pins.hold != 1))
     }
 
     // A counted edge takes the bit on D. Seven of eight only move two fields, and the record is not copied for them.
     fn raising(mut self) -> Device
         ensures { result ≡ raising (device_part self) self }
     {
-        let counted = !(self.pins.s == 1) & !(self.held == 1);
+        let counted = (self.pins.s != 1) & (self.held != 1);
         let part = self.core.part;
         let running = 0 < self.core.left;
         let bits = self.frame.bits;
@@ -141,11 +137,11 @@ impl Device {
         ensures { result
             ≡ lowering (device_part self) (lent memory.now identification.now) self }
     {
-        let counted = !(self.pins.s == 1) & !(self.held == 1);
+        let counted = (self.pins.s != 1) & (self.held != 1);
         let i = codes::decode(self.core.part, self.frame.code);
         let shown = self.frame.shown;
         let drives = outputs(self.core.part, i, self.frame.taken, self.frame.ran == 1);
-        let held = bit(!(self.pins.s == 1) & !(self.pins.hold == 1));
+        let held = bit((self.pins.s != 1) & (self.pins.hold != 1));
         self.pins.c = 0;
         self.held = held;
         if counted & drives {

@@ -6,10 +6,9 @@
 #![tactic(auto)]
 
 use chip::Core;
-use codes::{Outcome, Refusal};
-use edges::{Frame, Level};
+use codes::Refusal;
+use edges::Frame;
 
-mod answers;
 mod cut;
 mod events;
 mod public;
@@ -50,23 +49,10 @@ pub enum Event {
     Time(u32),
 }
 
-// Q of a device, or the refusal.
-#[derive(Clone, Copy)]
-pub enum QAnswer {
-    Shows(Level),
-    Refused(Refusal),
-}
-
-// The status byte of a device, or the refusal.
-#[derive(Clone, Copy)]
-pub enum StatusAnswer {
-    Byte(u8),
-    Refused(Refusal),
-}
-
-// What an event or power-up hands back, and a list of events (crate lists).
+// What an event or power-up hands back, and a list of events (crate lists). The device stands beside the outcome, since
+// a refusal hands one back too (the clause `value` of each call).
 #[derive(Clone, Copy)]
 pub struct Stepped {
-    pub outcome: Outcome,
+    pub outcome: Result<(), Refusal>,
     pub device: Device,
 }

@@ -1,22 +1,25 @@
 // The public calls, for every input: refusal 1 where memory is lent, then 2, both with everything as it was; else the
 // event.
-ghost use Rattle.std.specs.Prelude.{◌≡◌};
+ghost use Rattle.codes.specs.Refusals.{value_of, value_by, no_refusal};
+ghost use Rattle.std.specs.Prelude.{◌≡◌, Err, Ok};
 ghost use Rattle.chip.specs.Power.{power_up_number};
 ghost use Rattle.codes.specs.Refusals.{number};
 ghost use Rattle.chip.specs.Lents.{lent};
 ghost use Rattle.chip.specs.Time.{timed_memory, timed_identification};
-ghost use Rattle.chip.specs.Touched.{cells_marked, touched_answer, touched_choice, touched_number, touched_value};
-ghost use Rattle.codes.specs.declared.Outcome.TheVariants.{Done, Refused};
+ghost use Rattle.chip.specs.Touched.{cells_marked, touched_answer, touched_choice};
+ghost use Rattle.edges.specs.Falling.{level_number};
 ghost use Rattle.pins.specs.Devices.{device_part};
 ghost use Rattle.pins.specs.Ranges.{device_fits};
 ghost use Rattle.pins.specs.Events.{on_s, on_c, on_d, on_w, on_hold, on_time};
-ghost use Rattle.pins.specs.Answers.{stepped_to, record_outcome, memory_outcome, record_number, memory_number, answer};
-ghost use Rattle.pins.specs.Answers.{answer_memory, q_answer, q_number, q_value, q_asked, status_answer, status_number};
-ghost use Rattle.pins.specs.Answers.{status_value, status_asked, powered};
+ghost use Rattle.pins.specs.Answers.{stepped_to, admitted, record_outcome, memory_outcome, record_number};
+ghost use Rattle.pins.specs.Answers.{memory_number, answer};
+ghost use Rattle.pins.specs.Answers.{answer_memory, q_answer, q_asked, status_answer};
+ghost use Rattle.pins.specs.Answers.{status_asked, powered};
 
-use crate::{Device, QAnswer, StatusAnswer, Stepped};
-use chip::{Touched, lent_fits};
-use codes::{Outcome, Refusal};
+use crate::{Device, Stepped};
+use chip::lent_fits;
+use codes::Refusal;
+use edges::Level;
 
 // Power-up, with the pins at rest: the blank cells of the memory are counted. 1 for a memory that is not as long as the
 // part has it, then 2 for a part that is none, then 6 for a cycle length that is not 1 to the longest; each leaves the
@@ -35,42 +38,69 @@ pub fn power_up(
     ensures as_number { number result.outcome ≡ power_up_number part cycle memory.now }
 {
     let p = chip::power_up(part, lock, cycle, srwd, bp1, bp0, reading, memory);
-    let outcome = p.outcome;
-    let core = p.core;
     Stepped {
-        outcome: outcome,
-        device: Device::resting(core),
+        outcome: p.answer,
+        device: Device::resting(p.core),
     }
 }
 
 impl Device {
     pub(crate) fn done(self) -> Stepped
-        ensures { result ≡ stepped_to Done self }
+        ensures { result ≡ stepped_to no_refusal self }
     {
         Stepped {
-            outcome: Outcome::Done,
+            outcome: Ok(()),
             device: self,
         }
     }
 
-    fn refused(self, refusal: Refusal) -> Stepped
-        ensures { result ≡ stepped_to (Refused refusal) self }
+    pub(crate) fn refused(self, refusal: Refusal) -> Stepped
+        ensures { result ≡ stepped_to (Err refusal) self }
     {
         Stepped {
-            outcome: Outcome::Refused(refusal),
+            outcome: Err(refusal),
             device: self,
         }
     }
+
+    // The device that follows, or the device as given.
+    fn answer(self, outcome: Result<(), Refusal>, next: Device) -> Stepped
+        ensures { result ≡ answer outcome next self }
+    {
+        match outcome {
+            Ok(()) => next.done(),
+            Err(refusal) => self.refused(refusal),
+        }
+    }
+
+    // Refusal 2.
+    fn checked(&self) -> Result<(), Refusal>
+        ensures { result ≡ record_outcome (device_part self.now) self.now }
+    {
+        if self.in_ranges() {
+            return Ok(());
+        }
+        Err(Refusal::RecordRange)
+    }
+
+    // Refusal 1 for lent slices of other lengths than the part's, then 2.
+    pub fn admitted(&self, memory: usize, identification: usize) -> Result<(), Refusal>
+        ensures { result ≡ admitted (device_part self.now) self.now memory identification }
+    {
+        if !lent_fits(self.core.part, memory, identification) {
+            return Err(Refusal::MemoryLength);
+        }
+        self.checked()
+    }
+
+    // The four that follow are one method for each kind of event, each the one line that differs.
 
     // S to a level. 2 for a device outside its ranges.
     pub fn set_s(self, level: bool) -> Stepped
         ensures value { result ≡ answer (record_outcome (device_part self) self) (on_s (device_part self) level self) self }
         ensures as_number { number result.outcome ≡ record_number (device_part self) self }
     {
-        if self.in_ranges() {
-            return self.on_s(level).done();
-        }
-        self.refused(Refusal::RecordRange)
+        self.answer(self.checked(), self.on_s(level))
     }
 
     // D to a level. 2 for a device outside its ranges.
@@ -78,10 +108,7 @@ impl Device {
         ensures value { result ≡ answer (record_outcome (device_part self) self) (on_d level self) self }
         ensures as_number { number result.outcome ≡ record_number (device_part self) self }
     {
-        if self.in_ranges() {
-            return self.on_d(level).done();
-        }
-        self.refused(Refusal::RecordRange)
+        self.answer(self.checked(), self.on_d(level))
     }
 
     // W to a level. 2 for a device outside its ranges.
@@ -89,10 +116,7 @@ impl Device {
         ensures value { result ≡ answer (record_outcome (device_part self) self) (on_w level self) self }
         ensures as_number { number result.outcome ≡ record_number (device_part self) self }
     {
-        if self.in_ranges() {
-            return self.on_w(level).done();
-        }
-        self.refused(Refusal::RecordRange)
+        self.answer(self.checked(), self.on_w(level))
     }
 
     // HOLD to a level. 2 for a device outside its ranges.
@@ -100,10 +124,7 @@ impl Device {
         ensures value { result ≡ answer (record_outcome (device_part self) self) (on_hold level self) self }
         ensures as_number { number result.outcome ≡ record_number (device_part self) self }
     {
-        if self.in_ranges() {
-            return self.on_hold(level).done();
-        }
-        self.refused(Refusal::RecordRange)
+        self.answer(self.checked(), self.on_hold(level))
     }
 
     // C to a level, with the memory that READ shows and the page that 83h shows. 1 for a lent slice of another length,
@@ -115,13 +136,10 @@ impl Device {
         ensures as_number { number result.outcome ≡ memory_number (device_part self) self
             (lent memory.now identification.now) }
     {
-        if lent_fits(self.core.part, memory.len(), identification.len()) {
-            if self.in_ranges() {
-                return self.on_c(level, memory, identification).done();
-            }
-            return self.refused(Refusal::RecordRange);
+        match self.admitted(memory.len(), identification.len()) {
+            Ok(()) => self.on_c(level, memory, identification).done(),
+            Err(refusal) => self.refused(refusal),
         }
-        self.refused(Refusal::MemoryLength)
     }
 
     // A clock reading, with the lent slices that the end of a cycle changes. 1 for one of another length, then 2.
@@ -141,51 +159,42 @@ impl Device {
             (timed_identification (device_part self) reading self.core identification.old)
             identification.old }
     {
-        if lent_fits(self.core.part, memory.len(), identification.len()) {
-            if self.in_ranges() {
-                return self.on_time(reading, memory, identification).done();
-            }
-            return self.refused(Refusal::RecordRange);
+        match self.admitted(memory.len(), identification.len()) {
+            Ok(()) => self.on_time(reading, memory, identification).done(),
+            Err(refusal) => self.refused(refusal),
         }
-        self.refused(Refusal::MemoryLength)
     }
 
     // Q: 0, 1 or Z. 2 for a device outside its ranges.
-    pub fn q(self) -> QAnswer
+    pub fn q(self) -> Result<Level, Refusal>
         ensures value { result ≡ q_answer (device_part self) self }
-        ensures as_number { q_number result ≡ record_number (device_part self) self }
-        ensures as_value { q_value result ≡ q_asked (device_part self) self }
+        ensures as_number { number result ≡ record_number (device_part self) self }
+        ensures as_value { (value_by level_number) result ≡ q_asked (device_part self) self }
     {
-        if self.in_ranges() {
-            return QAnswer::Shows(self.shows());
-        }
-        QAnswer::Refused(Refusal::RecordRange)
+        self.checked()?;
+        Ok(self.shows())
     }
 
     // The status byte. 2 for a device outside its ranges.
-    pub fn status(self) -> StatusAnswer
+    pub fn status(self) -> Result<u8, Refusal>
         ensures value { result ≡ status_answer (device_part self) self }
-        ensures as_number { status_number result ≡ record_number (device_part self) self }
-        ensures as_value { status_value result ≡ status_asked (device_part self) self }
+        ensures as_number { number result ≡ record_number (device_part self) self }
+        ensures as_value { value_of result ≡ status_asked (device_part self) self }
     {
+        self.checked()?;
         let core = self.core;
-        if self.in_ranges() {
-            return StatusAnswer::Byte(core.status());
-        }
-        StatusAnswer::Refused(Refusal::RecordRange)
+        Ok(core.status())
     }
 
     // How many cells the running cycle will touch, 0 where no latched bytes wait. 2 for a device outside its ranges.
-    pub fn cells_touched(self) -> Touched
+    pub fn cells_touched(self) -> Result<u32, Refusal>
         ensures value { result ≡ touched_answer (device_fits (device_part self) self) self.core }
-        ensures as_number { touched_number result ≡ touched_choice (device_fits (device_part self) self) 2 0 }
-        ensures as_value { touched_value result
+        ensures as_number { number result ≡ touched_choice (device_fits (device_part self) self) 2 0 }
+        ensures as_value { value_of result
             ≡ touched_choice (device_fits (device_part self) self) 0 (cells_marked (device_part self) self.core) }
     {
+        self.checked()?;
         let core = self.core;
-        if self.in_ranges() {
-            return Touched::Cells(core.touched());
-        }
-        Touched::Refused(Refusal::RecordRange)
+        Ok(core.touched())
     }
 }

@@ -29,7 +29,7 @@ impl Device {
     fn empty_fits(self) -> bool
         ensures { result ≡ empty_fits self }
     {
-        !(self.pins.s == 1) | (self.frame.taken == 0) & (self.frame.bits == 0)
+        (self.pins.s != 1) | (self.frame.taken == 0) & (self.frame.bits == 0)
     }
 
     fn ran_fits(self) -> bool

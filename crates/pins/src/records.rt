@@ -22,7 +22,7 @@ impl Device {
             },
             held: 0,
             frame: Frame::none(),
-            core: core,
+            core,
         }
     }
 

@@ -19,7 +19,7 @@ use Rattle.codes.specs.Instructions.{decode, picks_lock}
 use Rattle.chip.specs.Time.{elapsed, ends, timed}
 use Rattle.codes.specs.Refusals.{is_done}
 use Rattle.chip.specs.declared.Core.{Core}
-use Rattle.codes.specs.declared.Outcome.{Outcome}
+use Rattle.codes.specs.Refusals.{Outcome}
 use Rattle.codes.specs.declared.Instruction.{Instruction}
 use Rattle.codes.specs.declared.Instruction.TheVariants.{Wren, Wrdi, Rdsr, Wrsr, Read, Write, Rdid, Wrid, Silence}
 use Rattle.chip.proofs.Within.{Within}

@@ -7,18 +7,12 @@
 ghost use Rattle.std.specs.Prelude.{◌≡◌, ◌≤◌, length};
 
 use codes::{M95M01, M95512, M95512D, page_of, size_of};
-use console::{Tell, fail, is_word};
+use console::{Tell, WORD, fail, is_word};
 use player::Player;
 use std::env::{Env, FillError};
 use std::io;
 use std::io::Read;
 use std::rt::Files;
-
-#[derive(Clone, Copy)]
-struct Turned {
-    player: Player,
-    more: bool,
-}
 
 // Writes bytes out, or says why it cannot.
 fn put<R: Print + Tell>(rt: &R, bytes: &[u8]) -> bool {
@@ -31,21 +25,14 @@ fn put<R: Print + Tell>(rt: &R, bytes: &[u8]) -> bool {
     }
 }
 
-fn stop(player: Player) -> Turned {
-    Turned {
-        player: player,
-        more: false,
-    }
-}
-
 // The end of the text. A read that failed never comes here.
 fn close<R: Print + Tell>(rt: &R, player: Player, out: &mut [u8]) {
     let fed = trace::finish(player, out);
-    let n = fed.written;
-    put(rt, &out[..n]);
+    put(rt, &out[..fed.written]);
 }
 
-// One chunk: it is read, fed and written. An output that takes no more ends the program at once.
+// One chunk: it is read, fed and written. The player that follows, or none at the end. An output that takes no more
+// ends the program at once.
 fn turn<R: Print + Tell>(
     rt: &R,
     from: &mut impl Read,
@@ -55,33 +42,22 @@ fn turn<R: Print + Tell>(
     identification: &mut [u8],
     text: &mut [u8],
     out: &mut [u8],
-) -> Turned {
+) -> Option<Player> {
     match from.read(text) {
         Err(error) => {
             fail(rt, name, error);
-            stop(player)
+            None
         }
         Ok(0) => {
             close(rt, player, out);
-            stop(player)
+            None
         }
         Ok(n) => {
             let fed = trace::feed(player, memory, identification, &text[..n], out);
-            let k = fed.written;
-            let next = fed.player;
-            let more = put(rt, &out[..k]);
-            Turned {
-                player: next,
-                more: more,
-            }
+            let more = put(rt, &out[..fed.written]);
+            more.then_some(fed.player)
         }
     }
-}
-
-fn chunk() -> [u8; 6551]
-    ensures { 6551 ≡ length result }
-{
-    [0; 6551]
 }
 
 // The text chunk by chunk. The turns count up to a number that no run reaches.
@@ -97,11 +73,10 @@ fn turns<R: Print + Tell>(
 ) {
     let mut player = player::start(part);
     for _ in 0..u64::MAX {
-        let turned = turn(rt, from, name, player, memory, identification, text, out);
-        if !turned.more {
-            return;
+        match turn(rt, from, name, player, memory, identification, text, out) {
+            Some(next) => player = next,
+            None => return,
         }
-        player = turned.player;
     }
 }
 
@@ -111,8 +86,8 @@ fn play<R: Print + Tell>(rt: &R, part: u8, from: &mut impl Read, name: &[u8]) {
     let page = page_of(part);
     let mut memory = player::memory();
     let mut identification = player::identification(part);
-    let mut text = chunk();
-    let mut out = console::large_buffer();
+    let mut text = [0; 6551];
+    let mut out = console::zeros::<65536>();
     turns(
         rt,
         part,
@@ -137,7 +112,7 @@ const ENAMETOOLONG: i32 = 36;
 
 // The file that the word at a place names, or standard input where there is no such word.
 fn play_word<R: Env + Files + Input + Print + Tell>(rt: &R, part: u8, at: usize) {
-    let mut path = console::buffer();
+    let mut path = console::zeros::<WORD>();
     match rt.arg(at, &mut path) {
         Ok(n) => play_file(rt, part, &path[..n]),
         Err(FillError::NotPresent) => play(rt, part, &mut rt.reader(), b"standard input"),

@@ -11,7 +11,8 @@ use Rattle.chip.specs.Records.{own_part}
 use Rattle.chip.specs.Blanks.{Counted}
 use Rattle.chip.specs.Power.{quiet, delivered, delivered_memory}
 use Rattle.chip.specs.declared.Core.{Core}
-use Rattle.chip.specs.declared.PoweredUp.{PoweredUp}
+use Rattle.chip.specs.declared.Answered.{Answered}
+use Rattle.codes.specs.declared.Refusal.{Refusal}
 use Rattle.chip.proofs.Cases.{longest_fits, delivered_size, delivered_blanks}
 use Rattle.pins.specs.Devices.{resting}
 use Rattle.pins.specs.Answers.{powered}
@@ -30,7 +31,7 @@ start_counted n =
 pub start_powered : (n : ℕ) → is_part n ≡ true
     → (powered n false (part_of n).longest false false false 0 (delivered_memory (part_of n))).device ≡ (start_bench n).device
 start_powered n e =
-    let its : PoweredUp → Core = λ x. x.core in
+    let its : Answered (Unit {0}) Refusal → Core = λ x. x.core in
     ap resting
     (ap its (at_yes _ _ (eq-eqb _ _ (delivered_size n)) ∙ at_yes _ _ e ∙ at_yes _ _ (longest_fits n))
     ∙ ap (quiet n) (delivered_blanks (part_of n))

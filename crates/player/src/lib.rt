@@ -15,7 +15,8 @@ use latch::ROOM;
 use lines::Line;
 use pins::Device;
 
-// A text in hand: whether its header is out, the line in hand, and the device after the last whole line.
+// A text in hand: whether its header is out, the line in hand, and the device after the last whole line. The flag stays
+// a number, 0 or 1: `feed` refuses a player outside its ranges, and a narrower type would ask more of its callers.
 #[derive(Clone, Copy)]
 pub struct Player {
     pub headed: u8,
@@ -67,16 +68,14 @@ impl Player {
     fn head_fits(self) -> bool
         ensures { result ≡ head_fits self }
     {
-        let line = self.line;
-        (self.headed <= 1) & ((self.headed == 1) | ((line.whole == 0) & (line.place == 0)))
+        self.headed <= 1 && (self.headed == 1 || self.line.whole == 0 && self.line.place == 0)
     }
 
     // All the ranges of a player.
+    #[tactic(auto, unfolding(crate::specs::Players::player_fits))]
     pub fn in_ranges(self) -> bool
         ensures { result ≡ player_fits self }
     {
-        let line = self.line;
-        let device = self.device;
-        self.head_fits() & line.fits() & device.in_ranges()
+        self.head_fits() && self.line.fits() && self.device.in_ranges()
     }
 }

@@ -5,40 +5,30 @@ ghost use Rattle.printing.specs.Put.{put, put_if_room, end_if_room};
 
 use crate::put::has_bytes;
 
+// How many digits n has, seven at most.
 fn places_of(n: u64) -> usize
     ensures { (result ≡ places n) × (result ≤ 7) }
 {
-    if n < 10 {
-        return 1;
+    match n {
+        0..=9 => 1,
+        10..=99 => 2,
+        100..=999 => 3,
+        1000..=9999 => 4,
+        10000..=99999 => 5,
+        100000..=999999 => 6,
+        _ => 7,
     }
-    if n < 100 {
-        return 2;
-    }
-    if n < 1000 {
-        return 3;
-    }
-    if n < 10000 {
-        return 4;
-    }
-    if n < 100000 {
-        return 5;
-    }
-    if n < 1000000 {
-        return 6;
-    }
-    7
 }
 
-// The last k digits of n, the last of them first.
+// The last k digits of n, the last of them first. By index: each stands by its place from the
+// first, and is made from the last.
 fn put_digits(out: &mut [u8], at: usize, k: usize, n: u64)
     requires { at + k ≤ length out.old }
     ensures { out.new ≡ put out.old at (digits k n) }
 {
     let mut rest = n;
-    let mut left = k;
-    while left > 0 {
-        left -= 1;
-        out[at + left] = 48 + (rest % 10) as u8;
+    for i in (0..k).rev() {
+        out[at + i] = b'0' + (rest % 10) as u8;
         rest /= 10;
     }
 }

@@ -7,6 +7,7 @@ use crate::digits::put_decimal;
 use crate::put::{has_bytes, put_bytes};
 
 // The header; it asks for seven bytes.
+#[tactic(auto, unfolding(crate::specs::Printing::header))]
 pub fn put_header(out: &mut [u8], at: usize) -> usize
     ensures out_after { out.new ≡ put_if_room 7 out.old at header }
     ensures value { result ≡ end_if_room 7 out.old at header }
@@ -20,23 +21,21 @@ pub fn put_bad(out: &mut [u8], at: usize, n: u32) -> usize
     ensures value { (result ≡ end_if_room 12 out.old at (bad_line n)) × (result ≤ at + 12) }
 {
     if has_bytes(at, 12, out.len()) {
-        let end = put_decimal(out, at, n as u64);
+        let end = put_decimal(out, at, u64::from(n));
         return put_bytes(out, end, b"\tbad\n");
     }
     at
 }
 
-// 0, 1 or Z.
+// 0, 1 or Z, by the number that a list of events gives Q.
 fn glyph_of(q: u8) -> u8
     ensures { result ≡ glyph q }
 {
-    if q == 0 {
-        return b'0';
+    match q {
+        0 => b'0',
+        1 => b'1',
+        _ => b'Z',
     }
-    if q == 1 {
-        return b'1';
-    }
-    b'Z'
 }
 
 // A good line: its number, a tab and Q.
@@ -46,20 +45,14 @@ fn put_line(out: &mut [u8], at: usize, n: u64, q: u8) -> usize
     ensures value { (result ≡ at + length (good_line n q)) × (result ≤ at + 10) }
 {
     let end = put_decimal(out, at, n);
-    out[end] = 9;
-    out[end + 1] = glyph_of(q);
-    out[end + 2] = 10;
-    end + 3
+    put_bytes(out, end, &[b'\t', glyph_of(q), b'\n'])
 }
 
 // Whether so many bytes have room for `count` lines, of ten bytes each, from an index on.
 fn has_lines(at: usize, count: usize, bytes: usize) -> bool
     ensures { result ≡ leb (at + 10 * count) bytes }
 {
-    if bytes < at {
-        return false;
-    }
-    count <= (bytes - at) / 10
+    at <= bytes && count <= (bytes - at) / 10
 }
 
 // The lines one after another, where there is room.
@@ -69,12 +62,8 @@ fn put_lines(out: &mut [u8], at: usize, n: u32, qs: &[u8]) -> usize
     ensures value { (result ≡ at + length (printed n qs.now)) × (result ≤ at + 10 * length qs.now) }
 {
     let mut end = at;
-    let mut number = n as u64;
-    let mut i: usize = 0;
-    while i < qs.len() {
-        end = put_line(out, end, number, qs[i]);
-        number += 1;
-        i += 1;
+    for (i, q) in qs.iter().enumerate() {
+        end = put_line(out, end, u64::from(n) + i as u64, *q);
     }
     end
 }

@@ -6,24 +6,7 @@ ghost use Rattle.printing.specs.Put.{put, put_if_room, end_if_room};
 pub(crate) fn has_bytes(at: usize, count: usize, bytes: usize) -> bool
     ensures { result ≡ leb (at + count) bytes }
 {
-    if bytes < at {
-        return false;
-    }
-    count <= bytes - at
-}
-
-// Bytes one after another, where there is room.
-fn copy_bytes(out: &mut [u8], at: usize, bytes: &[u8]) -> usize
-    requires { at + length bytes.now ≤ length out.old }
-    ensures out_after { out.new ≡ put out.old at bytes.now }
-    ensures value { result ≡ at + length bytes.now }
-{
-    let mut i: usize = 0;
-    while i < bytes.len() {
-        out[at + i] = bytes[i];
-        i += 1;
-    }
-    at + i
+    at <= bytes && count <= bytes - at
 }
 
 // Bytes as they are; they ask for their own number.
@@ -33,7 +16,9 @@ pub fn put_bytes(out: &mut [u8], at: usize, bytes: &[u8]) -> usize
     ensures value { result ≡ end_if_room (length bytes.now) out.old at bytes.now }
 {
     if has_bytes(at, bytes.len(), out.len()) {
-        return copy_bytes(out, at, bytes);
+        let end = at + bytes.len();
+        out[at..end].copy_from_slice(bytes);
+        return end;
     }
     at
 }

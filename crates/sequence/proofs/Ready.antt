@@ -1,5 +1,5 @@
 -- A device that no call refuses, and that whatever is played on it leaves one, for any sound part.
-use mathlib.Core.Path.{◌≡◌, refl, ap, sym, subst, ◌∙◌}
+use mathlib.Core.Path.{◌≡◌, refl, ap, ◌∙◌}
 use mathlib.Core.List.{List, [], ◌∷◌}
 use Prim.Native.Nat.{ℕ}
 use lib.ListN.{length}
@@ -28,10 +28,6 @@ acted_all_page P (reading t ∷ acts) d =
 -- whatever is played, the record is of the part that it was
 pub own_acted : (P : Part) (acts : List Act) (d : FrameBench) {c : Core} → c ≡ (acted_all P acts d).core → own_part c ≡ own_part d.core
 own_acted P acts d e = ap own_part e ∙ ap part_of (acted_all_part P acts d)
-
--- what holds of a part holds of the row that a record of it reads
-pub at_own : {P Q : Part} → Q ≡ P → (F : Part → Type 0) → F P → F Q
-at_own e F x = subst F (sym e) x
 
 module _ (P : Part) (sound : Sound P) where
   pub ready_acted_all : (acts : List Act) (d : FrameBench) → Ready P d → Ready P (acted_all P acts d)

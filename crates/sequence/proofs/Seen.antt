@@ -1,9 +1,8 @@
 -- What the status byte that a poll sees says of the device: WIP is its lowest bit, BP1 and BP0 are bits 3 and 2.
 use mathlib.Core.Path.{◌≡◌, ap, ◌∙◌}
 use mathlib.Core.Bool.{Bool, true, false}
-use Prim.Native.Nat.{ℕ, ◌+◌, ◌%◌, ◌≤◌}
+use Prim.Native.Nat.{ℕ, ◌+◌, ◌≤◌}
 use native.Mathlib.Omega.{arith}
-use lib.Bits.{bit_and, and_mask}
 use lib.Dec.{ltb}
 use Rattle.laws.specs.Flags.{on_bit}
 use Rattle.codes.specs.Part.{Part}
@@ -13,11 +12,6 @@ use Rattle.chip.specs.Records.{running, status}
 use Rattle.chip.specs.Questions.{lowest}
 use Rattle.chip.specs.declared.Core.{Core}
 use Rattle.sequence.specs.Sequence.{lowest_shown, touches}
-
-pub low_bit : (v : ℕ) → bit_and v 1 ≡ bit_of 0 v
-low_bit v =
-    let same : v % 2 ≡ bit_of 0 v = omega arith in
-    and_mask v 1 ∙ same
 
 bit_most : (b : Bool) → bit b ≤ 1
 bit_most true = omega arith

@@ -69,11 +69,6 @@ pub record Onward (P : Part) (i left : ℕ) (d₀ : FrameBench) (n : ℕ) (d : F
   pub counts : n + sent (polls_on P i (left - n) d) ≡ sent (polls_on P i left d₀)
 
 module _ (P : Part) (i left : ℕ) (d₀ : FrameBench) where
-  pub onward_first : Onward P i left d₀ 0 d₀
-  onward_first =
-      let all : left - 0 ≡ left = omega arith in
-      record { leaves = ap (λ (k : ℕ). acted_all P (polls_on P i k d₀) d₀) all; counts = rw all (omega arith) }
-
   pub onward_next : (n : ℕ) (d d' : FrameBench) → d' ≡ acted_all P (late_poll i d) d → n < left → running d.core ≡ true
       → Onward P i left d₀ n d → Onward P i left d₀ (n + 1) d'
   onward_next n d d' e h r o =

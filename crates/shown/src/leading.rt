@@ -12,15 +12,14 @@ pub fn undriven(part: u8, i: Instruction, ran: bool, bits: usize) -> usize
     ensures { result ≡ undriven (part_of part) i ran bits }
 {
     match i {
-        Instruction::Wren => bits,
-        Instruction::Wrdi => bits,
         Instruction::Rdsr => at_most(8, bits),
-        Instruction::Wrsr => bits,
-        Instruction::Read => read_undriven(part, ran, bits),
-        Instruction::Write => bits,
-        Instruction::Rdid => read_undriven(part, ran, bits),
-        Instruction::Wrid => bits,
-        Instruction::Silence => bits,
+        Instruction::Read | Instruction::Rdid => read_undriven(part, ran, bits),
+        Instruction::Wren
+        | Instruction::Wrdi
+        | Instruction::Wrsr
+        | Instruction::Write
+        | Instruction::Wrid
+        | Instruction::Silence => bits,
     }
 }
 
@@ -30,5 +29,5 @@ fn read_undriven(part: u8, ran: bool, bits: usize) -> usize
     if ran {
         return bits;
     }
-    at_most(8 * head_of(part) as usize, bits)
+    at_most(8 * usize::from(head_of(part)), bits)
 }

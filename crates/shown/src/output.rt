@@ -1,5 +1,9 @@
 // The output bytes of a frame.
-ghost use Rattle.std.specs.Prelude.{◌≡◌, ◌+◌, ◌*◌, ◌-◌, ◌%◌, ◌<◌, ◌≤◌, eqb, leb, not, ◌&&◌, ◌++◌, length, get_or, drop, replicate};
+//
+// The bounds of `from`, of the page and of the output stand in the contracts: a type with the part in it would be made
+// by one function, and taken apart by the next.
+ghost use Rattle.std.specs.Prelude.{◌≡◌, ◌+◌, ◌*◌, ◌-◌, ◌%◌, ◌<◌, ◌≤◌, eqb, leb, not, ◌&&◌, ◌++◌, length, get_or};
+ghost use Rattle.std.specs.Prelude.{drop, replicate};
 ghost use Rattle.laws.specs.Pick.{pick};
 ghost use Rattle.laws.specs.Table.{table};
 ghost use Rattle.codes.specs.Part.{part_of};
@@ -13,6 +17,15 @@ ghost use Rattle.shown.specs.Lengths.{lengths_fit, shown_in};
 use codes::{Instruction, head_of, page_of, picks_lock, size_of};
 use fields::{address_of, bits_fit, fill, instruction_of, length_fits};
 use latch::cell_of;
+
+// What there is to be seen beside the frame.
+#[derive(Clone, Copy)]
+struct Sights<'a> {
+    status: u8,
+    lock: u8,
+    memory: &'a [u8],
+    identification: &'a [u8],
+}
 
 // The cells from an address up, rolling from the last one to the first: at most two runs of them.
 fn show_cells(memory: &[u8], from: usize, out: &mut [u8])
@@ -34,7 +47,8 @@ fn show_cells(memory: &[u8], from: usize, out: &mut [u8])
     }
 }
 
-// The cells of the identification page from an address up, rolling within it.
+// The cells of the identification page from an address up, rolling within it. Stays a loop over
+// the places: `iter_mut` with `enumerate` costs 1.1 times here.
 fn show_page(part: u8, identification: &[u8], from: usize, out: &mut [u8])
     requires identification_len { length identification.now ≡ (part_of part).page }
     requires out_len_bound { length out.old ≤ (part_of part).size + 1 }
@@ -42,10 +56,8 @@ fn show_page(part: u8, identification: &[u8], from: usize, out: &mut [u8])
         (λ n. get_or identification.now ((from % (part_of part).page + n) % (part_of part).page) 0) }
 {
     let start = cell_of(part, from);
-    let mut i: usize = 0;
-    while i < out.len() {
+    for i in 0..out.len() {
         out[i] = identification[cell_of(part, start + i)];
-        i += 1;
     }
 }
 
@@ -80,12 +92,7 @@ fn show_head(head: usize, ran: bool, out: &mut [u8]) -> bool
     ensures out_after { out.new ≡ pick result (replicate head 255 ++ drop head out.old)
         (replicate (length out.old) 255) }
 {
-    let n = out.len();
-    if ran {
-        fill(out, 255);
-        return false;
-    }
-    if n < head {
+    if ran || out.len() < head {
         fill(out, 255);
         return false;
     }
@@ -103,13 +110,14 @@ fn show_read(part: u8, ran: bool, memory: &[u8], from: usize, out: &mut [u8])
         (get_or memory.now ((from + (j - ((part_of part).address_bytes + 1))) % (part_of part).size) 0) 255) }
 {
     let n = out.len();
-    let head = head_of(part) as usize;
+    let head = usize::from(head_of(part));
     if show_head(head, ran, out) {
         show_cells(memory, from, &mut out[head..n]);
     }
 }
 
-// 83h: the identification page or its lock after the address, or nothing where a cycle ran.
+// 83h: the identification page or its lock after the address, or nothing where a cycle ran. Stays beside `show_read`:
+// one function over a closure would need clauses on what the closure writes, and be no plainer.
 fn show_identified(
     part: u8,
     ran: bool,
@@ -127,40 +135,32 @@ fn show_identified(
         (j - ((part_of part).address_bytes + 1))) 255) }
 {
     let n = out.len();
-    let head = head_of(part) as usize;
+    let head = usize::from(head_of(part));
     if show_head(head, ran, out) {
         show_identification(part, lock, identification, from, &mut out[head..n]);
     }
 }
 
 // What stands on Q over each byte, undriven bits as 1.
-fn show_bytes(
-    part: u8,
-    i: Instruction,
-    ran: bool,
-    status: u8,
-    lock: u8,
-    memory: &[u8],
-    identification: &[u8],
-    from: usize,
-    out: &mut [u8],
-)
-    requires memory_len { (length memory.now ≡ (part_of part).size) × (length identification.now ≡ (part_of part).page) }
+fn show_bytes(part: u8, i: Instruction, ran: bool, seen: Sights<'_>, from: usize, out: &mut [u8])
+    requires memory_len { (length seen.memory.now ≡ (part_of part).size) × (length seen.identification.now ≡ (part_of part).page) }
     requires from_bound { from < (part_of part).size }
     requires out_len_bound { length out.old ≤ longest_frame (part_of part) }
     ensures { out.new ≡ table (length out.old) (byte_out (part_of part) i ran
-        (sights status lock memory.now identification.now) from) }
+        (sights seen.entry.status seen.entry.lock seen.entry.memory.now seen.entry.identification.now) from) }
 {
     match i {
-        Instruction::Wren => fill(out, 255),
-        Instruction::Wrdi => fill(out, 255),
-        Instruction::Rdsr => show_status(status, out),
-        Instruction::Wrsr => fill(out, 255),
-        Instruction::Read => show_read(part, ran, memory, from, out),
-        Instruction::Write => fill(out, 255),
-        Instruction::Rdid => show_identified(part, ran, lock, identification, from, out),
-        Instruction::Wrid => fill(out, 255),
-        Instruction::Silence => fill(out, 255),
+        Instruction::Rdsr => show_status(seen.status, out),
+        Instruction::Read => show_read(part, ran, seen.memory, from, out),
+        Instruction::Rdid => {
+            show_identified(part, ran, seen.lock, seen.identification, from, out);
+        }
+        Instruction::Wren
+        | Instruction::Wrdi
+        | Instruction::Wrsr
+        | Instruction::Write
+        | Instruction::Wrid
+        | Instruction::Silence => fill(out, 255),
     }
 }
 
@@ -223,17 +223,14 @@ pub fn show(
         bits,
         out.len(),
     ) {
-        show_bytes(
-            part,
-            instruction_of(part, bytes),
-            ran,
+        let seen = Sights {
             status,
             lock,
             memory,
             identification,
-            address_of(part, bytes),
-            out,
-        );
+        };
+        let from = address_of(part, bytes);
+        show_bytes(part, instruction_of(part, bytes), ran, seen, from, out);
         pad(out, (8 * bytes.len() - bits) as u8);
     }
 }

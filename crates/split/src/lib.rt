@@ -1,7 +1,7 @@
 // The split of a run of bytes into page parts, for the driver and, through the crates split_c and bench_c, for C
 // programs: how many parts a run has, and where part k, from 0, starts and how long it is. A page write stores into one
-// page, so a run that crosses an edge has to go as several. The chip is the number of one of the three; any other number
-// reads the M95512's sizes.
+// page, so a run that crosses an edge has to go as several. The chip is the number of one of the three; any other
+// number reads the M95512's sizes.
 //
 // Public calls, each for any four numbers: the refusal, the number of parts, the address and the length of one part.
 // The refusal is 7 where the run leaves the memory or has no such part, and the other three are 0 there.
@@ -69,13 +69,11 @@ fn end(chip: u8, address: u64, length: u64, part: u64) -> u64
 {
     let past = address + length;
     let edge = (page_number(chip, address) + (part + 1)) * page(chip);
-    if past < edge {
-        return past;
-    }
-    edge
+    past.min(edge)
 }
 
-// 7 where the run leaves the memory or has no such part, else 0.
+// 7 where the run leaves the memory or has no such part, else 0. The four stay numbers, 0 where there is none: the C
+// interface and `split_parts`, `split_address` and `split_length` hold them.
 pub fn cartvesper_split_refusal(chip: u8, address: u64, length: u64, part: u64) -> u64
     ensures { result ≡ split_refusal (part_of chip).size (part_of chip).page address length part }
 {

@@ -1,4 +1,5 @@
 -- The starred cases, computed, or gathered from the crates below.
+use Rattle.std.specs.Prelude.{Ok}
 use Prim.Native.Nat.{ℕ}
 use mathlib.Core.Bool.{Bool, true, false}
 use mathlib.Core.List.{List, [], ◌∷◌}
@@ -15,15 +16,12 @@ use Rattle.latch.specs.Latches.{zeros, stored}
 use Rattle.codes.specs.Instructions.{decode}
 use Rattle.codes.specs.Verdicts.{verdict_by}
 use Rattle.chip.specs.Ranges.{cycle_fits, in_ranges}
-use Rattle.codes.specs.Refusals.{is_done}
+use Rattle.codes.specs.Refusals.{Outcome, is_done, no_refusal}
 use Rattle.chip.specs.Time.{timed, timed_cells}
 use Rattle.chip.specs.Power.{delivered, delivered_memory, powered_up}
 use Rattle.chip.specs.Records.{idle}
-use Rattle.codes.specs.declared.Outcome.{Outcome}
-use Rattle.codes.specs.declared.Outcome.TheVariants.{Done}
 use Rattle.fields.specs.Bytes.{latched_from}
 use Rattle.shown.proofs.Cases.{case_f}
-use Rattle.frames.specs.declared.FrameReply.TheVariants.{Shown}
 use Rattle.frames.specs.Answers.{frame_outcome, frame_reply, framed, framed_output}
 use Rattle.split.proofs.Cases.{case_g_parts, case_g_addresses, case_g_lengths}
 use Rattle.driver_theorems.proofs.Cases.{case_h}
@@ -31,11 +29,11 @@ use Rattle.chip.proofs.Cases.{case_i, delivered_blanks}
 use Rattle.starred.specs.Starred.{bytes_f, powered, Starred}
 
 -- READ at FFFFh is not refused
-read_taken : (size cells room : ℕ) → size ≡ m95512.size → cells ≡ m95512.page → room ≡ 5 → frame_outcome m95512 (delivered 0) size cells 5 40 room ≡ Done
+read_taken : (size cells room : ℕ) → size ≡ m95512.size → cells ≡ m95512.page → room ≡ 5 → frame_outcome m95512 (delivered 0) size cells 5 40 room ≡ no_refusal
 unfolding part_of pick in_ranges each zeros bit_on
 read_taken size cells room e k r = rw (e, k, r) refl
 
-read_answer : (m d : List ℕ) → length m ≡ m95512.size → length d ≡ m95512.page → (framed m95512 (delivered 0) m d true bytes_f 40 5).answer ≡ Shown 24
+read_answer : (m d : List ℕ) → length m ≡ m95512.size → length d ≡ m95512.page → (framed m95512 (delivered 0) m d true bytes_f 40 5).answer ≡ Ok 24
 unfolding framed decode pick
 read_answer m d e k = ap (λ (o : Outcome). frame_reply o 24) (read_taken (length m) (length d) 5 e k refl)
 
@@ -46,7 +44,7 @@ read_rolls m d out e k r = at_yes _ _ (ap is_done (read_taken (length m) (length
 
 -- power-up over a blank memory counts every cell
 over_blank : (s b a : Bool) (t : ℕ)
-    → powered_up 0 false 5000 s b a t (delivered_memory m95512) ≡ record { outcome = Done; core = powered s b a t }
+    → powered_up 0 false 5000 s b a t (delivered_memory m95512) ≡ record { answer = no_refusal; core = powered s b a t }
 over_blank s b a t =
     let long : length (delivered_memory m95512) ≡ (part_of 0).size =
     length-replicate {A = ℕ} m95512.size 0xff ∙ sym (ap (λ (P : Part). P.size) row_plain) in
@@ -54,7 +52,7 @@ over_blank s b a t =
     at_yes _ _ (eq-eqb _ _ long)
     ∙ at_yes _ _ refl
     ∙ at_yes _ _ cycle
-    ∙ ap (λ (n : ℕ). record { outcome = Done; core = idle 0 false s b a 5000 t n }) (delivered_blanks m95512)
+    ∙ ap (λ (n : ℕ). record { answer = no_refusal; core = idle 0 false s b a 5000 t n }) (delivered_blanks m95512)
 
 pub starred : Starred
 unfolding part_of framed pick in_ranges each verdict_by decode latched_from zeros bit_on timed timed_cells stored table from

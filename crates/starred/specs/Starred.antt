@@ -1,22 +1,18 @@
 -- Document 01's cases with a star, a to i, in one statement, of what the public calls promise for every input, refusals
 -- included: `framed` and `framed_output`, `clock_reading` and `clock_memory`, `powered_up`, `status`, `protection`,
 -- `elapsed`, the numbers of the split, `driven`. As delivered, every cell is FFh and the cycle length 5,000.
-use Rattle.std.specs.Prelude.{ℕ, ◌*◌, ◌-◌, Bool, true, false, List, [], ◌∷◌, ◌++◌, ◌≡◌, length, get_or}
+use Rattle.std.specs.Prelude.{ℕ, ◌*◌, ◌-◌, Bool, true, false, List, [], ◌∷◌, ◌++◌, ◌≡◌, length, get_or, Ok}
 use Rattle.laws.specs.Table.{table}
 use Rattle.codes.specs.Part.{m95512}
-use Rattle.codes.specs.Refusals.{number}
-use Rattle.codes.specs.declared.Outcome.TheVariants as outcome
+use Rattle.codes.specs.Refusals.{number, no_refusal}
 use Rattle.chip.specs.Records.{status, idle}
 use Rattle.chip.specs.Time.{elapsed, clock_reading, clock_memory, clock_identification}
 use Rattle.chip.specs.Power.{delivered, delivered_memory, delivered_identification, powered_up}
 use Rattle.chip.specs.Questions.{protection}
 use Rattle.chip.specs.declared.Core.{Core}
-use Rattle.chip.specs.declared.Protection.TheVariants.{Open, Protected}
-use Rattle.frames.specs.declared.FrameReply.TheVariants.{Shown}
-use Rattle.frames.specs.Answers.{frame_reply_number, framed, framed_output}
+use Rattle.frames.specs.Answers.{framed, framed_output}
 use Rattle.frames.specs.Play.{Act, frame, reading, frame_bench}
 use Rattle.split.specs.Split.{split_parts, split_address, split_length}
-use Rattle.driver.specs.declared.RunReply.TheVariants.{Done}
 use Rattle.driver.specs.Answers.{driven}
 use Rattle.sequence.specs.Sequence.{run}
 use Rattle.sequence.specs.Counts.{page_polls}
@@ -39,10 +35,10 @@ abbrev pub called : List Act → Core → List ℕ → List ℕ → Called
 called [] c m d = record { numbers = []; core = c; memory = m; identification = d }
 called (frame w s n ∷ acts) c m d =
     let r = framed m95512 c m d w s n (length s) in
-    answered (frame_reply_number r.answer) (called acts r.core m d)
+    answered (number r.answer) (called acts r.core m d)
 called (reading t ∷ acts) c m d =
     let r = clock_reading m95512 t c m d in
-    answered (number r.outcome)
+    answered (number r.answer)
     (called acts r.core (clock_memory m95512 t c m d) (clock_identification m95512 t c m d))
 
 abbrev pub cells : List ℕ → List ℕ → List ℕ
@@ -98,7 +94,7 @@ pub record Starred : Type 0 where
   -- what power-up gives, of which d, e and i speak
   pub powered_up_law : (srwd bp1 bp0 : Bool) (t : ℕ)
       → powered_up 0 false 5000 srwd bp1 bp0 t (delivered_memory m95512)
-      ≡ record { outcome = outcome.Done; core = powered srwd bp1 bp0 t }
+      ≡ record { answer = no_refusal; core = powered srwd bp1 bp0 t }
   -- a: WREN, then 02 00 7E 11 22 33 44, then a cycle: 007Eh=11h, 007Fh=22h, 0000h=33h, 0001h=44h. The cell after it is
   -- as delivered
   pub a :
@@ -116,15 +112,15 @@ pub record Starred : Type 0 where
   -- d: BP 01: BFFFh is taken, C000h is not
   pub d_taken : left_after (wren ∷ write_one 0xbf 0xff ∷ []) upper_quarter ≡ (0 ∷ 0 ∷ [], 5000)
   pub d_not_taken : left_after (wren ∷ write_one 0xc0 0x00 ∷ []) upper_quarter ≡ (0 ∷ 0 ∷ [], 0)
-  pub d_open : protection m95512 upper_quarter 0xbfff ≡ Open
-  pub d_protected : protection m95512 upper_quarter 0xc000 ≡ Protected
+  pub d_open : protection m95512 upper_quarter 0xbfff ≡ Ok false
+  pub d_protected : protection m95512 upper_quarter 0xc000 ≡ Ok true
   -- e: SRWD, BP1, BP0 all 1, idle: 8Ch; with WEL 8Eh; in a cycle 8Fh
   pub e_idle : status_after [] all_bits_set ≡ ([], 0x8c)
   pub e_wel : status_after (wren ∷ []) all_bits_set ≡ (0 ∷ [], 0x8e)
   pub e_cycle : status_after (wren ∷ frame true (0x01 ∷ 0x8c ∷ []) 16 ∷ []) all_bits_set ≡ (0 ∷ 0 ∷ [], 0x8f)
   -- f: READ at FFFFh for two bytes gives cells FFFFh and 0000h, of any memory. The code and the address are undriven
   pub f_answer : (m d : List ℕ) → length m ≡ m95512.size → length d ≡ m95512.page
-      → (framed m95512 (delivered 0) m d true bytes_f 40 5).answer ≡ Shown 24
+      → (framed m95512 (delivered 0) m d true bytes_f 40 5).answer ≡ Ok 24
   pub f_output : (m d out : List ℕ) → length m ≡ m95512.size → length d ≡ m95512.page → length out ≡ 5
       → framed_output m95512 (delivered 0) m d bytes_f 40 out
       ≡ 0xff ∷ 0xff ∷ 0xff ∷ get_or m 0xffff 0 ∷ get_or m 0x0000 0 ∷ []
@@ -135,9 +131,9 @@ pub record Starred : Type 0 where
   -- h: that write, idle, cycle 5,000, interval 1,000: 29 frames. Interval 700: 8 polls a page. Whatever the bytes and
   -- the memory. The polls are those of the run that `driven` answers for; its frames at 700 are 1 + 4 · (2 + 8)
   pub h_1000 : (m d bytes : List ℕ) → length m ≡ m95512.size → length d ≡ m95512.page → length bytes ≡ 300
-      → (driven m95512 (delivered 0) m d 100 bytes 1000 5001).answer ≡ Done (record { pages = 4; frames = 29 })
+      → (driven m95512 (delivered 0) m d 100 bytes 1000 5001).answer ≡ Ok (record { pages = 4; frames = 29 })
   pub h_700 : (m d bytes : List ℕ) → length m ≡ m95512.size → length d ≡ m95512.page → length bytes ≡ 300
-      → (driven m95512 (delivered 0) m d 100 bytes 700 5001).answer ≡ Done (record { pages = 4; frames = 41 })
+      → (driven m95512 (delivered 0) m d 100 bytes 700 5001).answer ≡ Ok (record { pages = 4; frames = 41 })
   pub h_polls : (m d bytes : List ℕ) → length m ≡ m95512.size → length d ≡ m95512.page → length bytes ≡ 300
       → page_polls (run m95512 700 5001 100 bytes (frame_bench (delivered 0) m d)).acts ≡ 8 ∷ 8 ∷ 8 ∷ 8 ∷ []
   -- i: old reading 4294967290, new 10: 16 elapsed. So much less is left of a cycle that began at the old one

@@ -1,6 +1,7 @@
 -- The calls for C on records and devices that are equal but for the number of blank cells, both numbers inside their range: the same numbers and values, and
 -- records that are equal but for the number. What is lent to them and their output are those of the calls of `BlindFrames`, `BlindTimed`, `BlindRuns`,
 -- `BlindDevices` and `BlindTexts`.
+use Rattle.codes.specs.Refusals.{number, value_of}
 use mathlib.Core.Path.{◌≡◌, refl, ap, ap₂, ◌∙◌}
 use mathlib.Core.Bool.{Bool, true, false}
 use mathlib.Core.List.{List}
@@ -17,7 +18,7 @@ use Rattle.chip.specs.Questions.{lowest, protects}
 use Rattle.chip.specs.Blanks.{EqualBut}
 use Rattle.chip.specs.Time.{lent_fits}
 use Rattle.chip.specs.declared.Core.{Core}
-use Rattle.frames.specs.Answers.{frame_reply_number, frame_reply_undriven, framed}
+use Rattle.frames.specs.Answers.{framed}
 use Rattle.timed_frames.specs.Answers.{framed_in_time}
 use Rattle.driver.specs.Answers.{run_reply_number, run_reply_pages, run_reply_frames}
 use Rattle.intel_hex.specs.Answers.{takes}
@@ -105,14 +106,14 @@ module _ (P : Part) (c d : Core) (a : Alike P c d) where
   frames : (m i : List ℕ) (w : Bool) (u : Bool) (bad : ℕ) (s : List ℕ) (n room : ℕ)
       → let by : Core → FrameAnswer = λ (x : Core).
       let r = framed P x m i w s n room in
-      pick u (record { number = frame_reply_number r.answer; undriven = frame_reply_undriven r.answer; core = r.core })
+      pick u (record { number = number r.answer; undriven = value_of r.answer; core = r.core })
       (record { number = bad; undriven = 0; core = x }) in
       FrameAnswerEqualBut (by c) (by d)
   unfolding pick
   frames m i w true bad s n room =
       record {
-        number = ap frame_reply_number (frame_blind P c d a m i w s n room);
-        undriven = ap frame_reply_undriven (frame_blind P c d a m i w s n room);
+        number = ap number (frame_blind P c d a m i w s n room);
+        undriven = ap value_of (frame_blind P c d a m i w s n room);
         core = frame_core_blind P c d a m i w s n room;
       }
   frames m i w false bad s n room = record { number = refl; undriven = refl; core = a.same }
@@ -124,14 +125,14 @@ module _ (P : Part) (c d : Core) (a : Alike P c d) where
   timed_frames : (m : Lent) (w : Bool) (u : Bool) (bad : ℕ) (s : List ℕ) (n : ℕ) (ps ts : List ℕ) (room : ℕ)
       → let by : Core → FrameAnswer = λ (x : Core).
       let r = framed_in_time P x m w s n ps ts room in
-      pick u (record { number = frame_reply_number r.answer; undriven = frame_reply_undriven r.answer; core = r.core })
+      pick u (record { number = number r.answer; undriven = value_of r.answer; core = r.core })
       (record { number = bad; undriven = 0; core = x }) in
       FrameAnswerEqualBut (by c) (by d)
   unfolding pick
   timed_frames m w true bad s n ps ts room =
       record {
-        number = ap frame_reply_number (timed_frame_blind P c d a m w s n ps ts room);
-        undriven = ap frame_reply_undriven (timed_frame_blind P c d a m w s n ps ts room);
+        number = ap number (timed_frame_blind P c d a m w s n ps ts room);
+        undriven = ap value_of (timed_frame_blind P c d a m w s n ps ts room);
         core = timed_core_blind P c d a m w s n ps ts room;
       }
   timed_frames m w false bad s n ps ts room = record { number = refl; undriven = refl; core = a.same }

@@ -1,5 +1,6 @@
 -- The public calls of the pin model on devices that are equal but for the number of blank cells, both numbers inside their range: the same outcome, the same
 -- answer to each question, the same lent cells and the same output, and devices that are equal but for the number.
+use Rattle.std.specs.Prelude.{Err, Ok}
 use mathlib.Core.Path.{◌≡◌, refl, ap, ap₂, ◌∙◌}
 use mathlib.Core.Bool.{Bool, true, false, ◌&&◌}
 use mathlib.Core.List.{List}
@@ -8,9 +9,8 @@ use lib.Dec.{eqb}
 use lib.ListN.{length}
 use Rattle.laws.specs.Pick.{pick}
 use Rattle.codes.specs.Part.{Part}
-use Rattle.codes.specs.Refusals.{is_done}
-use Rattle.codes.specs.declared.Outcome.{Outcome}
-use Rattle.codes.specs.declared.Outcome.TheVariants as outcome
+use Rattle.codes.specs.Refusals.{is_done, no_refusal}
+use Rattle.codes.specs.Refusals.{Outcome}
 use Rattle.codes.specs.declared.Refusal.TheVariants.{MemoryLength, RecordRange, OutputLength}
 use Rattle.chip.specs.Lents.{Lent}
 use Rattle.chip.specs.Records.{status}
@@ -20,8 +20,6 @@ use Rattle.edges.specs.Ranges.{frame_fits}
 use Rattle.edges.specs.declared.Level.{Level}
 use Rattle.pins.specs.declared.Device.{Device}
 use Rattle.pins.specs.declared.Event.{Event}
-use Rattle.pins.specs.declared.QAnswer.TheVariants as q-answer
-use Rattle.pins.specs.declared.StatusAnswer.TheVariants as status-answer
 use Rattle.pins.specs.Devices.{device_part, resting}
 use Rattle.cuts.specs.Cuts.{cut_cells}
 use Rattle.cuts.specs.declared.Choice.{Choice}
@@ -60,11 +58,11 @@ module _ (P : Part) (x y : Device) (a : DeviceAlike P x y) where
 
   pub q_answer_blind : q_answer P x ≡ q_answer P y
   q_answer_blind =
-      ap₂ (λ (r : Bool) (l : Level). pick r (q-answer.Shows l) (q-answer.Refused RecordRange)) fits_blind (q_blind x y a.same)
+      ap₂ (λ (r : Bool) (l : Level). pick r (Ok l) (Err RecordRange)) fits_blind (q_blind x y a.same)
 
   pub status_answer_blind : status_answer P x ≡ status_answer P y
   status_answer_blind =
-      ap₂ (λ (r : Bool) (z : Device). pick r (status-answer.Byte (status z.core)) (status-answer.Refused RecordRange)) fits_blind a.same
+      ap₂ (λ (r : Bool) (z : Device). pick r (Ok (status z.core)) (Err RecordRange)) fits_blind a.same
 
   pub touched_answer_blind : touched_answer (device_fits P x) x.core ≡ touched_answer (device_fits P y) y.core
   touched_answer_blind = ap₂ (λ (r : Bool) (z : Device). touched_answer r z.core) fits_blind a.same
@@ -72,11 +70,11 @@ module _ (P : Part) (x y : Device) (a : DeviceAlike P x y) where
   -- ---- an event: S, D, W and HOLD go by the record's outcome, C and the clock by the memory's
 
   pub record_outcome_blind : record_outcome P x ≡ record_outcome P y
-  record_outcome_blind = ap (λ (r : Bool). pick r outcome.Done (outcome.Refused RecordRange)) fits_blind
+  record_outcome_blind = ap (λ (r : Bool). pick r no_refusal (Err RecordRange)) fits_blind
 
   pub memory_outcome_blind : (m : Lent) → memory_outcome P x m ≡ memory_outcome P y m
   memory_outcome_blind m =
-      ap (λ (o : Outcome). pick (lent_fits P (length m.memory) (length m.identification)) o (outcome.Refused MemoryLength)) record_outcome_blind
+      ap (λ (o : Outcome). pick (lent_fits P (length m.memory) (length m.identification)) o (Err MemoryLength)) record_outcome_blind
 
   answer_blind : (o p : Outcome) → o ≡ p → (x' y' : Device) → DeviceEqualBut x' y' → DeviceEqualBut (answer o x' x).device (answer p y' y).device
   answer_blind o p e x' y' h =
@@ -118,8 +116,8 @@ module _ (P : Part) (x y : Device) (a : DeviceAlike P x y) where
     pub play_outcome_blind : play_outcome P x m es (length out) ≡ play_outcome P y m es (length out)
     play_outcome_blind =
         ap (λ (r : Bool). pick (lent_fits P (length m.memory) (length m.identification))
-        (pick r (pick (are_events es) (pick (eqb (length out) (length es)) outcome.Done (outcome.Refused OutputLength)) (outcome.Refused RecordRange))
-        (outcome.Refused RecordRange)) (outcome.Refused MemoryLength))
+        (pick r (pick (are_events es) (pick (eqb (length out) (length es)) no_refusal (Err OutputLength)) (Err RecordRange))
+        (Err RecordRange)) (Err MemoryLength))
         fits_blind
 
     benches : PinBenchEqualBut (bench_with x m) (bench_with y m)

@@ -1,5 +1,6 @@
 -- Of records that are equal but for the number of blank cells every rule of the record and of the frame model gives what is equal but for it: the ranges
 -- (with both numbers inside theirs), the questions, a reading, a supply cut, a frame with its output, and any list of frames and readings.
+use Rattle.std.specs.Prelude.{Err, Ok}
 use mathlib.Core.Path.{◌≡◌, ap, ap₂, sym, ◌∙◌}
 use mathlib.Core.Bool.{Bool, true, false}
 use mathlib.Core.List.{List, [], ◌∷◌}
@@ -9,14 +10,11 @@ use lib.Dec.{eqb, leb, ltb}
 use lib.ListN.{length, get_or}
 use Rattle.laws.specs.Pick.{pick, pick_ap}
 use Rattle.codes.specs.Part.{Part}
-use Rattle.codes.specs.Refusals.{is_done}
+use Rattle.codes.specs.Refusals.{is_done, no_refusal}
 use Rattle.codes.specs.Verdicts.{is_executed}
-use Rattle.codes.specs.declared.Outcome.{Outcome}
-use Rattle.codes.specs.declared.Outcome.TheVariants as outcome
+use Rattle.codes.specs.Refusals.{Outcome}
 use Rattle.codes.specs.declared.Refusal.TheVariants.{MemoryLength, RecordRange, FrameLength, BitCount, OutputLength, AddressRange}
 use Rattle.chip.specs.declared.Core.{Core}
-use Rattle.chip.specs.declared.ProtectedFrom.TheVariants as start
-use Rattle.chip.specs.declared.Protection.TheVariants.{Open, Protected, Refused}
 use Rattle.chip.specs.Records.{running, status, lock_byte, waits_page, waits_identification, with_blank}
 use Rattle.chip.specs.Ranges.{in_ranges}
 use Rattle.chip.specs.Questions.{lowest, protects, protected_from, protection}
@@ -53,11 +51,11 @@ module _ (P : Part) (c d : Core) (a : Alike P c d) where
   -- the questions
   pub protected_from_blind : protected_from P c ≡ protected_from P d
   protected_from_blind =
-      ap₂ (λ (r : Bool) (x : Core). pick r (start.Address (lowest P x)) (start.Refused RecordRange)) ranges_blind a.same
+      ap₂ (λ (r : Bool) (x : Core). pick r (Ok (lowest P x)) (Err RecordRange)) ranges_blind a.same
 
   pub protection_blind : (n : ℕ) → protection P c n ≡ protection P d n
   protection_blind n =
-      ap₂ (λ (r : Bool) (x : Core). pick r (pick (ltb n P.size) (pick (protects P x n) Protected Open) (Refused AddressRange)) (Refused RecordRange))
+      ap₂ (λ (r : Bool) (x : Core). pick r (pick (ltb n P.size) (Ok (protects P x n)) (Err AddressRange)) (Err RecordRange))
       ranges_blind a.same
 
   pub touched_blind : touched_answer (in_ranges P c) c ≡ touched_answer (in_ranges P d) d
@@ -70,10 +68,10 @@ module _ (P : Part) (c d : Core) (a : Alike P c d) where
   module _ (t : ℕ) (m i : List ℕ) where
     outcome_blind : reading_outcome P c m i ≡ reading_outcome P d m i
     outcome_blind =
-        ap (λ (r : Bool). pick (lent_fits P (length m) (length i)) (pick r outcome.Done (outcome.Refused RecordRange)) (outcome.Refused MemoryLength))
+        ap (λ (r : Bool). pick (lent_fits P (length m) (length i)) (pick r no_refusal (Err RecordRange)) (Err MemoryLength))
         ranges_blind
 
-    pub reading_outcome_blind : (clock_reading P t c m i).outcome ≡ (clock_reading P t d m i).outcome
+    pub reading_outcome_blind : (clock_reading P t c m i).answer ≡ (clock_reading P t d m i).answer
     reading_outcome_blind = outcome_blind
 
     pub reading_blind : EqualBut (clock_reading P t c m i).core (clock_reading P t d m i).core
@@ -120,8 +118,8 @@ module _ (P : Part) (c d : Core) (a : Alike P c d) (m i : List ℕ) where
   frame_outcome_blind : (len n room : ℕ) → frame_outcome P c (length m) (length i) len n room ≡ frame_outcome P d (length m) (length i) len n room
   frame_outcome_blind len n room =
       ap (λ (r : Bool). pick (lent_fits P (length m) (length i)) (pick r
-      (pick (leb len (longest_frame P)) (pick (bits_fit len n) (pick (eqb room len) outcome.Done (outcome.Refused OutputLength)) (outcome.Refused BitCount))
-      (outcome.Refused FrameLength)) (outcome.Refused RecordRange)) (outcome.Refused MemoryLength))
+      (pick (leb len (longest_frame P)) (pick (bits_fit len n) (pick (eqb room len) no_refusal (Err OutputLength)) (Err BitCount))
+      (Err FrameLength)) (Err RecordRange)) (Err MemoryLength))
       (ranges_blind P c d a)
 
   module _ (w : Bool) (s : List ℕ) (n : ℕ) where

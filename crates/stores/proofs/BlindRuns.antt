@@ -1,5 +1,6 @@
 -- The driver from benches that are equal but for the number of blank cells: it sends the same frames, answers the same, and leaves the same but for the
 -- number.
+use Rattle.std.specs.Prelude.{Err, Ok}
 use mathlib.Core.Path.{◌≡◌, refl, ap, ap₂, ◌∙◌}
 use mathlib.Core.Bool.{Bool}
 use mathlib.Core.List.{List, [], ◌∷◌, ◌++◌}
@@ -8,9 +9,8 @@ use lib.Dec.{eqb, leb}
 use lib.ListN.{length}
 use Rattle.laws.specs.Pick.{pick}
 use Rattle.codes.specs.Part.{Part}
-use Rattle.codes.specs.Refusals.{is_done}
-use Rattle.codes.specs.declared.Outcome.{Outcome}
-use Rattle.codes.specs.declared.Outcome.TheVariants as outcome
+use Rattle.codes.specs.Refusals.{is_done, no_refusal}
+use Rattle.codes.specs.Refusals.{Outcome}
 use Rattle.codes.specs.declared.Refusal.TheVariants.{MemoryLength, RecordRange, AddressRange, PollRange}
 use Rattle.chip.specs.declared.Core.{Core}
 use Rattle.chip.specs.Records.{running, with_blank}
@@ -101,8 +101,8 @@ module _ (P : Part) (c d : Core) (e : Alike P c d) (m x : List ℕ) (a : ℕ) (b
   outcome_blind : drive_outcome P c (length m) (length x) a (length bytes) i limit ≡ drive_outcome P d (length m) (length x) a (length bytes) i limit
   outcome_blind =
       ap (λ (r : Bool). pick (lent_fits P (length m) (length x)) (pick r
-      (pick (leb (a + length bytes) P.size) (pick (polls_fit P i limit) outcome.Done (outcome.Refused PollRange)) (outcome.Refused AddressRange))
-      (outcome.Refused RecordRange)) (outcome.Refused MemoryLength))
+      (pick (leb (a + length bytes) P.size) (pick (polls_fit P i limit) no_refusal (Err PollRange)) (Err AddressRange))
+      (Err RecordRange)) (Err MemoryLength))
       (ranges_blind P c d e)
 
   same_run : run P i limit a bytes from_c ≡ run P i limit a bytes from_d

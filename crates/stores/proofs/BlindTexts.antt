@@ -16,10 +16,12 @@ use Rattle.chip.specs.Ranges.{in_ranges}
 use Rattle.chip.specs.Blanks.{EqualBut}
 use Rattle.chip.specs.Time.{lent_fits}
 use Rattle.chip.specs.declared.Core.{Core}
-use Rattle.intel_hex.specs.declared.HexReply.TheVariants.{Done, NotTaken, Refused}
-use Rattle.intel_hex.specs.declared.Imported.{Imported}
+use Rattle.std.proofs.Common.{Ok, Err}
+use Rattle.intel_hex.specs.declared.HexError.TheVariants.{NotTaken, Refused}
+use Rattle.intel_hex.specs.Numbers.{Imported}
 use Rattle.intel_hex.specs.Writing.{image_text, image_room}
 use Rattle.intel_hex.specs.Answers.{imaged, export_reply, export_output, takes, imported_cells, imported_to, import_answer, import_memory}
+use Rattle.intel_hex.specs.Numbers.{HexAnswer}
 use Rattle.pins.specs.declared.Device.{Device}
 use Rattle.pins.specs.Devices.{device_part}
 use Rattle.pins.specs.Ranges.{device_fits}
@@ -48,7 +50,7 @@ module _ (P : Part) (c d : Core) (a : Alike (own_part c) c d) (m : List ℕ) whe
   pub export_blind : (n : ℕ) → export_reply P c m n ≡ export_reply P d m n
   export_blind n =
       ap₂ (λ (r : Bool) (x : Core). pick (eqb (length m) (own_part x).size)
-      (pick r (pick (imaged P x) (pick (eqb n (image_room P)) Done (Refused OutputLength)) NotTaken) (Refused RecordRange)) (Refused MemoryLength)) own a.same
+      (pick r (pick (imaged P x) (pick {A = HexAnswer} (eqb n (image_room P)) (Ok tt) (Err (Refused OutputLength))) (Err NotTaken)) (Err (Refused RecordRange))) (Err (Refused MemoryLength))) own a.same
 
   pub export_output_blind : (out : List ℕ) → export_output P c m out ≡ export_output P d m out
   export_output_blind out =
@@ -59,8 +61,8 @@ module _ (P : Part) (c d : Core) (a : Alike (own_part c) c d) (m : List ℕ) whe
     -- the answers are equal once the records' numbers are
     imports : (u v w : Bool) (x y : Core) → EqualBut x y
         → let by : Core → Imported = λ (z : Core). pick u
-        (pick v (pick w (imported_to Done (with_blank (blanks (imported_cells P m t)) z)) (imported_to NotTaken z))
-        (imported_to (Refused RecordRange) z)) (imported_to (Refused MemoryLength) z) in
+        (pick v (pick w (imported_to (Ok tt) (with_blank (blanks (imported_cells P m t)) z)) (imported_to (Err NotTaken) z))
+        (imported_to (Err (Refused RecordRange)) z)) (imported_to (Err (Refused MemoryLength)) z) in
         ((by x).answer ≡ (by y).answer) × EqualBut (by x).core (by y).core
     unfolding pick
     imports true true true x y e = (refl, e)
@@ -69,12 +71,12 @@ module _ (P : Part) (c d : Core) (a : Alike (own_part c) c d) (m : List ℕ) whe
     imports false v w x y e = (refl, e)
 
     same : import_answer P d m t ≡ pick (eqb (length m) (own_part c).size) (pick (in_ranges (own_part c) c)
-        (pick (takes P c t) (imported_to Done (with_blank (blanks (imported_cells P m t)) d)) (imported_to NotTaken d)) (imported_to (Refused RecordRange) d))
-        (imported_to (Refused MemoryLength) d)
+        (pick (takes P c t) (imported_to (Ok tt) (with_blank (blanks (imported_cells P m t)) d)) (imported_to (Err NotTaken) d)) (imported_to (Err (Refused RecordRange)) d))
+        (imported_to (Err (Refused MemoryLength)) d)
     same =
         sym (ap₂ (λ (r : Bool) (x : Core). pick (eqb (length m) (own_part x).size) (pick r
-        (pick (takes P x t) (imported_to Done (with_blank (blanks (imported_cells P m t)) d)) (imported_to NotTaken d)) (imported_to (Refused RecordRange) d))
-        (imported_to (Refused MemoryLength) d)) own a.same)
+        (pick (takes P x t) (imported_to (Ok tt) (with_blank (blanks (imported_cells P m t)) d)) (imported_to (Err NotTaken) d)) (imported_to (Err (Refused RecordRange)) d))
+        (imported_to (Err (Refused MemoryLength)) d)) own a.same)
 
     pub import_blind : ((import_answer P c m t).answer ≡ (import_answer P d m t).answer) × EqualBut (import_answer P c m t).core (import_answer P d m t).core
     import_blind =

@@ -1,5 +1,6 @@
 -- Of records that are equal but for the number of blank cells a frame with readings inside gives what is equal but for it: the call's answer, record,
 -- memory, identification page and output, and any list of such frames, of readings and of supply cuts.
+use Rattle.std.specs.Prelude.{Err, Ok}
 use mathlib.Core.Path.{◌≡◌, refl, ap, ap₂, subst, fun_ext, ◌∙◌}
 use mathlib.Core.Bool.{Bool, true, false, ◌&&◌}
 use mathlib.Core.List.{List, [], ◌∷◌}
@@ -8,9 +9,8 @@ use lib.Dec.{eqb, leb}
 use lib.ListN.{length, take}
 use Rattle.laws.specs.Pick.{pick}
 use Rattle.codes.specs.Part.{Part}
-use Rattle.codes.specs.Refusals.{is_done}
-use Rattle.codes.specs.declared.Outcome.{Outcome}
-use Rattle.codes.specs.declared.Outcome.TheVariants as outcome
+use Rattle.codes.specs.Refusals.{is_done, no_refusal}
+use Rattle.codes.specs.Refusals.{Outcome}
 use Rattle.codes.specs.declared.Refusal.TheVariants.{MemoryLength, RecordRange, FrameLength, BitCount, OutputLength}
 use Rattle.chip.specs.declared.Core.{Core}
 use Rattle.chip.specs.Lents.{Lent}
@@ -98,8 +98,8 @@ module _ (P : Part) (c d : Core) (a : Alike P c d) (m : Lent) (w : Bool) (s : Li
   in_time_outcome_blind room =
       ap (λ (r : Bool). pick (lent_fits P (length m.memory) (length m.identification)) (pick r
       (pick (leb (length s) (longest_frame P)) (pick (bits_fit (length s) n && places_fit n ps ts)
-      (pick (eqb room (length s)) outcome.Done (outcome.Refused OutputLength)) (outcome.Refused BitCount))
-      (outcome.Refused FrameLength)) (outcome.Refused RecordRange)) (outcome.Refused MemoryLength))
+      (pick (eqb room (length s)) no_refusal (Err OutputLength)) (Err BitCount))
+      (Err FrameLength)) (Err RecordRange)) (Err MemoryLength))
       (ranges_blind P c d a)
 
   -- its answer

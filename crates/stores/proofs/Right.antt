@@ -1,5 +1,7 @@
 -- A call that is given a record with the right number of blank cells for its memory hands one back: each call that is lent the memory, any list of frames
 -- and readings, with readings inside the frames and supply cuts too, any list of events, a driver's run, import, power-up, a chunk of a text.
+use Rattle.codes.specs.declared.Refusal.{Refusal}
+use Rattle.std.specs.Prelude.{Err, Ok}
 use mathlib.Core.Path.{◌≡◌, refl, sym, ◌∙◌}
 use mathlib.Core.Bool.{Bool, true, false, true≢false}
 use mathlib.Core.List.{List, [], ◌∷◌}
@@ -10,15 +12,14 @@ use borrow.Author.Tests.{eq-eqb}
 use native.Mathlib.Omega.{arith}
 use Rattle.laws.specs.Pick.{pick, pick_case}
 use Rattle.codes.specs.Part.{Part, part_of, is_part}
-use Rattle.codes.specs.Refusals.{is_done}
+use Rattle.codes.specs.Refusals.{is_done, no_refusal}
 use Rattle.codes.specs.Verdicts.{is_executed}
 use Rattle.codes.specs.Instructions.{decode}
-use Rattle.codes.specs.declared.Outcome.{Outcome}
-use Rattle.codes.specs.declared.Outcome.TheVariants as outcome
+use Rattle.codes.specs.Refusals.{Outcome}
 use Rattle.codes.specs.declared.Refusal.TheVariants.{MemoryLength, RecordRange, OutputLength, CycleLength}
 use Rattle.blanks.specs.Blanks.{blanks}
 use Rattle.chip.specs.declared.Core.{Core}
-use Rattle.chip.specs.declared.PoweredUp.{PoweredUp}
+use Rattle.chip.specs.declared.Answered.{Answered}
 use Rattle.chip.specs.Lents.{Lent, lent}
 use Rattle.chip.specs.Records.{own_part, running, waits_page, with_blank, idle}
 use Rattle.chip.specs.Ranges.{in_ranges, cycle_fits}
@@ -49,7 +50,8 @@ use Rattle.pins.specs.Answers.{PinBench, lent_to, after_event, played, answer, a
 use Rattle.pins_theorems.proofs.CellRule.{event_length}
 use Rattle.pins_theorems.proofs.Locks.{stepped_core}
 use Rattle.lists.specs.Answers.{play_outcome, play_answer, play_memory, bench_with}
-use Rattle.intel_hex.specs.declared.HexReply.TheVariants as hex
+use Rattle.std.proofs.Common.{Ok, Err}
+use Rattle.intel_hex.specs.declared.HexError.TheVariants as hex
 use Rattle.intel_hex.specs.Answers.{takes, imported_cells, imported_to, import_answer, import_memory}
 use Rattle.player.specs.declared.Player.{Player}
 use Rattle.player.specs.Players.{player_fits}
@@ -70,13 +72,13 @@ both_devices true x y m n f k = f refl
 both_devices false x y m n f k = k
 
 -- what is not refused was lent a memory of the part's length
-done_lent : (fits : Bool) (o : Outcome) → is_done (pick fits o (outcome.Refused MemoryLength)) ≡ true → fits ≡ true
+done_lent : (fits : Bool) (o : Outcome) → is_done (pick fits o (Err MemoryLength)) ≡ true → fits ≡ true
 unfolding pick
 done_lent true o e = refl
 done_lent false o e = absurd (true≢false (sym e))
 
 lent_size : (P : Part) (m : Lent) (o : Outcome)
-    → is_done (pick (lent_fits P (length m.memory) (length m.identification)) o (outcome.Refused MemoryLength)) ≡ true → length m.memory ≡ P.size
+    → is_done (pick (lent_fits P (length m.memory) (length m.identification)) o (Err MemoryLength)) ≡ true → length m.memory ≡ P.size
 lent_size P m o e =
     let fits = lent_fits P (length m.memory) (length m.identification) in
     lent_memory P (length m.memory) (length m.identification) (done_lent fits o e)
@@ -102,7 +104,7 @@ module _ (P : Part) (t : ℕ) (c : Core) (m d : List ℕ) (right : Counted c m) 
 
 -- power-up: counted where it is done, 0 where it is refused
 module _ (part : ℕ) (k : Bool) (n : ℕ) (s b a : Bool) (t : ℕ) (m : List ℕ) where
-  abbrev given : PoweredUp
+  abbrev given : Answered (Unit {0}) Refusal
   given = powered_up part k n s b a t m
 
   pub right_power_up : power_up_number part n m ≡ 0 → Counted given.core m
@@ -110,7 +112,7 @@ module _ (part : ℕ) (k : Bool) (n : ℕ) (s b a : Bool) (t : ℕ) (m : List �
   right_power_up = by (eqb (length m) (part_of part).size) (is_part part) (cycle_fits (part_of part) n)
     where
       by : (u v w : Bool) → ◌≡◌ {A = ℕ} (pick u (pick v (pick w 0 6) 2) 1) 0
-          → Counted (pick u (pick v (pick w (record { outcome = outcome.Done; core = idle part k s b a n t (blanks m) }) (not_powered CycleLength))
+          → Counted (pick u (pick v (pick w (record { answer = no_refusal; core = idle part k s b a n t (blanks m) }) (not_powered CycleLength))
           (not_powered RecordRange)) (not_powered MemoryLength)).core m
       by true true true e = refl
       by true true false e = absurd (omega arith)
@@ -122,7 +124,7 @@ module _ (part : ℕ) (k : Bool) (n : ℕ) (s b a : Bool) (t : ℕ) (m : List �
   refused_power_up = by (eqb (length m) (part_of part).size) (is_part part) (cycle_fits (part_of part) n)
     where
       by : (u v w : Bool) → (◌≡◌ {A = ℕ} (pick u (pick v (pick w 0 6) 2) 1) 0 → ⊥)
-          → (pick u (pick v (pick w (record { outcome = outcome.Done; core = idle part k s b a n t (blanks m) }) (not_powered CycleLength))
+          → (pick u (pick v (pick w (record { answer = no_refusal; core = idle part k s b a n t (blanks m) }) (not_powered CycleLength))
           (not_powered RecordRange)) (not_powered MemoryLength)).core ≡ unpowered
       by true true true e = absurd (e refl)
       by true true false e = refl
@@ -269,8 +271,8 @@ right_import P c m t right = by (eqb (length m) (own_part c).size) (in_ranges (o
   where
     by : (u v w : Bool)
         → Counted
-        (pick u (pick v (pick w (imported_to hex.Done (with_blank (blanks (imported_cells P m t)) c)) (imported_to hex.NotTaken c))
-        (imported_to (hex.Refused RecordRange) c)) (imported_to (hex.Refused MemoryLength) c)).core
+        (pick u (pick v (pick w (imported_to (Ok tt) (with_blank (blanks (imported_cells P m t)) c)) (imported_to (Err hex.NotTaken) c))
+        (imported_to (Err (hex.Refused RecordRange)) c)) (imported_to (Err (hex.Refused MemoryLength)) c)).core
         (pick u (pick v (pick w (imported_cells P m t) m) m) m)
     by true true true = refl
     by true true false = right

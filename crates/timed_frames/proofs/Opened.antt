@@ -1,5 +1,6 @@
 -- A frame once the readings at position 0 have come: what it shows and leaves, where a cycle ran at its eighth edge and where none did; and that the readings
 -- at 0 are readings before the frame.
+use Rattle.std.specs.Prelude.{Ok}
 use Prim.Native.Nat.{ℕ, zero, suc, ◌+◌, ◌-◌, ◌/◌, ◌≤◌}
 use mathlib.Core.Bool.{Bool, true, false}
 use mathlib.Core.List.{List}
@@ -8,12 +9,10 @@ use native.Mathlib.Omega.{arith}
 use lib.Dec.{leb}
 use lib.ListN.{length, get_or, take, drop}
 use borrow.Author.Tests.{le-leb, eq-eqb}
-use Rattle.laws.specs.Pick.{pick, at_yes, at_no}
+use Rattle.laws.specs.Pick.{pick, pick_case, at_yes, at_no}
 use Rattle.laws.specs.Table.{table, table_length, table_at, table_cong}
 use Rattle.codes.specs.Part.{Part}
-use Rattle.codes.specs.Refusals.{is_done}
-use Rattle.codes.specs.declared.Outcome.{Outcome}
-use Rattle.codes.specs.declared.Outcome.TheVariants as outcome
+use Rattle.codes.specs.Refusals.{is_done, no_refusal, Outcome}
 use Rattle.codes.specs.declared.Instruction.{Instruction}
 use Rattle.codes.specs.declared.Instruction.TheVariants.{Rdsr}
 use Rattle.chip.specs.Cells.{memory_cells, identification_cells}
@@ -25,7 +24,6 @@ use Rattle.fields.specs.Bytes.{instruction, address}
 use Rattle.shown.specs.Shown.{Sights, sights, byte_out, padded_at, output, undriven}
 use Rattle.frames.specs.After.{after}
 use Rattle.frames.specs.Answers.{frame_outcome, frame_reply, framed, framed_output}
-use Rattle.frames.specs.declared.FrameReply.TheVariants.{Shown}
 use Rattle.frames.specs.Play.{FrameBench, frame_bench}
 use Rattle.frames.proofs.Outcomes.{taken}
 use Rattle.timed_frames.specs.Schedules.{due, passed, bench_at}
@@ -33,13 +31,13 @@ use Rattle.timed_frames.specs.InTime.{is_rdsr, loaded_at, sights_in, last_of, le
 use Rattle.timed_frames.specs.Walked.{statuses_over}
 use Rattle.timed_frames.specs.declared.Mode.{Mode}
 use Rattle.timed_frames.proofs.Walks.{due_add, walk_on, loaded_late}
-use Rattle.timed_frames.proofs.Calm.{calm_at, hushed}
+use Rattle.timed_frames.proofs.Calm.{calm_at, hushed, is_rdsr_law}
 use Rattle.timed_frames.proofs.Passed.{passed_within, passed_length}
 
 -- ---- a frame that is not refused, of the plain call
 
-module _ (P : Part) (c : Core) (m i : List ℕ) (s : List ℕ) (n room : ℕ) (done : frame_outcome P c (length m) (length i) (length s) n room ≡ outcome.Done) where
-  pub plain_answer : (w : Bool) → (framed P c m i w s n room).answer ≡ Shown (undriven P (instruction P s) (running c) n)
+module _ (P : Part) (c : Core) (m i : List ℕ) (s : List ℕ) (n room : ℕ) (done : frame_outcome P c (length m) (length i) (length s) n room ≡ no_refusal) where
+  pub plain_answer : (w : Bool) → (framed P c m i w s n room).answer ≡ Ok (undriven P (instruction P s) (running c) n)
   unfolding framed
   plain_answer w = ap (λ (o : Outcome). frame_reply o (undriven P (instruction P s) (running c) n)) done
 
@@ -61,8 +59,8 @@ module _ (P : Part) (c : Core) (m i : List ℕ) (s : List ℕ) (n room : ℕ) (d
 
 module _ (P : Part) where
   pub still_taken : (ts : List ℕ) (b : FrameBench) (len n room : ℕ)
-      → frame_outcome P b.core (length b.memory) (length b.identification) len n room ≡ outcome.Done
-      → let x = passed P ts b in frame_outcome P x.core (length x.memory) (length x.identification) len n room ≡ outcome.Done
+      → frame_outcome P b.core (length b.memory) (length b.identification) len n room ≡ no_refusal
+      → let x = passed P ts b in frame_outcome P x.core (length x.memory) (length x.identification) len n room ≡ no_refusal
   still_taken ts b len n room e =
       let t = taken P b.core (length b.memory) (length b.identification) len n room refl e in
       at_yes _ _ (lent_both P _ _ (passed_length memory_cells P ts b ∙ lent_memory P _ _ t.whole)
@@ -86,13 +84,13 @@ module _ (P : Part) (ps ts : List ℕ) (b : FrameBench) (none : due 1 ps ≡ 0) 
       let x = last_of P ps ts b n in
       ap (λ (r : Bool). frame_bench (after P r w x.core s n) x.memory x.identification) (sym (ap (λ (y : FrameBench). running y.core) first_is ∙ e))
 
-  pub shown_other : (o : Mode) (v : Sights) (s : List ℕ) (n : ℕ) → is_rdsr (instruction P s) ≡ false
+  shown_other : (o : Mode) (v : Sights) (s : List ℕ) (n : ℕ) → is_rdsr (instruction P s) ≡ false
       → output P true v s n ≡ output P true (sights_in P ps ts b o) s n
   unfolding output
   shown_other o v s n e =
       table_cong _ _ (length s) 0 (λ j h. ap (padded_at (length s) n j) (hushed P (instruction P s) v (sights_in P ps ts b o) (address P s) j e))
 
-  pub shown_polled : (o : Mode) (v : Sights) (s : List ℕ) (n : ℕ) → instruction P s ≡ Rdsr
+  shown_polled : (o : Mode) (v : Sights) (s : List ℕ) (n : ℕ) → instruction P s ≡ Rdsr
       → statuses_over P ps ts b o n (output P true v s n) ≡ output P true (sights_in P ps ts b o) s n
   unfolding output
   shown_polled o v s n e =
@@ -116,6 +114,14 @@ module _ (P : Part) (ps ts : List ℕ) (b : FrameBench) (none : due 1 ps ≡ 0) 
           ∙ ap (λ (k : ℕ). padded_at (length s) n (suc j) (status (bench_at P ps ts b (loaded_at o k)).core)) same
           ∙ ap (padded_at (length s) n (suc j)) (sym (at_yes _ _ some))
           ∙ sym (ap (λ (k : Instruction). padded_at (length s) n (suc j) (byte_out P k true (sights_in P ps ts b o) (address P s) (suc j))) e)
+
+  -- either way
+  pub shown_ran : (o : Mode) (v : Sights) (s : List ℕ) (n : ℕ)
+      → pick (is_rdsr (instruction P s)) (statuses_over P ps ts b o n (output P true v s n)) (output P true v s n)
+      ≡ output P true (sights_in P ps ts b o) s n
+  shown_ran o v s n =
+      pick_case (λ (l : List ℕ). l ≡ output P true (sights_in P ps ts b o) s n) (is_rdsr (instruction P s))
+      (λ e. shown_polled o v s n (is_rdsr_law P (instruction P s) e)) (λ e. shown_other o v s n e)
 
   -- none ran: it is the plain frame after all readings
   module _ (e : running b.core ≡ false) where

@@ -7,16 +7,14 @@ use native.Mathlib.Omega.{arith}
 use lib.ListN.{length}
 use Rattle.laws.specs.Pick.{pick, pick_ap, pick_case}
 use Rattle.codes.specs.Part.{Part}
-use Rattle.codes.specs.Refusals.{is_done}
-use Rattle.codes.specs.declared.Outcome.{Outcome}
+use Rattle.codes.specs.Refusals.{is_done, Outcome}
 use Rattle.chip.specs.Lents.{Lent}
 use Rattle.chip.specs.Records.{running, status, lock_byte}
 use Rattle.chip.specs.declared.Core.{Core}
 use Rattle.fields.specs.Bytes.{instruction}
 use Rattle.shown.specs.Shown.{sights, output, undriven}
 use Rattle.frames.specs.After.{after}
-use Rattle.frames.specs.Answers.{frame_outcome, frame_reply, framed, framed_output}
-use Rattle.frames.specs.declared.Framed.{Framed}
+use Rattle.frames.specs.Answers.{frame_outcome, frame_reply, framed, framed_output, Framed}
 use Rattle.frames.specs.Play.{FrameBench}
 use Rattle.timed_frames.specs.Schedules.{due, passed, rising}
 use Rattle.timed_frames.specs.InTime.{left_by}

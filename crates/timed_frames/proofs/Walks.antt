@@ -3,6 +3,7 @@ use Prim.Native.Nat.{ℕ, zero, suc, ◌+◌, ◌<◌, ◌≤◌}
 use mathlib.Core.Bool.{Bool, true, false, ◌&&◌, and-true}
 use mathlib.Core.List.{List, [], ◌∷◌}
 use mathlib.Core.Path.{◌≡◌, refl, ap, sym, ◌∙◌}
+use native.Mathlib.Numerals.{add-one}
 use native.Mathlib.Omega.{arith}
 use lib.Dec.{leb, ltb}
 use lib.ListN.{length, take, drop, get_or, set}
@@ -33,18 +34,18 @@ due_step k n [] h l = absurd (omega arith)
 due_step k zero (p ∷ ps) h l = at_yes _ _ (lt-ltb p k l)
 due_step k (suc n) (p ∷ ps) h l = due_step k n ps (omega arith) l
 
-one_less : (n m : ℕ) → ltb n m ≡ ltb (suc n) (suc m)
-one_less n m =
-    same_test (ltb n m) (ltb (suc n) (suc m)) (λ e. lt-ltb (suc n) (suc m) (omega (arith, ltb-true n m e)))
-    (λ e. lt-ltb n m (omega (arith, ltb-true (suc n) (suc m) e)))
-
-pub due_stop : (k n : ℕ) (ps : List ℕ) → (ltb n (length ps) && ltb (get_or ps n 0) k) ≡ false → due k (drop n ps) ≡ 0
+-- none is once the list has ended, or the next stands no lower
+pub due_end : (k n : ℕ) (ps : List ℕ) → length ps ≤ n → due k (drop n ps) ≡ 0
 unfolding due
-due_stop k n [] e = ap (due k) (drop-nil n)
-due_stop k zero (p ∷ ps) e =
-    let some : ltb 0 (suc (length ps)) ≡ true = lt-ltb 0 (suc (length ps)) (omega arith) in
-    at_no _ _ (sym (ap (λ (t : Bool). t && ltb p k) some) ∙ e)
-due_stop k (suc n) (p ∷ ps) e = due_stop k n ps (ap (λ (t : Bool). t && ltb (get_or ps n 0) k) (one_less n (length ps)) ∙ e)
+due_end k n [] h = ap (due k) (drop-nil n)
+due_end k zero (p ∷ ps) h = absurd (omega arith)
+due_end k (suc n) (p ∷ ps) h = due_end k n ps (omega arith)
+
+pub due_stop : (k n : ℕ) (ps : List ℕ) → k ≤ get_or ps n 0 → due k (drop n ps) ≡ 0
+unfolding due
+due_stop k n [] h = ap (due k) (drop-nil n)
+due_stop k zero (p ∷ ps) h = at_no _ _ (le-ltb p k h)
+due_stop k (suc n) (p ∷ ps) h = due_stop k n ps h
 
 pub due_most : (k : ℕ) (ps : List ℕ) → due k ps ≤ length ps
 unfolding due
@@ -72,29 +73,22 @@ passed_on P (t ∷ ts) (suc n) k b =
 
 -- ---- positions that do not fall
 
-pub rising_step : (low most i : ℕ) (ps : List ℕ) → i < length ps
+rising_suc : (low most i : ℕ) (ps : List ℕ) → i < length ps
     → rising low most (drop i ps) ≡ (leb low (get_or ps i 0) && leb (get_or ps i 0) most && rising (get_or ps i 0) most (drop (suc i) ps))
 unfolding rising
-rising_step low most i [] h = absurd (omega arith)
-rising_step low most zero (p ∷ ps) h = refl
-rising_step low most (suc i) (p ∷ ps) h = rising_step low most i ps (omega arith)
+rising_suc low most i [] h = absurd (omega arith)
+rising_suc low most zero (p ∷ ps) h = refl
+rising_suc low most (suc i) (p ∷ ps) h = rising_suc low most i ps (omega arith)
+
+pub rising_step : (low most i : ℕ) (ps : List ℕ) → i < length ps
+    → rising low most (drop i ps) ≡ (leb low (get_or ps i 0) && leb (get_or ps i 0) most && rising (get_or ps i 0) most (drop (i + 1) ps))
+rising_step low most i ps h = rw add-one (rising_suc low most i ps h)
 
 pub rising_none : (low most i : ℕ) (ps : List ℕ) → length ps ≤ i → rising low most (drop i ps) ≡ true
 unfolding rising
 rising_none low most i [] h = ap (rising low most) (drop-nil i)
 rising_none low most zero (p ∷ ps) h = absurd (omega arith)
 rising_none low most (suc i) (p ∷ ps) h = rising_none low most i ps (omega arith)
-
-pub regrouped : (f a b r : Bool) → (f && a && b && r) ≡ (f && (a && b && r))
-regrouped true a b r = refl
-regrouped false true true true = refl
-regrouped false true true false = refl
-regrouped false true false true = refl
-regrouped false true false false = refl
-regrouped false false true true = refl
-regrouped false false true false = refl
-regrouped false false false true = refl
-regrouped false false false false = refl
 
 -- ---- from one position to a later one
 

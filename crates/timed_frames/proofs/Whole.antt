@@ -1,19 +1,17 @@
--- The whole call: a refused one is the plain call's refusal, one that is done is the frame after the readings at 0.
-use Prim.Native.Nat.{ℕ, ◌*◌, ◌-◌, ◌≤◌}
-use mathlib.Core.Bool.{Bool, true, false, ◌&&◌, and-true, true≢false}
+-- The whole call: a refused one leaves everything, one that is done is the frame after the readings at 0.
+use Rattle.std.specs.Prelude.{Err, Ok}
+use Prim.Native.Nat.{ℕ, ◌+◌}
+use mathlib.Core.Bool.{Bool, true, ◌&&◌, and-true}
 use mathlib.Core.List.{List}
 use mathlib.Core.Path.{◌≡◌, refl, ap, ap₂, sym, ◌∙◌}
 use native.Mathlib.Omega.{arith}
 use lib.Dec.{eqb, leb}
-use lib.ListN.{length, take, drop, length-drop}
-use borrow.Author.Tests.{lt-leb, leb-true}
-use borrow.Author.Rules.{part_to_end}
-use Rattle.laws.specs.Pick.{pick, pick_case, pick_ap, pick_cong, at_yes, at_no, and_no_right}
-use Rattle.codes.specs.Part.{Part, room_cells}
-use Rattle.codes.specs.Refusals.{number, is_done}
+use lib.ListN.{length, take, drop}
+use Rattle.laws.specs.Pick.{pick, pick_ap, pick_cong, at_yes, and_right}
+use Rattle.codes.specs.Part.{Part}
+use Rattle.codes.specs.Refusals.{number, is_done, no_refusal, Outcome}
 use Rattle.codes.specs.declared.Refusal.TheVariants.{MemoryLength, RecordRange, FrameLength, BitCount, OutputLength}
-use Rattle.codes.specs.declared.Outcome.{Outcome}
-use Rattle.codes.specs.declared.Outcome.TheVariants as outcome
+use Rattle.codes.specs.declared.Refusal.{Refusal}
 use Rattle.chip.specs.Lents.{Lent}
 use Rattle.chip.specs.Ranges.{in_ranges}
 use Rattle.chip.specs.Records.{own_part, running}
@@ -22,10 +20,9 @@ use Rattle.chip.specs.declared.Core.{Core}
 use Rattle.fields.specs.Bytes.{instruction}
 use Rattle.fields.specs.Counts.{bits_fit, longest_frame}
 use Rattle.shown.specs.Shown.{output, undriven}
-use Rattle.frames.specs.Answers.{frame_outcome, frame_reply, frame_reply_number, framed, framed_output}
-use Rattle.frames.specs.declared.FrameReply.TheVariants.{Shown}
-use Rattle.frames.specs.declared.Framed.{Framed}
+use Rattle.frames.specs.Answers.{frame_outcome, frame_reply, Framed}
 use Rattle.frames.specs.Play.{FrameBench, frame_bench}
+use Rattle.frames.proofs.Outcomes.{not_refused}
 use Rattle.timed_frames.specs.Schedules.{due, places_fit, bench_at}
 use Rattle.timed_frames.specs.InTime.{ran_in, sights_in, left_by}
 use Rattle.timed_frames.specs.Answers.{in_time_outcome, in_time_number, in_time_left, given, framed_in_time, output_in_time, AnsweredInTime}
@@ -35,32 +32,11 @@ use Rattle.timed_frames.proofs.Opened.{none_left, still_taken, opened_left, open
 
 -- ---- answers
 
-reply_number : (o : Outcome) (u : ℕ) → frame_reply_number (frame_reply o u) ≡ number o
-reply_number outcome.Done u = refl
-reply_number (outcome.Refused r) u = refl
+reply_number : (o : Outcome) (u : ℕ) → number (frame_reply o u) ≡ number o
+reply_number (Ok _) u = refl
+reply_number (Err r) u = refl
 
--- a refusal shows no count
-refused_reply : (o : Outcome) (u v : ℕ) → is_done o ≡ false → frame_reply o u ≡ frame_reply o v
-refused_reply outcome.Done u v e = absurd (true≢false e)
-refused_reply (outcome.Refused r) u v e = refl
-
--- ---- refusals 1 to 5, by the test of the bit count
-
--- no bit count of all ones fits a frame
-no_count : (P : Part) (len : ℕ) → P.size ≤ room_cells → leb len (longest_frame P) ≡ true → bits_fit len 18446744073709551615 ≡ false
-no_count P len most short =
-    pick_case (λ (t : Bool). t ≡ false) (eqb len 0) (λ e. refl)
-    (λ e. and_no_right (leb (8 * len - 7) 18446744073709551615) (leb 18446744073709551615 (8 * len))
-    (lt-leb 18446744073709551615 (8 * len) (omega (arith, leb-true len (longest_frame P) short, most))))
-
-never : (a b d : Bool) (o : Outcome)
-    → is_done (pick a (pick b (pick d (pick false o (outcome.Refused BitCount)) (outcome.Refused FrameLength)) (outcome.Refused RecordRange))
-    (outcome.Refused MemoryLength)) ≡ false
-unfolding pick
-never true true true o = refl
-never true true false o = refl
-never true false d o = refl
-never false b d o = refl
+-- ---- refusals 1 to 5
 
 module _ (P : Part) (c : Core) (m : Lent) (s : List ℕ) (n : ℕ) (ps ts : List ℕ) (room : ℕ) where
   abbrev plain : ℕ → Outcome
@@ -72,9 +48,9 @@ module _ (P : Part) (c : Core) (m : Lent) (s : List ℕ) (n : ℕ) (ps ts : List
       (pick (in_ranges P c)
       (pick (leb (length s) (longest_frame P))
       (pick t
-      (pick (eqb room (length s)) outcome.Done
-      (outcome.Refused OutputLength)) (outcome.Refused BitCount)) (outcome.Refused FrameLength)) (outcome.Refused RecordRange))
-      (outcome.Refused MemoryLength)
+      (pick (eqb room (length s)) no_refusal
+      (Err OutputLength)) (Err BitCount)) (Err FrameLength)) (Err RecordRange))
+      (Err MemoryLength)
 
   outcome_number : number (in_time_outcome P c m s n ps ts room) ≡ in_time_number P c m s n ps ts room
   outcome_number =
@@ -88,23 +64,17 @@ module _ (P : Part) (c : Core) (m : Lent) (s : List ℕ) (n : ℕ) (ps ts : List
   pub placed : places_fit n ps ts ≡ true → in_time_outcome P c m s n ps ts room ≡ plain n
   placed e = ap by_test (ap (λ (t : Bool). bits_fit (length s) n && t) e ∙ and-true (bits_fit (length s) n))
 
-  -- those that do not are as a bit count that does not
-  module _ (e : places_fit n ps ts ≡ false) where
-    none : (bits_fit (length s) n && places_fit n ps ts) ≡ false
-    none = and_no_right (bits_fit (length s) n) (places_fit n ps ts) e
-
-    pub misplaced : P.size ≤ room_cells → plain 18446744073709551615 ≡ in_time_outcome P c m s n ps ts room
-    misplaced most =
-        pick_cong (lent_fits P (length m.memory) (length m.identification)) _
-        (λ a. pick_cong (in_ranges P c) _
-        (λ b. pick_cong (leb (length s) (longest_frame P)) _
-        (λ d. ap (λ (t : Bool). pick t (pick (eqb room (length s)) outcome.Done (outcome.Refused OutputLength)) (outcome.Refused BitCount))
-        (no_count P (length s) most d ∙ sym none))))
-
-    pub misplaced_not : is_done (in_time_outcome P c m s n ps ts room) ≡ false
-    misplaced_not =
-        ap (λ (t : Bool). is_done (by_test t)) none
-        ∙ never (lent_fits P (length m.memory) (length m.identification)) (in_ranges P c) (leb (length s) (longest_frame P)) _
+  -- a call that is not refused is given lists that fit, and a frame that the plain call would not refuse
+  pub taken_in : {o : Outcome} → o ≡ in_time_outcome P c m s n ps ts room → o ≡ no_refusal
+      → (places_fit n ps ts ≡ true) × (plain n ≡ no_refusal)
+  taken_in found done =
+      let e = sym found ∙ done in
+      let memory = not_refused _ _ MemoryLength e in
+      let ranges = not_refused _ _ RecordRange memory.1 in
+      let bytes = not_refused _ _ FrameLength ranges.1 in
+      let bits = not_refused _ _ BitCount bytes.1 in
+      let lists = and_right (bits_fit (length s) n) (places_fit n ps ts) bits.0 in
+      (lists, sym (placed lists) ∙ e)
 
 -- ---- what the call hands back and leaves
 
@@ -113,41 +83,24 @@ module _ (P : Part) (c : Core) (m : Lent) (w : Bool) (o : Mode) (s : List ℕ) (
   told = in_time_outcome P c m s n ps ts (length out)
 
   pub numbered : {r : Framed} → r ≡ framed_in_time P c m w s n ps ts (length out)
-      → frame_reply_number r.answer ≡ in_time_number P c m s n ps ts (length out)
+      → number r.answer ≡ in_time_number P c m s n ps ts (length out)
   unfolding framed_in_time
   numbered e =
-      ap (λ (r : Framed). frame_reply_number r.answer) e ∙ reply_number told _ ∙ outcome_number P c m s n ps ts (length out)
+      ap (λ (r : Framed). number r.answer) e ∙ reply_number told _ ∙ outcome_number P c m s n ps ts (length out)
 
-  -- refused: by the plain call, with this bit count or another
-  pub turned_away : (k : ℕ) {r : Framed} {shown : List ℕ}
-      → frame_outcome P c (length m.memory) (length m.identification) (length s) k (length out) ≡ told → is_done told ≡ false
-      → r ≡ framed P c m.memory m.identification w s k (length out)
-      → shown ≡ framed_output P c m.memory m.identification s k out
-      → AnsweredInTime P c m w o s n ps ts out r m.memory m.identification shown
-  unfolding framed framed_output framed_in_time in_time_left output_in_time
-  turned_away k {r = r} same away e h =
-      let left : pick (is_done told) (left_by P ps ts (given c m) w s n) (given c m) ≡ given c m = at_no _ _ away in
-      let away' = ap is_done same ∙ away in
-      let answer : r.answer ≡ (framed_in_time P c m w s n ps ts (length out)).answer =
-      ap (λ (x : Framed). x.answer) e ∙ ap (λ (q : Outcome). frame_reply q (undriven P (instruction P s) (running c) k)) same
-      ∙ refused_reply told _ _ away in
-      let core : r.core ≡ (framed_in_time P c m w s n ps ts (length out)).core =
-      ap (λ (x : Framed). x.core) e ∙ at_no _ _ away' ∙ sym (ap (λ (b : FrameBench). b.core) left) in
-      let all : r ≡ framed_in_time P c m w s n ps ts (length out) = λ i. record { answer = answer i; core = core i } in (
-        all,
-        (
-          numbered all,
-          (
-            sym (ap (λ (b : FrameBench). b.memory) left),
-            (sym (ap (λ (b : FrameBench). b.identification) left), h ∙ at_no _ _ away' ∙ sym (at_no _ _ away)),
-          ),
-        ),
-      )
+  -- refused: everything stays
+  pub turned_away : (f : Refusal) {a : Outcome} → a ≡ told → a ≡ Err f
+      → AnsweredInTime P c m w o s n ps ts out (record { answer = Err f; core = c }) m.memory m.identification out
+  unfolding framed_in_time in_time_left output_in_time pick
+  turned_away f found refused =
+      let e = sym found ∙ refused in
+      let all : ◌≡◌ {A = Framed} (record { answer = Err f; core = c }) (framed_in_time P c m w s n ps ts (length out)) = rw e refl in
+      (all, (numbered all, (rw e refl, (rw e refl, rw e refl))))
 
   -- done: after the readings at 0 it is a frame at which none is left
   carried_out : {Q : Part} {qs us cells page shown : List ℕ} {y : FrameBench} {r : Framed}
-      → told ≡ outcome.Done → Q ≡ P → qs ≡ drop (due 1 ps) ps → us ≡ drop (due 1 ps) ts → y ≡ bench_at P ps ts (given c m) 1
-      → r.answer ≡ Shown (undriven Q (instruction Q s) (running y.core) n)
+      → told ≡ no_refusal → Q ≡ P → qs ≡ drop (due 1 ps) ps → us ≡ drop (due 1 ps) ts → y ≡ bench_at P ps ts (given c m) 1
+      → r.answer ≡ Ok (undriven Q (instruction Q s) (running y.core) n)
       → frame_bench r.core cells page ≡ left_by Q qs us y w s n
       → shown ≡ output Q (running y.core) (sights_in Q qs us y o) s n
       → AnsweredInTime P c m w o s n ps ts out r cells page shown
@@ -158,7 +111,7 @@ module _ (P : Part) (c : Core) (m : Lent) (w : Bool) (o : Mode) (s : List ℕ) (
       let bench : frame_bench r.core cells page ≡ pick (is_done told) (left_by P ps ts b w s n) b =
       left ∙ (λ i. left_by (part i) (later i) (times i) (first i) w s n) ∙ opened_left P ps ts b w s n ∙ sym (at_yes _ _ taken) in
       let says : r.answer ≡ (framed_in_time P c m w s n ps ts (length out)).answer =
-      answer ∙ (λ i. Shown (undriven (part i) (instruction (part i) s) (running (first i).core) n))
+      answer ∙ (λ i. Ok (undriven (part i) (instruction (part i) s) (running (first i).core) n))
       ∙ sym (ap (λ (q : Outcome). frame_reply q (undriven P (instruction P s) (ran_in P ps ts b) n)) done) in
       let core : r.core ≡ (framed_in_time P c m w s n ps ts (length out)).core = ap (λ (x : FrameBench). x.core) bench in
       let all : r ≡ framed_in_time P c m w s n ps ts (length out) = λ i. record { answer = says i; core = core i } in (
@@ -178,45 +131,38 @@ module _ (P : Part) (c : Core) (m : Lent) (w : Bool) (o : Mode) (s : List ℕ) (
         ),
       )
 
--- ---- once k readings, those at 0, have come: the call goes on with the rest of its lists
+-- ---- once the readings at 0 have come: the call goes on with the rest of its lists
 
-module _ (c : Core) (m : Lent) (s : List ℕ) (n : ℕ) (ps ts : List ℕ) (k : ℕ) (y : FrameBench) (came : k ≡ due 1 ps)
-    (first : y ≡ bench_at (own_part c) ps ts (given c m) 1) where
+module _ (c : Core) (m : Lent) (s : List ℕ) (n : ℕ) (ps ts qs us : List ℕ) (y : FrameBench) where
   abbrev P : Part
   P = own_part c
 
   abbrev Q : Part
   Q = own_part y.core
 
-  abbrev rest : List ℕ → List ℕ
-  rest l = take (length l - k) (drop k l)
-
-  part : Q ≡ P
-  part = ap (λ (x : FrameBench). own_part x.core) first ∙ bench_part P ps ts (given c m) 1
-
-  from : (l : List ℕ) → rest l ≡ drop (due 1 ps) l
-  from l = part_to_end l k ∙ ap (λ (j : ℕ). drop j l) came
-
-  -- what the frame goes on with: it is not refused, its lists are of one length with no reading at 0, and what it hands back is the call's answer
+  -- what the frame goes on with: it is not refused, no reading is left at 0, and what it hands back is the call's answer
   pub record Next (w : Bool) (o : Mode) (out : List ℕ) : Type 0 where
-    pub fits : frame_outcome Q y.core (length y.memory) (length y.identification) (length s) n (length out) ≡ outcome.Done
-    pub lengths : length (rest ps) ≡ length (rest ts)
-    pub none : due 1 (rest ps) ≡ 0
-    pub carried : {r : Framed} {cells page shown : List ℕ} → r.answer ≡ Shown (undriven Q (instruction Q s) (running y.core) n)
-        → frame_bench r.core cells page ≡ left_by Q (rest ps) (rest ts) y w s n
-        → shown ≡ output Q (running y.core) (sights_in Q (rest ps) (rest ts) y o) s n
+    pub fits : frame_outcome Q y.core (length y.memory) (length y.identification) (length s) n (length out) ≡ no_refusal
+    pub none : due 1 qs ≡ 0
+    pub carried : {r : Framed} {cells page shown : List ℕ} → r.answer ≡ Ok (undriven Q (instruction Q s) (running y.core) n)
+        → frame_bench r.core cells page ≡ left_by Q qs us y w s n
+        → shown ≡ output Q (running y.core) (sights_in Q qs us y o) s n
         → AnsweredInTime P c m w o s n ps ts out r cells page shown
 
-  pub next : (w : Bool) (o : Mode) (out : List ℕ) → places_fit n ps ts ≡ true → length ps ≡ length ts
-      → frame_outcome P c (length m.memory) (length m.identification) (length s) n (length out) ≡ outcome.Done → Next w o out
-  next w o out placed-so same done =
+  -- k readings came, those at 0
+  pub next : (k : ℕ) → k ≡ 0 + due 1 ps → qs ≡ drop k ps → us ≡ drop k ts → y ≡ bench_at P ps ts (given c m) 1
+      → (w : Bool) (o : Mode) (out : List ℕ) → places_fit n ps ts ≡ true
+      → frame_outcome P c (length m.memory) (length m.identification) (length s) n (length out) ≡ no_refusal → Next w o out
+  next k all rest times first w o out placed-so done =
       let room = length out in
+      let came : k ≡ due 1 ps = omega (arith, all) in
+      let part : Q ≡ P = ap (λ (x : FrameBench). own_part x.core) first ∙ bench_part P ps ts (given c m) 1 in
+      let later : qs ≡ drop (due 1 ps) ps = rest ∙ ap (λ (j : ℕ). drop j ps) came in
+      let later-times : us ≡ drop (due 1 ps) ts = times ∙ ap (λ (j : ℕ). drop j ts) came in
       let outcome-of : Part → FrameBench → Outcome =
       λ O x. frame_outcome O x.core (length x.memory) (length x.identification) (length s) n room in
-      let long : (l : List ℕ) → length (rest l) ≡ length l - k = λ l. ap length (part_to_end l k) ∙ length-drop k l in
       record {
         fits = ap₂ outcome-of part first ∙ still_taken P (take (due 1 ps) ts) (given c m) (length s) n room done;
-        lengths = long ps ∙ ap (λ (j : ℕ). j - k) same ∙ sym (long ts);
-        none = ap (due 1) (from ps) ∙ none_left P ps ts (given c m);
-        carried = carried_out P c m w o s n ps ts out (placed P c m s n ps ts room placed-so ∙ done) part (from ps) (from ts) first;
+        none = ap (due 1) later ∙ none_left P ps ts (given c m);
+        carried = carried_out P c m w o s n ps ts out (placed P c m s n ps ts room placed-so ∙ done) part later later-times first;
       }

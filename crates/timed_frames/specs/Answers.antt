@@ -1,12 +1,10 @@
 -- The public call, for every input: the refusals in their order, the answer, and what is left of the record, of the
 -- memory, of the identification page and of the output.
-use Rattle.std.specs.Prelude.{ℕ, Bool, ◌&&◌, List, ◌≡◌, length, eqb, leb}
+use Rattle.codes.specs.Refusals.{number, no_refusal, is_done, Outcome}
+use Rattle.std.specs.Prelude.{ℕ, Bool, ◌&&◌, List, ◌≡◌, length, eqb, leb, Err}
 use Rattle.laws.specs.Pick.{pick}
 use Rattle.codes.specs.Part.{Part}
-use Rattle.codes.specs.Refusals.{is_done}
 use Rattle.codes.specs.declared.Refusal.TheVariants.{MemoryLength, RecordRange, FrameLength, BitCount, OutputLength}
-use Rattle.codes.specs.declared.Outcome.{Outcome}
-use Rattle.codes.specs.declared.Outcome.TheVariants.{Done, Refused}
 use Rattle.chip.specs.Lents.{Lent}
 use Rattle.chip.specs.Ranges.{in_ranges}
 use Rattle.chip.specs.Time.{lent_fits}
@@ -14,9 +12,8 @@ use Rattle.chip.specs.declared.Core.{Core}
 use Rattle.fields.specs.Bytes.{instruction}
 use Rattle.fields.specs.Counts.{bits_fit, longest_frame}
 use Rattle.shown.specs.Shown.{output, undriven}
-use Rattle.frames.specs.Answers.{frame_reply, frame_reply_number}
+use Rattle.frames.specs.Answers.{frame_reply, Framed}
 use Rattle.frames.specs.Play.{FrameBench, frame_bench}
-use Rattle.frames.specs.declared.Framed.{Framed}
 use Rattle.timed_frames.specs.Schedules.{places_fit}
 use Rattle.timed_frames.specs.InTime.{ran_in, sights_in, left_by}
 use Rattle.timed_frames.specs.declared.Mode.{Mode}
@@ -34,8 +31,8 @@ in_time_choice P c m s n ps ts room one two three four five done =
 
 abbrev pub in_time_outcome : Part → Core → Lent → List ℕ → ℕ → List ℕ → List ℕ → ℕ → Outcome
 in_time_outcome P c m s n ps ts room =
-    in_time_choice P c m s n ps ts room (Refused MemoryLength) (Refused RecordRange) (Refused FrameLength)
-    (Refused BitCount) (Refused OutputLength) Done
+    in_time_choice P c m s n ps ts room (Err MemoryLength) (Err RecordRange) (Err FrameLength)
+    (Err BitCount) (Err OutputLength) no_refusal
 
 -- its number in document 01
 abbrev pub in_time_number : Part → Core → Lent → List ℕ → ℕ → List ℕ → List ℕ → ℕ → ℕ
@@ -70,7 +67,7 @@ abbrev pub AnsweredInTime : Part → Core → Lent → Bool → Mode → List �
     → Framed → List ℕ → List ℕ → List ℕ → Type 0
 AnsweredInTime P c m w o s n ps ts out r cells page shown =
     (r ≡ framed_in_time P c m w s n ps ts (length out))
-    × ((frame_reply_number r.answer ≡ in_time_number P c m s n ps ts (length out))
+    × ((number r.answer ≡ in_time_number P c m s n ps ts (length out))
     × ((cells ≡ (in_time_left P c m w s n ps ts (length out)).memory)
     × ((page ≡ (in_time_left P c m w s n ps ts (length out)).identification)
     × (shown ≡ output_in_time P c m o s n ps ts out))))

@@ -2,8 +2,7 @@
 use Rattle.std.specs.Prelude.{ℕ, suc, ◌/◌, Bool, true, false, List}
 use Rattle.codes.specs.Part.{Part}
 use Rattle.codes.specs.declared.Instruction.{Instruction}
-use Rattle.codes.specs.declared.Instruction.TheVariants.{Wren, Wrdi, Rdsr, Wrsr, Read, Write, Rdid}
-use Rattle.codes.specs.declared.Instruction.TheVariants.{Wrid, Silence}
+use Rattle.codes.specs.declared.Instruction.TheVariants.{Wren, Wrdi, Rdsr, Wrsr, Read, Write, Rdid, Wrid, Silence}
 use Rattle.chip.specs.Records.{running, status, lock_byte}
 use Rattle.shown.specs.Shown.{Sights}
 use Rattle.frames.specs.After.{after}

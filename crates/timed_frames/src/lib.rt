@@ -3,25 +3,25 @@
 // Public call, for every input: timed_frame.
 #![tactic(auto)]
 
-ghost use Rattle.std.specs.Prelude.{◌≡◌, length, true, false};
+ghost use Rattle.codes.specs.Refusals.{number, no_refusal};
+ghost use Rattle.std.specs.Prelude.{◌≡◌, length, true};
 ghost use Rattle.chip.specs.Lents.{lent};
 ghost use Rattle.chip.specs.Records.{own_part};
-ghost use Rattle.codes.specs.Refusals.{is_done};
-ghost use Rattle.codes.specs.declared.Outcome.TheVariants.{Done};
-ghost use Rattle.frames.specs.Answers.{frame_outcome, frame_reply_number};
+ghost use Rattle.frames.specs.Answers.{frame_outcome};
 ghost use Rattle.timed_frames.specs.Schedules.{places_fit};
 ghost use Rattle.timed_frames.specs.Answers.{in_time_number, in_time_left, framed_in_time, output_in_time};
 ghost use Rattle.timed_frames.specs.Answers.{AnsweredInTime};
 
-use chip::{Core, lent_fits};
-use fields::{bits_fit, length_fits};
-use frames::Framed;
+use chip::{Answered, Core};
+use codes::Refusal;
 
 mod polled;
+mod refused;
 mod walk;
 
 use polled::{quiet_frame, ran_frame};
-use walk::{Walk, places_fit};
+use refused::outcome;
+use walk::{Schedule, Walk};
 
 // The SPI mode: where the falling edge stands beside the readings of its position.
 #[derive(Clone, Copy)]
@@ -29,9 +29,6 @@ pub enum Mode {
     Zero,
     Three,
 }
-
-// A bit count that no frame has.
-const NO_COUNT: usize = 0xffff_ffff_ffff_ffff;
 
 // A frame with clock readings inside it, for every input. The lists say at which byte position each reading comes.
 // Refusals 1, 2, 3, 4 and 5 in that order leave everything as it was; 4 is also for lists of unequal lengths and for
@@ -47,10 +44,10 @@ pub fn timed_frame(
     positions: &[usize],
     readings: &[u32],
     out: &mut [u8],
-) -> Framed
+) -> Answered<usize, Refusal>
     ensures value { result ≡ framed_in_time (own_part core) core (lent memory.old identification.old) w
         bytes.now bits positions.now readings.now (length out.old) }
-    ensures as_number { frame_reply_number result.answer
+    ensures as_number { number result.answer
         ≡ in_time_number (own_part core) core (lent memory.old identification.old)
         bytes.now bits positions.now readings.now (length out.old) }
     ensures memory_after { memory.new
@@ -65,53 +62,28 @@ pub fn timed_frame(
         ≡ output_in_time (own_part core) core (lent memory.old identification.old) mode
         bytes.now bits positions.now readings.now out.old }
 {
-    if (positions.len() == 0) & (readings.len() == 0) {
+    if positions.is_empty() & readings.is_empty() {
         return frames::frame(core, memory, identification, w, bytes, bits, out);
     }
-    scheduled(
+    if let Err(refusal) = outcome(
         core,
         memory,
         identification,
-        w,
-        mode,
         bytes,
         bits,
         positions,
         readings,
-        out,
-    )
-}
-
-// A frame by its lists: refused as they or the frame are, or carried out.
-fn scheduled(
-    core: Core,
-    memory: &mut [u8],
-    identification: &mut [u8],
-    w: bool,
-    mode: Mode,
-    bytes: &[u8],
-    bits: usize,
-    positions: &[usize],
-    readings: &[u32],
-    out: &mut [u8],
-) -> Framed
-    ensures { AnsweredInTime (own_part core) core (lent memory.old identification.old)
-        w mode bytes.now bits positions.now readings.now out.old
-        result memory.new identification.new out.new }
-{
-    if !places_fit(bits, positions, readings) {
-        return frames::frame(core, memory, identification, w, bytes, NO_COUNT, out);
-    }
-    if !frame_fits(
-        core,
-        memory.len(),
-        identification.len(),
-        bytes.len(),
-        bits,
         out.len(),
     ) {
-        return frames::frame(core, memory, identification, w, bytes, bits, out);
+        return Answered {
+            answer: Err(refusal),
+            core,
+        };
     }
+    let schedule = Schedule {
+        positions,
+        readings,
+    };
     carried_out(
         core,
         memory,
@@ -120,8 +92,7 @@ fn scheduled(
         mode,
         bytes,
         bits,
-        positions,
-        readings,
+        schedule,
         out,
     )
 }
@@ -135,26 +106,20 @@ fn carried_out(
     mode: Mode,
     bytes: &[u8],
     bits: usize,
-    positions: &[usize],
-    readings: &[u32],
+    schedule: Schedule,
     out: &mut [u8],
-) -> Framed
-    requires readings_value { places_fit bits positions.now readings.now ≡ true }
+) -> Answered<usize, Refusal>
+    requires readings_value { places_fit bits schedule.positions.now schedule.readings.now ≡ true }
     requires out_value { frame_outcome (own_part core) core (length memory.old) (length identification.old)
-        (length bytes.now) bits (length out.old) ≡ Done }
+        (length bytes.now) bits (length out.old) ≡ no_refusal }
     ensures { AnsweredInTime (own_part core) core (lent memory.old identification.old)
-        w mode bytes.now bits positions.now readings.now out.old
+        w mode bytes.now bits schedule.entry.positions.now schedule.entry.readings.now out.old
         result memory.new identification.new out.new }
 {
-    let start = Walk {
-        core: core,
-        next: 0,
-    };
-    let first = start.to(1, positions, readings, memory, identification);
+    let start = Walk { core, next: 0 };
+    let first = start.to(1, schedule, memory, identification);
     let opened = first.core;
-    let next = first.next;
-    let rest = &positions[next..];
-    let times = &readings[next..];
+    let rest = schedule.after(first.next);
     if opened.running() {
         return ran_frame(
             opened,
@@ -165,31 +130,8 @@ fn carried_out(
             bytes,
             bits,
             rest,
-            times,
             out,
         );
     }
-    quiet_frame(
-        opened,
-        memory,
-        identification,
-        w,
-        bytes,
-        bits,
-        rest,
-        times,
-        out,
-    )
-}
-
-// Lengths, record and bit count are those of a frame.
-fn frame_fits(core: Core, size: usize, cells: usize, len: usize, bits: usize, room: usize) -> bool
-    ensures { (result ≡ true → frame_outcome (own_part core) core size cells len bits room ≡ Done)
-        × (result ≡ false → is_done (frame_outcome (own_part core) core size cells len bits room) ≡ false) }
-{
-    lent_fits(core.part, size, cells)
-        & core.in_ranges()
-        & length_fits(core.part, len)
-        & bits_fit(len, bits)
-        & (room == len)
+    quiet_frame(opened, memory, identification, w, bytes, bits, rest, out)
 }

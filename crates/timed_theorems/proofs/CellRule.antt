@@ -1,6 +1,7 @@
 -- Demand 2's cell rule, over frames with readings inside: a frame changes no cell, its readings do; one of them stores exactly the cells that waited at the
 -- frame's start, where it ends their cycle; and over any list a cell changes only if it waits at the start or an executed frame of the list addresses it. It
 -- is said of any lent cells k: the memory's, or the identification page's.
+use Rattle.std.specs.Prelude.{Err, Ok}
 use Prim.Native.Nat.{ℕ, suc, ◌/◌, ◌<◌}
 use mathlib.Core.Bool.{Bool, true, false, ◌&&◌, true≢false}
 use mathlib.Core.List.{List, [], ◌∷◌}
@@ -9,9 +10,7 @@ use lib.ListN.{length, get_or, take}
 use Rattle.laws.specs.Pick.{pick, pick_ap, pick_cong, pick_and, at_no, and_no_left, and_no_right}
 use Rattle.laws.specs.And.{or_none_out}
 use Rattle.codes.specs.Part.{Part}
-use Rattle.codes.specs.Refusals.{is_done}
-use Rattle.codes.specs.declared.Outcome.{Outcome}
-use Rattle.codes.specs.declared.Outcome.TheVariants.{Done, Refused}
+use Rattle.codes.specs.Refusals.{is_done, no_refusal, Outcome}
 use Rattle.codes.specs.declared.Refusal.TheVariants.{MemoryLength, RecordRange}
 use Rattle.codes.proofs.Sound.{Sound}
 use Rattle.chip.specs.Cells.{Cells, memory_cells, identification_cells, cell_count, theirs, offset, awaited_in}
@@ -98,9 +97,9 @@ module _ (k : Cells) (P : Part) (sound : Sound P) (i : ℕ) (below : i < cell_co
 
 -- ---- the public call
 
-is_done_law : (o : Outcome) → is_done o ≡ true → o ≡ Done
-is_done_law Done e = refl
-is_done_law (Refused r) e = absurd (true≢false (sym e))
+is_done_law : (o : Outcome) → is_done o ≡ true → o ≡ no_refusal
+is_done_law (Ok _) e = refl
+is_done_law (Err r) e = absurd (true≢false (sym e))
 
 module _ (P : Part) (c : Core) (m : Lent) (s : List ℕ) (n : ℕ) (ps ts : List ℕ) (room : ℕ) (done : is_done (in_time_outcome P c m s n ps ts room) ≡ true) where
   -- one that is not refused was lent slices of the part's lengths, and a record inside the ranges

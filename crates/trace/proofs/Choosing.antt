@@ -1,4 +1,4 @@
--- The sides of a chunk's choices: the header, the bad line, the refusals in their order; and the three parts of an output, written one after another.
+-- The sides of a chunk's choices: the bad line, and no refusal; and the three parts of an output, written one after another.
 use mathlib.Core.Path.{◌≡◌, refl, ap, ◌∙◌}
 use mathlib.Core.Bool.{Bool, true, false}
 use mathlib.Core.List.{List, [], ◌++◌, append_assoc}
@@ -7,7 +7,7 @@ use native.Mathlib.Omega.{arith}
 use lib.ListN.{length, length-append}
 use lib.Dec.{eqb, leb}
 use borrow.Author.Tests.{ne_eqb}
-use Rattle.laws.specs.Pick.{pick, yes_so, no_so, eq_so, ne_so, pick_ap}
+use Rattle.laws.specs.Pick.{pick, yes_so, eq_so, ne_so}
 use Rattle.laws.specs.And.{and_3_out}
 use Rattle.chip.specs.Lents.{Lent}
 use Rattle.chip.specs.Time.{lent_fits}
@@ -17,17 +17,15 @@ use Rattle.lines.specs.declared.Line.{Line}
 use Rattle.printing.specs.Printing.{header, bad_line}
 use Rattle.lines.specs.Reading.{line_fits}
 use Rattle.printing.specs.Put.{put}
-use Rattle.printing.proofs.Puts.{put_put}
+use Rattle.lines.proofs.Hand.{whole_small}
+use Rattle.printing.proofs.Puts.{put_nil, put_put}
 use Rattle.player.specs.declared.Player.{Player}
 use Rattle.player.specs.Players.{head_fits, player_fits}
-use Rattle.trace.specs.declared.FeedReply.TheVariants.{Played, BadLine}
-use Rattle.trace.specs.Chunks.{headed_by, bad_line_between, feed_reply_number, answer_of, player_number, end_choice, feed_choice}
+use Rattle.trace.specs.Chunks.{bad_line_between, end_choice, feed_choice}
 
-pub head_first : (flag : ℕ) → flag ≡ 0 → header ≡ headed_by flag
-head_first flag e = eq_so _ e refl
-
-pub head_out : (flag : ℕ) → (flag ≡ 0 → ⊥) → [] ≡ headed_by flag
-head_out flag e = ne_so _ e refl
+pub header_length : length header ≡ 7
+unfolding header
+header_length = refl
 
 -- ---- the bad line
 
@@ -47,6 +45,9 @@ bad_not a b n = rw (ne_eqb b.place 5 n) (none (eqb a.place 5))
     none true = refl
     none false = refl
 
+-- what the two parts around the lines rest on
+pub ruleset parts = (put_nil, header_length, bad_before, bad_now, bad_not, whole_small)
+
 -- ---- the refusals
 
 pub player_out : (p : Player) → player_fits p ≡ true
@@ -54,18 +55,9 @@ pub player_out : (p : Player) → player_fits p ≡ true
 unfolding player_fits
 player_out p e = and_3_out (head_fits p) (line_fits p.line) (device_fits (device_part p.device) p.device) e
 
-pub answer_number : (p : Player) → feed_reply_number (answer_of p) ≡ player_number p
-answer_number p = pick_ap feed_reply_number (eqb p.line.place 5) BadLine Played
-
 module _ {A : Type 0} (p : Player) (asked bytes : ℕ) {r : A} where
   pub end_done : {done : A} (short outside : A) → player_fits p ≡ true → leb asked bytes ≡ true → r ≡ done → r ≡ end_choice p asked bytes outside short done
   end_done short outside f k e = yes_so _ f (yes_so _ k e)
-
-  pub end_short : {short : A} (done outside : A) → player_fits p ≡ true → leb asked bytes ≡ false → r ≡ short → r ≡ end_choice p asked bytes outside short done
-  end_short done outside f k e = yes_so _ f (no_so _ k e)
-
-  pub end_outside : {outside : A} (done short : A) → player_fits p ≡ false → r ≡ outside → r ≡ end_choice p asked bytes outside short done
-  end_outside done short f e = no_so _ f e
 
 -- both lent slices have their lengths
 abbrev lent_right : Player → Lent → Bool
@@ -75,18 +67,6 @@ module _ {A : Type 0} (p : Player) (m : Lent) (asked bytes : ℕ) {r : A} where
   pub feed_done : {done : A} (short outside wrong : A) → lent_right p m ≡ true → player_fits p ≡ true → leb asked bytes ≡ true → r ≡ done
       → r ≡ feed_choice p m asked bytes wrong outside short done
   feed_done short outside wrong n f k e = yes_so _ n (end_done p asked bytes short outside f k e)
-
-  pub feed_short : {short : A} (done outside wrong : A) → lent_right p m ≡ true → player_fits p ≡ true → leb asked bytes ≡ false → r ≡ short
-      → r ≡ feed_choice p m asked bytes wrong outside short done
-  feed_short done outside wrong n f k e = yes_so _ n (end_short p asked bytes done outside f k e)
-
-  pub feed_outside : {outside : A} (done short wrong : A) → lent_right p m ≡ true → player_fits p ≡ false → r ≡ outside
-      → r ≡ feed_choice p m asked bytes wrong outside short done
-  feed_outside done short wrong n f e = yes_so _ n (end_outside p asked bytes done short f e)
-
-  pub feed_wrong : {wrong : A} (done short outside : A) → lent_right p m ≡ false → r ≡ wrong
-      → r ≡ feed_choice p m asked bytes wrong outside short done
-  feed_wrong done short outside n e = no_so _ n e
 
 -- ---- an output in parts
 

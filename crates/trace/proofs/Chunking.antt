@@ -1,22 +1,25 @@
 -- Two runs of bytes one after the other: what is played and what is shown of both is that of the first, and then of the second.
 use mathlib.Core.Path.{◌≡◌, refl, ap, sym, ◌∙◌}
 use mathlib.Core.Bool.{true}
-use mathlib.Core.List.{List, [], ◌++◌}
-use Prim.Native.Nat.{ℕ, ◌+◌, ◌-◌, ◌≤◌}
+use mathlib.Core.List.{List, [], ◌∷◌, ◌++◌, append-nil}
+use Prim.Native.Nat.{ℕ, ◌+◌, ◌*◌, ◌≤◌}
 use native.Mathlib.Omega.{arith}
-use lib.ListN.{length, take, drop, length-drop}
-use lib.Seq.{take-add, length-take-le}
+use lib.ListN.{length, length-append}
 use Rattle.codes.specs.Part.{Part}
 use Rattle.pins.specs.Devices.{device_part}
-use Rattle.pins.specs.Answers.{PinBench, played}
+use Rattle.pins.specs.Ranges.{device_fits}
+use Rattle.pins.specs.Answers.{PinBench, pin_bench, played}
 use Rattle.pins.proofs.Kept.{played_part}
 use Rattle.lists.specs.Answers.{played_q}
 use Rattle.lines.specs.declared.Line.{Line}
 use Rattle.lines.specs.Reading.{read, found, line_fits}
 use Rattle.printing.specs.Printing.{printed}
+use Rattle.printing.specs.Put.{put}
 use Rattle.lines.proofs.Runs.{read_append, found_append, read_whole}
-use Rattle.printing.proofs.Puts.{printed_append}
+use Rattle.printing.proofs.Puts.{put_nil, put_put, printed_append}
 use Rattle.trace.specs.Chunks.{played_lines, shown_lines}
+use Rattle.trace.specs.Pieces.{Took}
+use Rattle.trace.specs.declared.chunks.Placed.{Placed}
 use Rattle.trace.proofs.Plays.{played_append, played_q_append, played_q_length, played_own, played_q_own}
 
 -- the part stays
@@ -55,21 +58,72 @@ module _ (l : Line) (b : PinBench) where
       ∙ ap (λ (k : ℕ). printed (l.whole + 1) qs ++ printed k rs) n
       ∙ ap (λ (ks : List ℕ). printed (l.whole + 1) qs ++ printed ((read l x).whole + 1) ks) (played_q_own (found l x) b (found (read l x) y))
 
--- ---- a turn of the loop over pieces: bytes i to e of the text x, after those before i
+-- ---- one more piece y of the text, after the bytes x
 
-take_on : {A : Type 0} (x : List A) (i e : ℕ) → i ≤ e → take e x ≡ take i x ++ take (e - i) (drop i x)
-take_on x i e h = let n : e ≡ i + (e - i) = omega arith in ap (λ (k : ℕ). take k x) n ∙ take-add i (e - i) x
+module _ (l : Line) (b : PinBench) (f : line_fits l ≡ true) (x y d : List ℕ) (at : ℕ) (room : at + 10 * length (x ++ y) ≤ length d) where
+  module _ (hand : Line) (c : PinBench) (p : hand ≡ read l x) (q : c ≡ played_lines l b x) where
+    turn_line : read hand y ≡ read l (x ++ y)
+    turn_line = rw p (sym (read_append l x y))
 
-pub part_length : {A : Type 0} (x : List A) (i e : ℕ) → i ≤ e → e ≤ length x → length (take (e - i) (drop i x)) ≡ e - i
-part_length x i e h k = length-take-le (e - i) (drop i x) (rw length-drop (omega arith))
+    turn_bench : played_lines hand c y ≡ played_lines l b (x ++ y)
+    turn_bench = rw (p, q) (sym (lines_played l b x y))
 
-module _ (l : Line) (b : PinBench) (x : List ℕ) (i e : ℕ) (h : i ≤ e) (hand : Line) (c : PinBench) (p : hand ≡ read l (take i x))
-    (q : c ≡ played_lines l b (take i x)) where
-  pub turn_line : read hand (take (e - i) (drop i x)) ≡ read l (take e x)
-  turn_line = rw (p, take_on x i e h) (sym (read_append l (take i x) (take (e - i) (drop i x))))
+    turn_shown : shown_lines l b x ++ shown_lines hand c y ≡ shown_lines l b (x ++ y)
+    turn_shown = rw (p, q) (sym (lines_shown l b f x y))
 
-  pub turn_bench : played_lines hand c (take (e - i) (drop i x)) ≡ played_lines l b (take e x)
-  turn_bench = rw (p, q, take_on x i e h) (sym (lines_played l b (take i x) (take (e - i) (drop i x))))
+  pub took_more : (r r' : Placed) (m i o m' i' o' : List ℕ) → Took l b x d at r m i o → Took r.line (pin_bench r.device m i) y o r.at r' m' i' o'
+      → Took l b (x ++ y) d at r' m' i' o'
+  took_more r r' m i o m' i' o' first next =
+      let c : PinBench = pin_bench r.device m i in
+      let here : c ≡ played_lines l b x = λ j. pin_bench (first.1.0.0 j) (first.1.1.0 j) (first.1.1.1.0 j) in
+      let bench : played_lines r.line c y ≡ played_lines l b (x ++ y) = turn_bench r.line c first.0.0 here in
+      let before : List ℕ = shown_lines l b x in
+      let more : List ℕ = shown_lines r.line c y in
+      let shown : before ++ more ≡ shown_lines l b (x ++ y) = turn_shown r.line c first.0.0 here in
+      let all : length (x ++ y) ≡ length x + length y = length-append x y in
+      let at-is : r.at ≡ at + length before = first.1.1.1.1.1.0 in
+      let end : r'.at ≡ r.at + length more = next.1.1.1.1.1.0 in
+      let few : r.at ≤ at + 10 * length x = first.1.1.1.1.1.1 in
+      let few-more : r'.at ≤ r.at + 10 * length y = next.1.1.1.1.1.1 in
+      let both : length (before ++ more) ≡ length before + length more = length-append before more in (
+        (next.0.0 ∙ turn_line r.line c first.0.0 here, next.0.1),
+        (
+          (next.1.0.0 ∙ ap (λ (z : PinBench). z.device) bench, next.1.0.1),
+          (
+            next.1.1.0 ∙ ap (λ (z : PinBench). z.memory) bench,
+            (
+              next.1.1.1.0 ∙ ap (λ (z : PinBench). z.identification) bench,
+              (
+                next.1.1.1.1.0 ∙ ap (λ (z : List ℕ). put z r.at more) first.1.1.1.1.0 ∙ ap (λ (k : ℕ). put (put d at before) k more) at-is
+                    ∙ put_put d at before more (omega arith) ∙ ap (put d at) shown,
+                (omega (arith, ap length shown), omega arith),
+              ),
+            ),
+          ),
+        ),
+      )
 
-  pub turn_shown : line_fits l ≡ true → shown_lines l b (take i x) ++ shown_lines hand c (take (e - i) (drop i x)) ≡ shown_lines l b (take e x)
-  turn_shown f = rw (p, q, take_on x i e h) (sym (lines_shown l b f (take i x) (take (e - i) (drop i x))))
+pub took_nothing : (r : Placed) (m i d : List ℕ) → line_fits r.line ≡ true → device_fits (device_part r.device) r.device ≡ true
+    → Took r.line (pin_bench r.device m i) [] d r.at r m i d
+unfolding read
+took_nothing r m i d f g =
+    let b : PinBench = pin_bench r.device m i in
+    let still : b ≡ played_lines r.line b [] = sym (played_nothing r.line b) in
+    let none : [] ≡ shown_lines r.line b [] = sym (shown_nothing r.line b) in (
+      (refl, f),
+      (
+        (ap (λ (z : PinBench). z.device) still, g),
+        (
+          ap (λ (z : PinBench). z.memory) still,
+          (
+            ap (λ (z : PinBench). z.identification) still,
+            (sym (put_nil d r.at) ∙ ap (put d r.at) none, (omega (arith, ap length none), omega arith)),
+          ),
+        ),
+      ),
+    )
+
+-- nothing is left
+pub all_seen : {A : Type 0} (x rest t : List A) → x ++ rest ≡ t → length rest ≡ 0 → x ≡ t
+all_seen x [] t e h = sym (append-nil x) ∙ e
+all_seen x (b ∷ rest) t e h = absurd (omega arith)

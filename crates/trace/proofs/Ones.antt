@@ -4,8 +4,6 @@ use Rattle.trace.proofs.public.feed.Kinds as feed
 use Rattle.trace.proofs.public.feed.Reads as feed-reads
 use Rattle.trace.proofs.public.finish.Kinds as finish
 use Rattle.trace.proofs.public.finish.Reads as finish-reads
-use Rattle.trace.proofs.FeedReply.number.Kinds as feedreply-number
-use Rattle.trace.proofs.FeedReply.number.Reads as feedreply-number-reads
 
 pub feed_one : OneResult feed.ps feed.r feed-reads.Post
 feed_one κs a z z' e e' p q = same p.0 q.0
@@ -26,6 +24,3 @@ pub finish_output : OneExit finish.ps finish.r finish-reads.Post (λ κs e. e.1.
 finish_output κs a z z' e e' p q = same p.1.1.0 q.1.1.0
 
 -- ---- inner calls
-
-pub feedreply_number_one : OneResult feedreply-number.ps feedreply-number.r feedreply-number-reads.Post
-feedreply_number_one κs a z z' e e' p q = same p q

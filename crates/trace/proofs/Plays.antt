@@ -1,4 +1,5 @@
 -- The pin model's promise for a list of events, where the memory, the device and the output are right: nothing is refused.
+use Rattle.std.specs.Prelude.{Ok}
 use mathlib.Core.Path.{◌≡◌, refl, ap, sym, ◌∙◌}
 use mathlib.Core.Bool.{true}
 use mathlib.Core.List.{List, [], ◌∷◌, ◌++◌}
@@ -7,8 +8,7 @@ use lib.ListN.{length}
 use Rattle.laws.specs.Pick.{pick}
 use Rattle.codes.specs.Part.{Part, part_of}
 use Rattle.codes.proofs.Sound.{sound_of}
-use Rattle.codes.specs.declared.Outcome.{Outcome}
-use Rattle.codes.specs.declared.Outcome.TheVariants.{Done}
+use Rattle.codes.specs.Refusals.{Outcome, no_refusal}
 use Rattle.pins.specs.declared.Device.{Device}
 use Rattle.pins.specs.declared.Stepped.{Stepped}
 use Rattle.pins.specs.Devices.{device_part, q}
@@ -19,11 +19,11 @@ use Rattle.edges.specs.Falling.{level_number}
 use Rattle.pins.specs.Answers.{PinBench, answer, answer_memory, after_event, played}
 use Rattle.lists.specs.Answers.{played_q}
 
-pub done_device : {o : Outcome} {r : Stepped} (y x : Device) → o ≡ Done → r ≡ answer o y x → r.device ≡ y
+pub done_device : {o : Outcome} {r : Stepped} (y x : Device) → o ≡ no_refusal → r ≡ answer o y x → r.device ≡ y
 unfolding pick
 done_device y x e q = rw (q, e) refl
 
-pub done_memory : {o : Outcome} (n m k : List ℕ) → o ≡ Done → k ≡ answer_memory o n m → k ≡ n
+pub done_memory : {o : Outcome} (n m k : List ℕ) → o ≡ no_refusal → k ≡ answer_memory o n m → k ≡ n
 unfolding pick
 done_memory n m k e q = rw (q, e) refl
 

@@ -1,8 +1,9 @@
 -- A text a chunk at a time: the player after a chunk, what is lent to it, what is put out; the refusals; and what the
 -- end of the text adds.
+use Rattle.trace.specs.Numbers.{FeedReply}
 use Rattle.std.specs.Prelude.{ℕ, ◌+◌, ◌*◌, Bool, false, ◌||◌, List, [], ◌∷◌, ◌++◌, length, eqb, leb}
+use Rattle.std.specs.Prelude.{Result, Ok, Err}
 use Rattle.laws.specs.Pick.{pick}
-use Rattle.codes.specs.Refusals.{refusal_number}
 use Rattle.codes.specs.declared.Refusal.{Refusal}
 use Rattle.codes.specs.declared.Refusal.TheVariants.{MemoryLength, RecordRange, OutputLength}
 use Rattle.chip.specs.Lents.{Lent}
@@ -17,8 +18,8 @@ use Rattle.printing.specs.Printing.{header, bad_line, printed}
 use Rattle.printing.specs.Put.{put}
 use Rattle.player.specs.declared.Player.{Player}
 use Rattle.player.specs.Players.{start_bench, player_of, start_player, player_fits}
-use Rattle.trace.specs.declared.FeedReply.{FeedReply}
-use Rattle.trace.specs.declared.FeedReply.TheVariants.{Played, BadLine, Refused}
+use Rattle.trace.specs.declared.FeedError.{FeedError}
+use Rattle.trace.specs.declared.FeedError.TheVariants.{BadLine, Refused}
 use Rattle.trace.specs.declared.Fed.{Fed}
 
 -- ---- what a chunk puts out
@@ -69,14 +70,8 @@ end_output p = headed p ++ bad_line_between p.line (ended p.line)
 
 -- ---- answers
 
--- 11 from the bad line on
-abbrev pub feed_reply_number : FeedReply → ℕ
-feed_reply_number Played = 0
-feed_reply_number BadLine = 11
-feed_reply_number (Refused r) = refusal_number r
-
 abbrev pub answer_of : Player → FeedReply
-answer_of p = pick (is_stopped p.line) BadLine Played
+answer_of p = pick (is_stopped p.line) (Err BadLine) (Ok tt)
 
 abbrev pub player_number : Player → ℕ
 player_number p = pick (is_stopped p.line) 11 0
@@ -99,7 +94,7 @@ abbrev pub fed_to : FeedReply → Player → ℕ → Fed
 fed_to a p n = record { answer = a; player = p; written = n }
 
 abbrev pub refused_to : Refusal → Player → Fed
-refused_to r p = fed_to (Refused r) p 0
+refused_to r p = fed_to (Err (Refused r)) p 0
 
 -- of the line and the device in hand, the header out
 abbrev pub fed_by : Line → Device → ℕ → Fed

@@ -1,6 +1,8 @@
 // A chunk of a text: it is taken in pieces, and each piece is read, played and printed.
+//
+// That line and device are inside their ranges, and what is lent is as long as the part has it, stands in four
+// contracts: as ghost fields of `Placed` it would have to be shown wherever one is made, which is oftener.
 ghost use Rattle.std.specs.Prelude.{◌≡◌, true, ◌+◌, ◌*◌, ◌<◌, ◌≤◌, length, leb};
-ghost use Rattle.codes.specs.Part.{room_words};
 ghost use Rattle.chip.specs.Lents.{lent};
 ghost use Rattle.pins.specs.Devices.{device_part};
 ghost use Rattle.pins.specs.Answers.{played, pin_bench};
@@ -14,7 +16,7 @@ ghost use Rattle.trace.specs.Chunks.{answer_of, room, fed_by, taken_by, ended_by
 ghost use Rattle.trace.specs.Pieces.{Shows, Took};
 
 use crate::parsing::parse;
-use crate::{Fed, FeedReply};
+use crate::{Fed, FeedError};
 use codes::Refusal;
 use lines::Line;
 use lists::play;
@@ -22,14 +24,8 @@ use pins::Device;
 use player::Player;
 use printing::{print, put_bad, put_header};
 
-// An array has its length by its type; the proofs ask for that of the latch's marks.
-fn marked(device: Device) -> bool
-    ensures { length device.frame.latch.marks ≡ room_words }
-{
-    true
-}
-
 // The device after some events, and the index after their lines.
+// Stays a struct: `device` and `at` say more than the places of a tuple.
 #[derive(Clone, Copy)]
 struct Shown {
     device: Device,
@@ -57,17 +53,12 @@ fn show(
         out.old at (length events.now)
         result.device memory.new identification.new out.new result.at }
 {
-    marked(device);
-    let stepped = play(device, memory, identification, events, qs);
-    let next = stepped.device;
-    let end = print(out, at, n, qs);
-    Shown {
-        device: next,
-        at: end,
-    }
+    let device = play(device, memory, identification, events, qs).device;
+    let at = print(out, at, n, qs);
+    Shown { device, at }
 }
 
-// The line and the device after a piece of the text, and the index after its output.
+// The line and the device in hand, and the index in the output: before a piece of the text, and after it.
 #[derive(Clone, Copy)]
 struct Placed {
     line: Line,
@@ -77,122 +68,80 @@ struct Placed {
 
 // A piece of the text is read into events, and these are shown.
 fn piece(
-    line: Line,
-    device: Device,
+    placed: Placed,
     memory: &mut [u8],
     identification: &mut [u8],
     text: &[u8],
     events: &mut [u64],
     qs: &mut [u8],
     out: &mut [u8],
-    at: usize,
 ) -> Placed
-    requires memory_len { (length memory.old ≡ (device_part device).size)
-        × (length identification.old ≡ (device_part device).page) × (device_fits (device_part device) device ≡ true)
-        × (line_fits line ≡ true) }
+    requires memory_len { (length memory.old ≡ (device_part placed.device).size)
+        × (length identification.old ≡ (device_part placed.device).page)
+        × (device_fits (device_part placed.device) placed.device ≡ true)
+        × (line_fits placed.line ≡ true) }
     requires text_in_bounds { (length text.now ≤ length events.old) × (length text.now ≤ length qs.old)
-        × (at + 10 * length text.now ≤ length out.old) }
-    ensures { Took line (pin_bench device memory.old identification.old)
-        text.now out.old at result memory.new identification.new
+        × (placed.at + 10 * length text.now ≤ length out.old) }
+    ensures { Took placed.line (pin_bench placed.device memory.old identification.old)
+        text.now out.old placed.at result memory.new identification.new
         out.new }
 {
-    let parsed = parse(line, text, events);
-    let count = parsed.count;
-    let number = line.whole + 1;
+    let parsed = parse(placed.line, text, events);
     let shown = show(
-        device,
+        placed.device,
         memory,
         identification,
-        &events[..count],
-        &mut qs[..count],
+        &events[..parsed.count],
+        &mut qs[..parsed.count],
         out,
-        at,
-        number,
+        placed.at,
+        placed.line.whole + 1,
     );
-    let hand = parsed.line;
-    let next = shown.device;
     Placed {
-        line: hand,
-        device: next,
+        line: parsed.line,
+        device: shown.device,
         at: shown.at,
     }
 }
 
-// Where the piece that starts at i ends: 1,024 bytes on, or with the text.
-fn piece_end(i: usize, end: usize) -> usize
-    requires { i < end }
-    ensures { (i < result) × (result ≤ end) × (result ≤ i + 1024) }
-{
-    if end - i < 1024 {
-        return end;
-    }
-    i + 1024
-}
-
-fn event_room() -> [u64; 1024]
-    ensures { 1024 ≡ length result }
-{
-    [0; 1024]
-}
-
-fn level_room() -> [u8; 1024]
-    ensures { 1024 ≡ length result }
-{
-    [0; 1024]
-}
-
-// A text of any length, piece by piece.
+// A text of any length, 1,024 bytes at a time.
 fn pieces(
-    line: Line,
-    device: Device,
+    start: Placed,
     memory: &mut [u8],
     identification: &mut [u8],
     text: &[u8],
     out: &mut [u8],
-    at: usize,
 ) -> Placed
-    requires { (length memory.old ≡ (device_part device).size)
-        × (length identification.old ≡ (device_part device).page) × (device_fits (device_part device) device ≡ true)
-        × (line_fits line ≡ true)
-        × (at + 10 * length text.now ≤ length out.old) }
-    ensures { Took line (pin_bench device memory.old identification.old)
-        text.now out.old at result memory.new identification.new
+    requires { (length memory.old ≡ (device_part start.device).size)
+        × (length identification.old ≡ (device_part start.device).page)
+        × (device_fits (device_part start.device) start.device ≡ true)
+        × (line_fits start.line ≡ true)
+        × (start.at + 10 * length text.now ≤ length out.old) }
+    ensures { Took start.line (pin_bench start.device memory.old identification.old)
+        text.now out.old start.at result memory.new identification.new
         out.new }
 {
-    let mut events = event_room();
-    let mut qs = level_room();
-    let mut hand = line;
-    let mut next = device;
-    let mut end = at;
-    let mut i: usize = 0;
-    while i < text.len() {
-        let stop = piece_end(i, text.len());
-        let placed = piece(
-            hand,
-            next,
+    let mut events = [0; 1024];
+    let mut qs = [0; 1024];
+    let mut placed = start;
+    for bytes in text.chunks(1024) {
+        placed = piece(
+            placed,
             memory,
             identification,
-            &text[i..stop],
+            bytes,
             &mut events,
             &mut qs,
             out,
-            end,
         );
-        hand = placed.line;
-        next = placed.device;
-        end = placed.at;
-        i = stop;
     }
-    Placed {
-        line: hand,
-        device: next,
-        at: end,
-    }
+    placed
 }
 
 // ---- what stands before and after the lines of a chunk
 
 // The header, where it is not out yet.
+#[tactic(auto, using(crate::proofs::Choosing::parts), unfolding(laws::specs::Pick::pick))]
 fn put_head(flag: u8, out: &mut [u8]) -> usize
     requires { 7 ≤ length out.old }
     ensures out_after { out.new ≡ put out.old 0 (headed_by flag) }
@@ -205,6 +154,7 @@ fn put_head(flag: u8, out: &mut [u8]) -> usize
 }
 
 // The bad line, where the text came to it between the lines a and b in hand.
+#[tactic(auto, using(crate::proofs::Choosing::parts), unfolding(laws::specs::Pick::pick))]
 fn put_bad_between(out: &mut [u8], at: usize, a: Line, b: Line) -> usize
     requires { (at + 12 ≤ length out.old) × (line_fits b ≡ true) }
     ensures out_after { out.new ≡ put out.old at (bad_line_between a b) }
@@ -219,32 +169,28 @@ fn put_bad_between(out: &mut [u8], at: usize, a: Line, b: Line) -> usize
     at
 }
 
-fn answer_of(player: Player) -> FeedReply
+fn answer_of(player: Player) -> Result<(), FeedError>
     ensures { result ≡ answer_of player }
 {
-    let line = player.line;
-    if line.place == 5 {
-        return FeedReply::BadLine;
+    if player.line.place == 5 {
+        return Err(FeedError::BadLine);
     }
-    FeedReply::Played
+    Ok(())
 }
 
 // Whether an output of so many bytes has the room that n bytes of text ask for.
 pub(crate) fn has_room(n: usize, bytes: usize) -> bool
     ensures { result ≡ leb (room n) bytes }
 {
-    if bytes < 19 {
-        return false;
-    }
-    n <= (bytes - 19) / 10
+    19 <= bytes && n <= (bytes - 19) / 10
 }
 
 pub(crate) fn refused(player: Player, refusal: Refusal) -> Fed
     ensures { result ≡ refused_to refusal player }
 {
     Fed {
-        answer: FeedReply::Refused(refusal),
-        player: player,
+        answer: Err(refusal.into()),
+        player,
         written: 0,
     }
 }
@@ -253,15 +199,15 @@ pub(crate) fn refused(player: Player, refusal: Refusal) -> Fed
 fn fed(line: Line, device: Device, written: usize) -> Fed
     ensures { result ≡ fed_by line device written }
 {
-    let after = Player {
+    let player = Player {
         headed: 1,
-        line: line,
-        device: device,
+        line,
+        device,
     };
     Fed {
-        answer: answer_of(after),
-        player: after,
-        written: written,
+        answer: answer_of(player),
+        player,
+        written,
     }
 }
 
@@ -286,14 +232,15 @@ pub(crate) fn take_chunk(
         (lent memory.old identification.old) text.now) }
     ensures written_in_bounds { result.written ≤ length out.old }
 {
-    let line = player.line;
-    let device = player.device;
     let at = put_head(player.headed, out);
-    let placed = pieces(line, device, memory, identification, text, out, at);
-    let hand = placed.line;
-    let next = placed.device;
-    let end = put_bad_between(out, placed.at, line, hand);
-    fed(hand, next, end)
+    let start = Placed {
+        line: player.line,
+        device: player.device,
+        at,
+    };
+    let placed = pieces(start, memory, identification, text, out);
+    let end = put_bad_between(out, placed.at, player.line, placed.line);
+    fed(placed.line, placed.device, end)
 }
 
 // The end of a text that is taken.
@@ -303,10 +250,8 @@ pub(crate) fn take_end(player: Player, out: &mut [u8]) -> Fed
     ensures out_after { out.new ≡ put out.old 0 (end_output player) }
     ensures written_in_bounds { result.written ≤ length out.old }
 {
-    let line = player.line;
-    let device = player.device;
-    let hand = line.ended();
+    let hand = player.line.ended();
     let at = put_head(player.headed, out);
-    let end = put_bad_between(out, at, line, hand);
-    fed(hand, device, end)
+    let end = put_bad_between(out, at, player.line, hand);
+    fed(hand, player.device, end)
 }

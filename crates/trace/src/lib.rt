@@ -3,9 +3,13 @@
 //
 // Public calls, each for every input: feed, a chunk of the text; finish, its end; and player's start, memory,
 // identification and in_ranges, whose player these take.
-#![tactic(auto)]
+#![tactic(auto, unfolding(laws::specs::Pick::pick))]
 
-use codes::Refusal;
+ghost use Rattle.std.specs.Prelude.{◌≡◌};
+ghost use Rattle.trace.specs.declared.FeedError.TheVariants.{Refused};
+ghost use Rattle.trace.specs.Numbers.{feed_error_number};
+
+use codes::{Numbered, Refusal};
 use player::Player;
 
 mod chunks;
@@ -14,18 +18,38 @@ mod public;
 
 pub use public::{feed, finish};
 
-// What a chunk, or the end of the text, is answered with.
-#[derive(Clone, Copy)]
-pub enum FeedReply {
-    Played,
+// Why nothing more of a text is played: it has had its bad line, or the call is refused.
+#[derive(Clone, Copy, PartialEq, Eq)]
+pub enum FeedError {
     BadLine,
     Refused(Refusal),
 }
 
-// The player that follows, and how many bytes of the output were written.
+impl From<Refusal> for FeedError {
+    ghost from_gives = { λ r e. e ≡ Refused r };
+
+    fn from(refusal: Refusal) -> FeedError {
+        FeedError::Refused(refusal)
+    }
+}
+
+// Document 01's number: 11 from the bad line on, else the refusal's.
+impl Numbered for FeedError {
+    ghost number = { feed_error_number };
+
+    fn number(self) -> u32 {
+        match self {
+            FeedError::BadLine => 11,
+            FeedError::Refused(refusal) => refusal.number(),
+        }
+    }
+}
+
+// The answer, the player that follows, and how many bytes of the output were written.
+// Stays a struct: a bad line and a refusal hand the player back too (clause value).
 #[derive(Clone, Copy)]
 pub struct Fed {
-    pub answer: FeedReply,
+    pub answer: Result<(), FeedError>,
     pub player: Player,
     pub written: usize,
 }

@@ -14,6 +14,7 @@ pub(crate) struct Parsed {
 
 // What is taken at once: a byte, or a whole line. How many bytes these are; the line in hand after them; how many
 // lines end in them, one or none, and its event.
+// Stays a count with an event beside it, and no Option: the definition `Takes` and `closing` give it so.
 #[derive(Clone, Copy)]
 struct Taken {
     bytes: usize,
@@ -27,14 +28,11 @@ fn byte_taken(hand: Line, text: &[u8], i: usize) -> Taken
     ensures { Takes hand text.now i result.bytes result.line result.lines result.event }
 {
     let byte = text[i];
-    let event = hand.event();
-    let lines = hand.closing(byte);
-    let line = hand.next(byte);
     Taken {
         bytes: 1,
-        line: line,
-        lines: lines,
-        event: event,
+        line: hand.next(byte),
+        lines: hand.closing(byte),
+        event: hand.event(),
     }
 }
 
@@ -44,17 +42,14 @@ fn four_taken(hand: Line, text: &[u8], i: usize) -> Taken
     ensures { Takes hand text.now i result.bytes result.line result.lines result.event }
 {
     let level = text[i + 2];
-    let kind = level_kind(text[i], text[i + 1], level, text[i + 3]);
-    if kind == 6 {
+    let Some(kind) = level_kind(text[i], text[i + 1], level, text[i + 3]) else {
         return byte_taken(hand, text, i);
-    }
-    let line = hand.past_line();
-    let event = level_event(kind, level);
+    };
     Taken {
         bytes: 4,
-        line: line,
+        line: hand.past_line(),
         lines: 1,
-        event: event,
+        event: level_event(kind, level),
     }
 }
 
@@ -63,16 +58,16 @@ fn taken_at(hand: Line, text: &[u8], i: usize) -> Taken
     requires { i < length text.now }
     ensures { Takes hand text.now i result.bytes result.line result.lines result.event }
 {
-    if 4 <= text.len() - i {
-        if hand.is_fresh() {
-            return four_taken(hand, text, i);
-        }
+    if 4 <= text.len() - i && hand.is_fresh() {
+        return four_taken(hand, text, i);
     }
     byte_taken(hand, text, i)
 }
 
 // The bytes of a text one after another; the events of the lines that end in it stand at the start of `events`, which
 // has room for one a byte.
+// Stays a loop by an index: a step takes one byte or four, which no iterator over the bytes does.
+#[tactic(auto, unfolding(lines::specs::Reading::read, lines::specs::Reading::found))]
 pub(crate) fn parse(line: Line, text: &[u8], events: &mut [u64]) -> Parsed
     requires { length text.now ≤ length events.old }
     ensures line_value { result.line ≡ read line text.now }
@@ -90,8 +85,5 @@ pub(crate) fn parse(line: Line, text: &[u8], events: &mut [u64]) -> Parsed
         hand = taken.line;
         i += taken.bytes;
     }
-    Parsed {
-        line: hand,
-        count: count,
-    }
+    Parsed { line: hand, count }
 }

@@ -1,26 +1,48 @@
 // The public calls: a chunk of a text, and its end.
-ghost use Rattle.std.specs.Prelude.{◌≡◌, ◌≤◌, length};
+ghost use Rattle.std.specs.Prelude.{◌≡◌, ◌≤◌, length, Ok, Err};
+ghost use Rattle.codes.specs.declared.Refusal.TheVariants.{MemoryLength, RecordRange, OutputLength};
 ghost use Rattle.chip.specs.Lents.{lent};
-ghost use Rattle.trace.specs.Chunks.{feed_reply_number, feed_answer, feed_number, feed_memory, feed_identification};
+ghost use Rattle.trace.specs.Chunks.{room, feed_choice, end_choice};
+ghost use Rattle.trace.specs.Numbers.{feed_reply_number};
+ghost use Rattle.trace.specs.Chunks.{feed_answer, feed_number, feed_memory, feed_identification};
 ghost use Rattle.trace.specs.Chunks.{feed_output, end_answer, end_number, end_written};
 
+use crate::Fed;
 use crate::chunks::{has_room, refused, take_chunk, take_end};
-use crate::{Fed, FeedReply};
 use chip::lent_fits;
 use codes::Refusal;
 use player::Player;
 
-impl FeedReply {
-    // Document 01's number: 0, 11 from the bad line on, 1, 2 and 5.
-    pub fn number(self) -> u32
-        ensures { result ≡ feed_reply_number self }
-    {
-        match self {
-            FeedReply::Played => 0,
-            FeedReply::BadLine => 11,
-            FeedReply::Refused(refusal) => refusal.number(),
-        }
+// What refuses the end of a text, or so many bytes of it, where the output is `out`.
+fn end_refused(player: Player, bytes: usize, out: &[u8]) -> Result<(), Refusal>
+    ensures { result ≡ end_choice player (room bytes) (length out.now) (Err RecordRange)
+        (Err OutputLength) (Ok tt) }
+{
+    if !player.in_ranges() {
+        return Err(Refusal::RecordRange);
     }
+    if !has_room(bytes, out.len()) {
+        return Err(Refusal::OutputLength);
+    }
+    Ok(())
+}
+
+// What refuses a chunk.
+fn chunk_refused(
+    player: Player,
+    memory: &[u8],
+    identification: &[u8],
+    text: &[u8],
+    out: &[u8],
+) -> Result<(), Refusal>
+    ensures { result ≡ feed_choice player (lent memory.now identification.now)
+        (room (length text.now)) (length out.now) (Err MemoryLength) (Err RecordRange)
+        (Err OutputLength) (Ok tt) }
+{
+    if !lent_fits(player.device.core.part, memory.len(), identification.len()) {
+        return Err(Refusal::MemoryLength);
+    }
+    end_refused(player, text.len(), out)
 }
 
 // A chunk of a text. Refusals 1 for a memory or an identification page of another length, 2 for a player outside its
@@ -45,16 +67,10 @@ pub fn feed(
         (lent memory.old identification.old) text.now out.old }
     ensures written_in_bounds { result.written ≤ length out.old }
 {
-    if lent_fits(player.device.core.part, memory.len(), identification.len()) {
-        if player.in_ranges() {
-            if has_room(text.len(), out.len()) {
-                return take_chunk(player, memory, identification, text, out);
-            }
-            return refused(player, Refusal::OutputLength);
-        }
-        return refused(player, Refusal::RecordRange);
+    match chunk_refused(player, memory, identification, text, out) {
+        Ok(()) => take_chunk(player, memory, identification, text, out),
+        Err(refusal) => refused(player, refusal),
     }
-    refused(player, Refusal::MemoryLength)
 }
 
 // The end of a text: a line in hand has no LF, so it is bad. Refusals 2, and 5 for an output of fewer than 19 bytes,
@@ -65,11 +81,8 @@ pub fn finish(player: Player, out: &mut [u8]) -> Fed
     ensures out_after { out.new ≡ end_written player out.old }
     ensures written_in_bounds { result.written ≤ length out.old }
 {
-    if player.in_ranges() {
-        if has_room(0, out.len()) {
-            return take_end(player, out);
-        }
-        return refused(player, Refusal::OutputLength);
+    match end_refused(player, 0, out) {
+        Ok(()) => take_end(player, out),
+        Err(refusal) => refused(player, refusal),
     }
-    refused(player, Refusal::RecordRange)
 }

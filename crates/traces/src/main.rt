@@ -5,8 +5,8 @@
 
 ghost use Rattle.std.specs.Prelude.{◌≡◌, ◌<◌, ◌≤◌, length};
 
-use codes::{M95M01, M95512, page_of, size_of};
-use console::{large_buffer, say};
+use codes::{M95M01, M95512, Numbered, page_of, size_of};
+use console::{say, zeros};
 use player::Player;
 use std::io;
 use std::io::Write;
@@ -27,35 +27,18 @@ fn fed(
     out: &mut [u8],
 ) -> io::Result<Player> {
     let f = trace::feed(player, memory, identification, text, out);
-    let n = f.written;
-    to.write_all(&out[..n])?;
+    to.write_all(&out[..f.written])?;
     Ok(f.player)
 }
 
 // The end of a text, and its number: 0, or 11 for a bad line.
 fn ended(to: &mut impl Write, player: Player, out: &mut [u8]) -> io::Result<()> {
     let f = trace::finish(player, out);
-    let n = f.written;
-    to.write_all(&out[..n])?;
-    let answer = f.answer;
-    say(to, b"number", answer.number() as u64)
+    to.write_all(&out[..f.written])?;
+    say(to, b"number", u64::from(f.answer.number()))
 }
 
-// Where the chunk of so many bytes that starts at i ends; a chunk has a byte at least.
-fn chunk_end(i: usize, end: usize, size: usize) -> usize
-    requires { i < end }
-    ensures { (i < result) × (result ≤ end) }
-{
-    if size == 0 {
-        return end;
-    }
-    if end - i < size {
-        return end;
-    }
-    i + size
-}
-
-// A text in chunks of so many bytes, and its end.
+// A text in chunks of so many bytes, one at least, and its end.
 fn play(
     to: &mut impl Write,
     part: u8,
@@ -66,11 +49,8 @@ fn play(
     out: &mut [u8],
 ) -> io::Result<()> {
     let mut player = player::start(part);
-    let mut i: usize = 0;
-    while i < text.len() {
-        let e = chunk_end(i, text.len(), size);
-        player = fed(to, player, memory, page, &text[i..e], out)?;
-        i = e;
+    for chunk in text.chunks(size.max(1)) {
+        player = fed(to, player, memory, page, chunk, out)?;
     }
     ended(to, player, out)
 }
@@ -81,7 +61,7 @@ fn play_on(to: &mut impl Write, part: u8, text: &[u8], size: usize) -> io::Resul
     let n = page_of(part);
     let mut memory = player::memory();
     let mut page = player::identification(part);
-    let mut out = large_buffer();
+    let mut out = zeros::<65536>();
     play(
         to,
         part,
@@ -97,12 +77,10 @@ fn play_on(to: &mut impl Write, part: u8, text: &[u8], size: usize) -> io::Resul
 fn first_line(bytes: &[u8]) -> usize
     ensures { result ≤ length bytes.now }
 {
-    for (i, byte) in bytes.iter().enumerate() {
-        if *byte == 10 {
-            return i + 1;
-        }
+    match bytes.iter().position(|byte| *byte == b'\n') {
+        Some(i) => i + 1,
+        None => bytes.len(),
     }
-    bytes.len()
 }
 
 // A line that is the title, and the text.
@@ -215,14 +193,14 @@ fn large(to: &mut impl Write) -> io::Result<()> {
 
 // More text for a player.
 fn taken(to: &mut impl Write, player: Player, text: &[u8]) -> io::Result<Player> {
-    let mut memory = large_buffer();
+    let mut memory = zeros::<65536>();
     let mut page = [0u8; 128];
-    let mut out = large_buffer();
+    let mut out = zeros::<65536>();
     fed(to, player, &mut memory, &mut page, text, &mut out)
 }
 
 fn finished(to: &mut impl Write, player: Player) -> io::Result<()> {
-    let mut out = large_buffer();
+    let mut out = zeros::<65536>();
     ended(to, player, &mut out)
 }
 
@@ -289,9 +267,9 @@ fn frames(text: &[u8], memory: &mut [u8], identification: &mut [u8], out: &mut [
 }
 
 fn all_lines(to: &mut impl Write) -> io::Result<Player> {
-    let mut memory = large_buffer();
+    let mut memory = zeros::<65536>();
     let mut page = [0u8; 128];
-    let mut out = large_buffer();
+    let mut out = zeros::<65536>();
     let most = frames(
         b"S\t0\nD\t0\nC\t1\nC\t0\nD\t0\nC\t1\nC\t0\nD\t0\nC\t1\nC\t0\nD\t0\nC\t1\nC\t0\nD\t0\nC\t1\nC\t0\nD\t1\nC\t1\nC\t0\nD\t0\nC\t1\nC\t0\nD\t1\nC\t1\nC\t0\nC\t1\nC\t0\nC\t1\nC\t0\nC\t1\nC\t0\nC\t1\nC\t0\nC\t1\nC\t0\nC\t1\nC\t0\nC\t1\nC\t0\nC\t1\nC\t0\nS\t1\n",
         &mut memory,
@@ -328,13 +306,6 @@ fn million(to: &mut impl Write) -> io::Result<()> {
 // ---- what is refused, by its number, and that the first in the order decides: a chunk of four bytes, which asks for
 // 59
 
-// How many of some bytes are lent: n, or all where there are fewer.
-fn first(n: usize, all: usize) -> usize
-    ensures { result ≤ all }
-{
-    if n < all { n } else { all }
-}
-
 // With a memory of so many bytes, and room for so many.
 fn refused(
     to: &mut impl Write,
@@ -343,11 +314,11 @@ fn refused(
     size: usize,
     room: usize,
 ) -> io::Result<()> {
-    let mut memory = large_buffer();
+    let mut memory = zeros::<65536>();
     let mut page = [0u8; 128];
-    let mut out = large_buffer();
-    let m = first(size, 65536);
-    let n = first(room, 65536);
+    let mut out = zeros::<65536>();
+    let m = size.min(65536);
+    let n = room.min(65536);
     let f = trace::feed(
         player,
         &mut memory[..m],
@@ -355,16 +326,14 @@ fn refused(
         b"S\t0\n",
         &mut out[..n],
     );
-    let answer = f.answer;
-    say(to, what, answer.number() as u64)
+    say(to, what, u64::from(f.answer.number()))
 }
 
 fn refused_end(to: &mut impl Write, what: &[u8], room: usize) -> io::Result<()> {
-    let mut out = large_buffer();
-    let n = first(room, 65536);
+    let mut out = zeros::<65536>();
+    let n = room.min(65536);
     let f = trace::finish(player::start(M95512), &mut out[..n]);
-    let answer = f.answer;
-    say(to, what, answer.number() as u64)
+    say(to, what, u64::from(f.answer.number()))
 }
 
 // The M95512's memory and page, also lent to an M95M01.

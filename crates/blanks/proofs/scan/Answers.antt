@@ -1,29 +1,25 @@
-use Prim.Native.Nat.{◌+◌, ◌≤◌}
-use mathlib.Core.Path.{refl, ap, ap₂, sym, ◌∙◌}
-use native.Mathlib.Nat.{add-sub_cancel_left}
+-- Each cell adds 1 or 0, and there are few enough of them.
+use Prim.Native.Nat.{◌<◌, ◌^◌}
+use mathlib.Core.Path.{◌∙◌}
 use native.Mathlib.Omega.{arith}
-use lib.ListN.{length, take, drop}
-use Rattle.laws.specs.Count.{count, count_le}
-use Rattle.blanks.specs.Blanks.{blank_at, blanks}
-use Rattle.blanks.proofs.Blanking.{row_count}
-use Rattle.std.proofs.Common.{rules}
+use Rattle.std.proofs.Common.{rules, tests}
+use Rattle.std.proofs.lemmas.Iterator.{YieldsList-from_slice, YieldsList-from_map}
+use Rattle.std.proofs.lemmas.Iterator.Consumers.{sum_by_from_yields_List, fits_by_from_yields_list}
+use Rattle.std.specs.List.{sum_by}
+use Rattle.blanks.proofs.Blanking.{as_one, blanks_sum, blanks_most}
 use Rattle.blanks.proofs.scan.Goals as goal
 
-pub loop-at-init : goal.loop-at-init
-unfolding count
-loop-at-init c = (search rules, refl)
+pub sum-requires-clause-fits : goal.sum-requires-clause-fits
+sum-requires-clause-fits c =
+    let m = c.args.cells.now in
+    let few : sum_by as_one m < 2 ^ 32 = omega (arith, blanks_sum m, blanks_most m, c.requires) in
+    fits_by_from_yields_list as_one m c.map.result _
+    (YieldsList-from_map _ as_one (YieldsList-from_slice m cc) c.map.ensures.closure (λ x r q k. search (rules, tests)))
+    few
 
-pub overflow_add-n : goal.overflow_add-n
-overflow_add-n c =
-    let l = c.loop-at in
-    let cells = c.args.cells.now in
-    omega (arith, l.invariant.0, l.invariant.1, count_le (blank_at cells) l.at, c.requires)
-
-pub loop-at-preserved : goal.loop-at-preserved
-loop-at-preserved c =
-    let l = c.loop-at in
-    let cells = c.args.cells.now in
-    let k = c.few_of.result in
-    let fits : l.at + k ≤ length cells = omega (arith, c.few_of.ensures.0, l.invariant.0) in
-    let own = c.few.ensures ∙ ap (λ n. blanks (take n (drop l.at cells))) (add-sub_cancel_left l.at k) in
-    (fits, ap₂ ◌+◌ l.invariant.1 own ∙ sym (row_count cells l.at k fits))
+pub returns : goal.returns
+returns c =
+    let m = c.args.cells.now in
+    sum_by_from_yields_List as_one m c.map.result _ c.sum.ensures.ran
+    (YieldsList-from_map _ as_one (YieldsList-from_slice m cc) c.map.ensures.closure (λ x r q k. search (rules, tests)))
+    ∙ blanks_sum m

@@ -6,12 +6,6 @@ use Rattle.split.specs.Split.{end}
 use Rattle.split.proofs.Edges.{edge_as}
 use Rattle.split.proofs.end.Goals as goal
 
-pub returns-then-past-edge : goal.returns-then-past-edge
-unfolding end
-returns-then-past-edge c =
-    let a = c.args in
-    omega (arith, edge_as (part_of a.chip).page a.address (a.part + 1) c.page_number.ensures c.page.ensures.value)
-
 pub returns : goal.returns
 unfolding end
 returns c =

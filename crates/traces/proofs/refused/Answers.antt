@@ -4,5 +4,5 @@ use Rattle.traces.proofs.refused.Goals as goal
 
 pub slice_bounds-feed-end : goal.slice_bounds-feed-end
 slice_bounds-feed-end g c =
-    sym (length-take-le c.first-m.result c.large_buffer-memory.result
-    (omega (arith, c.first-m.ensures, c.large_buffer-memory.ensures.len)))
+    sym (length-take-le c.min-m.result c.zeros-memory.result
+    (omega (arith, c.min-m.ensures, c.zeros-memory.ensures.len)))

@@ -2,7 +2,7 @@ use Rattle.laws.specs.Pick.{call_yes, call_no}
 use Rattle.bench.proofs.core_calls.cartvesper_core_in_ranges.Goals as goal
 
 pub returns-then-in_ranges : goal.returns-then-in_ranges
-returns-then-in_ranges c = call_yes _ c.in_ranges.ensures c.if-in_ranges.true c.valued.ensures
+returns-then-in_ranges c = call_yes _ c.in_ranges.ensures c.if-in_ranges.true c.from.ensures
 
 pub returns : goal.returns
-returns c = call_no _ c.in_ranges.ensures c.if-in_ranges.false c.valued-2.ensures
+returns c = call_no _ c.in_ranges.ensures c.if-in_ranges.false c.from-2.ensures

@@ -4,7 +4,7 @@ use Rattle.bench.proofs.core_calls.cartvesper_power_up.Goals as goal
 pub returns-then-lock-srwd : goal.returns-then-lock-srwd
 returns-then-lock-srwd c =
     yes_so _ c.if-lock-srwd.true
-    (rw (c.number.ensures, c.power_up-powered.ensures.as_number, c.power_up-powered.ensures.value))
+    (rw (c.from.ensures, c.power_up.ensures.as_number, c.power_up.ensures.value))
 
 pub returns : goal.returns
 returns c = no_so _ c.if-lock-srwd.false (rw (c.unpowered.ensures, c.bad_flag.ensures))

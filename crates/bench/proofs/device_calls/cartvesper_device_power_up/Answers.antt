@@ -2,7 +2,7 @@ use Rattle.laws.specs.Pick.{yes_so, no_so}
 use Rattle.bench.proofs.device_calls.cartvesper_device_power_up.Goals as goal
 
 pub returns-then-lock-srwd : goal.returns-then-lock-srwd
-returns-then-lock-srwd c = yes_so _ c.if-lock-srwd.true (rw (c.answered.ensures, c.power_up.ensures.as_number, c.power_up.ensures.value))
+returns-then-lock-srwd c = yes_so _ c.if-lock-srwd.true (rw (c.from.ensures, c.power_up.ensures.as_number, c.power_up.ensures.value))
 
 pub returns : goal.returns
 returns c =

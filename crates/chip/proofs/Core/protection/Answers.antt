@@ -1,34 +1,24 @@
-use Rattle.std.proofs.Common.{refl, arith, le-ltb, lt-ltb}
-use Rattle.laws.specs.Pick.{arms, call_yes, call_no, yes_so, no_so}
+use Rattle.std.specs.Prelude.{Ok}
+use Rattle.std.proofs.Common.{refl, ap, arith}
+use Rattle.std.proofs.lemmas.Result.{err_from_is_err_and}
+use Rattle.laws.specs.Pick.{yes_so, no_so, lt_so, ge_so}
+use Rattle.codes.proofs.Tested.{passed, stopped}
 use Rattle.chip.specs.Records.{own_part}
 use Rattle.chip.proofs.Numbers.{answered}
 use Rattle.chip.proofs.Core.protection.Goals as goal
 
-pub returns-then-protects : goal.returns-then-protects
-returns-then-protects c =
-    let a = c.args in
-    let e = c.size_of.ensures.value in
-    answered (own_part a.self) a.self a.address
-    (call_yes _ c.in_ranges.ensures c.if-in_ranges.true
-    (yes_so _ (lt-ltb a.address (own_part a.self).size (omega (arith, e)))
-    (call_yes _ c.protects.ensures c.if-protects.true refl)))
+pub returns-in_err-checked : goal.returns-in_err-checked
+returns-in_err-checked c =
+    let p = err_from_is_err_and c.from_residual.result c.from_residual.ensures.1 in
+    let no = stopped _ _ c.checked.ensures c.in_err-checked.was in
+    rw (p.1, p.2, no.1) (answered (own_part c.args.self) c.args.self c.args.address (no_so _ no.0 refl))
 
-pub returns-then-address-size_of : goal.returns-then-address-size_of
-returns-then-address-size_of c =
-    let a = c.args in
-    let e = c.size_of.ensures.value in
-    answered (own_part a.self) a.self a.address
-    (call_yes _ c.in_ranges.ensures c.if-in_ranges.true
-    (yes_so _ (lt-ltb a.address (own_part a.self).size (omega (arith, e)))
-    (call_no _ c.protects.ensures c.if-protects.false refl)))
-
-pub returns-then-in_ranges : goal.returns-then-in_ranges
-returns-then-in_ranges c =
-    let a = c.args in
-    let e = c.size_of.ensures.value in
-    answered (own_part a.self) a.self a.address
-    (call_yes _ c.in_ranges.ensures c.if-in_ranges.true
-    (no_so _ (le-ltb a.address (own_part a.self).size (omega (arith, e))) refl))
+pub returns-then-size_of-address : goal.returns-then-size_of-address
+returns-then-size_of-address c =
+    answered (own_part c.args.self) c.args.self c.args.address
+    (yes_so _ (passed _ _ c.checked.ensures c.in_ok-checked.was) (ge_so _ (omega (arith, c.size_of.ensures.value)) refl))
 
 pub returns : goal.returns
-returns c = answered (own_part c.args.self) c.args.self c.args.address (search arms)
+returns c =
+    answered (own_part c.args.self) c.args.self c.args.address
+    (yes_so _ (passed _ _ c.checked.ensures c.in_ok-checked.was) (lt_so _ (omega (arith, c.size_of.ensures.value)) (ap Ok c.protects.ensures)))

@@ -2,17 +2,17 @@ use Rattle.laws.specs.Pick.{arms}
 use Rattle.codes.specs.Verdicts.{verdict_by}
 use Rattle.codes.proofs.Row.judge.Goals as goal
 
-pub returns-then-bits-lt8 : goal.returns-then-bits-lt8
+pub returns-then-at-lt8 : goal.returns-then-at-lt8
 unfolding verdict_by
-returns-then-bits-lt8 c = search arms depth 12
+returns-then-at-lt8 c = search arms depth 12
 
-pub returns-then-self-ran : goal.returns-then-self-ran
+pub returns-then-self-at : goal.returns-then-self-at
 unfolding verdict_by
-returns-then-self-ran c = search arms depth 12
+returns-then-self-at c = search arms depth 12
 
-pub returns-then-self-wel : goal.returns-then-self-wel
+pub returns-then-self-at-2 : goal.returns-then-self-at-2
 unfolding verdict_by
-returns-then-self-wel c = search arms depth 12
+returns-then-self-at-2 c = search arms depth 12
 
 pub returns-then-stops : goal.returns-then-stops
 unfolding verdict_by

@@ -1,17 +1,16 @@
-use Rattle.std.proofs.Common.{not, ◌&&◌, ap}
-use Rattle.chip.specs.Records.{waits_lock}
-use Rattle.laws.specs.Pick.{eq_so, ne_so, call_yes, call_no}
+use Rattle.std.proofs.Common.{not, ◌&&◌, ap₂}
+use Rattle.laws.specs.Pick.{call_yes, call_no}
 use Rattle.cuts.proofs.down.cut_waits.Goals as goal
 
-pub returns-then-kind-eq1 : goal.returns-then-kind-eq1
-returns-then-kind-eq1 c = eq_so _ c.if-kind-eq1.true (rw c.cut_status-status.ensures)
+pub returns-then-has : goal.returns-then-has
+returns-then-has c = call_yes _ c.has.ensures c.if-has.true (rw c.cut_status.ensures)
 
-pub returns-then-kind-chosen : goal.returns-then-kind-chosen
-returns-then-kind-chosen c =
-    let unset = ap (λ t. waits_lock c.args.core.waits && not t) c.chosen.ensures in
-    ne_so _ c.if-kind-eq1.false (call_yes _ unset c.if-kind-chosen.true c.nothing.ensures)
+pub returns-then-has-chosen : goal.returns-then-has-chosen
+returns-then-has-chosen c =
+    call_no _ c.has.ensures c.if-has.false
+    (call_yes _ (ap₂ (λ u t. u && not t) c.has-2.ensures c.chosen.ensures) c.if-has-chosen.true c.nothing.ensures)
 
 pub returns : goal.returns
 returns c =
-    let unset = ap (λ t. waits_lock c.args.core.waits && not t) c.chosen.ensures in
-    ne_so _ c.if-kind-eq1.false (call_no _ unset c.if-kind-chosen.false (rw c.cut_latch-latch.ensures))
+    call_no _ c.has.ensures c.if-has.false
+    (call_no _ (ap₂ (λ u t. u && not t) c.has-2.ensures c.chosen.ensures) c.if-has-chosen.false (rw c.cut_latch-waits.ensures))

@@ -3,13 +3,11 @@ use Rattle.laws.specs.Pick.{at_yes, and_both}
 use Rattle.codes.specs.Part.{Part}
 use Rattle.chip.specs.Records.{own_part}
 use Rattle.chip.specs.declared.Core.{Core}
-use Rattle.codes.proofs.Parts.{longest_most}
 use Rattle.frames.specs.Play.{FrameBench, acted_all, frame_bench}
 use Rattle.sequence.specs.Sequence.{wren, wren_and_write, page_wait}
 use Rattle.frames.specs.Sent.{after_all, write_bytes, in_page, after_write}
-use Rattle.sequence.proofs.Ready.{bench_of_law, own_acted, at_own}
+use Rattle.sequence.proofs.Ready.{bench_of_law, own_acted}
 use Rattle.driver.specs.Told.{Told}
-use Rattle.driver.specs.Answers.{LimitFits}
 use Rattle.sequence.proofs.Joined.{page_acts_law, page_most}
 use Rattle.driver.proofs.Told.{told}
 use Rattle.driver.proofs.pages.write_page.Goals as goal
@@ -32,21 +30,12 @@ begins : (d : FrameBench) (enabled begun : Core) (a : ℕ) (bytes : List ℕ) �
     → begun ≡ (acted_all (own_part d.core) (wren_and_write (own_part d.core) a bytes) d).core
 begins d enabled begun a bytes inside fits = both d enabled begun a bytes (and_both _ _ (lt-ltb _ _ inside) (le-leb _ _ fits))
 
-pub page_wait-requires : goal.page_wait-requires
-page_wait-requires c =
-    let a = c.args in
-    let d : FrameBench = frame_bench a.core a.memory.now a.identification.now in
-    let P = own_part a.core in
-    let begun = begins d c.wren-enabled.result c.write-begun.result a.address a.bytes.now c.requires.address_bound c.requires.bytes_bound
-    c.wren-enabled.ensures c.write-begun.ensures in
-    at_own (own_acted P (wren_and_write P a.address a.bytes.now) d begun) (λ (Q : Part). LimitFits Q a.limit) c.requires.limit_fits
-
 pub and_sent-requires : goal.and_sent-requires
 and_sent-requires c =
     let a = c.args in
     let x : FrameBench = frame_bench c.write-begun.result a.memory.now a.identification.now in
-    let most = page_most (own_part x.core) a.interval a.limit x c.requires.limit_fits.0 in
-    omega (arith, c.page_wait.ensures.1.1.0, c.requires.limit_fits.1, longest_most a.core.part)
+    let most = page_most (own_part x.core) a.polls.interval a.polls.limit x a.polls.some in
+    omega (arith, c.page_wait.ensures.1.1.0, a.polls.most)
 
 pub returns : goal.returns
 returns c =
@@ -59,8 +48,8 @@ returns c =
     c.wren-enabled.ensures c.write-begun.ensures in
     let acts = wren_and_write P a.address a.bytes.now in
     let e = bench_of_law (acted_all P acts d) begun refl refl in
-    let follows = page_acts_law P a.interval a.limit d x a.address a.bytes.now e in
+    let follows = page_acts_law P a.polls.interval a.polls.limit d x a.address a.bytes.now e in
     let waited =
-    subst (λ (Q : Part). Told Q (page_wait Q a.interval a.limit x) x wait.result wait.new.memory wait.new.identification)
+    subst (λ (Q : Part). Told Q (page_wait Q a.polls.interval a.polls.limit x) x wait.result wait.new.memory wait.new.identification)
     (own_acted P acts d begun) wait.ensures in
     told P _ d _ x 2 follows wait.result c.and_sent.result wait.new.memory wait.new.identification waited c.and_sent.ensures

@@ -13,32 +13,31 @@ overflow_sub-from c =
     let a = c.args in
     let at = c.cartvesper_split_address-start in
     let l =
-    lies (own_part a.core) (sound_of a.core.part) a.address a.bytes.now a.k at.result _ c.requires.k_bound at.ensures refl in
+    lies (own_part a.core) (sound_of a.core.part) a.address a.bytes.now a.k at.result _ c.requires at.ensures refl in
     l.from
 
 pub overflow_add-end : goal.overflow_add-end
 overflow_add-end c =
     let a = c.args in
     let l = lies (own_part a.core) (sound_of a.core.part) a.address a.bytes.now a.k c.cartvesper_split_address-start.result c.cartvesper_split_length.result
-    c.requires.k_bound c.cartvesper_split_address-start.ensures c.cartvesper_split_length.ensures in
+    c.requires c.cartvesper_split_address-start.ensures c.cartvesper_split_length.ensures in
     omega (arith, l.to, l.inside)
 
 pub slice_bounds-write_page-end : goal.slice_bounds-write_page-end
 slice_bounds-write_page-end c =
     let a = c.args in
     let l = lies (own_part a.core) (sound_of a.core.part) a.address a.bytes.now a.k c.cartvesper_split_address-start.result c.cartvesper_split_length.result
-    c.requires.k_bound c.cartvesper_split_address-start.ensures c.cartvesper_split_length.ensures in
+    c.requires c.cartvesper_split_address-start.ensures c.cartvesper_split_length.ensures in
     omega (arith, l.from, l.to)
 
 pub write_page-requires : goal.write_page-requires
 write_page-requires c =
     let a = c.args in
     let l = lies (own_part a.core) (sound_of a.core.part) a.address a.bytes.now a.k c.cartvesper_split_address-start.result c.cartvesper_split_length.result
-    c.requires.k_bound c.cartvesper_split_address-start.ensures c.cartvesper_split_length.ensures in
+    c.requires c.cartvesper_split_address-start.ensures c.cartvesper_split_length.ensures in
     record {
       address_bound = l.memory;
       bytes_bound = simp (length-take, length-drop) (omega (arith, l.from, l.to, l.page));
-      limit_fits = c.requires.limit_fits;
     }
 
 pub returns : goal.returns
@@ -50,9 +49,9 @@ returns c =
     let page = c.write_page in
     let d : FrameBench = frame_bench a.core a.memory.now a.identification.now in
     let bytes =
-    part_bytes P (sound_of a.core.part) a.address a.bytes.now a.k at.result long.result c.requires.k_bound at.ensures
+    part_bytes P (sound_of a.core.part) a.address a.bytes.now a.k at.result long.result c.requires at.ensures
     long.ensures (at.result - a.address + long.result - (at.result - a.address)) (omega arith) in
     let Wrote : ℕ → List ℕ → Type 0 =
-    λ s l. Told P (page_acts P a.interval a.limit s l d) d page.result page.new.memory page.new.identification in
+    λ s l. Told P (page_acts P a.polls.interval a.polls.limit s l d) d page.result page.new.memory page.new.identification in
     subst (λ (s : ℕ). Wrote s (piece P.size P.page a.address a.bytes.now a.k)) at.ensures
     (subst (Wrote at.result) bytes page.ensures)

@@ -1,7 +1,6 @@
 use Rattle.std.proofs.Common.{◌≡◌, ℕ, ◌+◌, ◌≤◌, List, length, sym, refl, ◌∙◌, arith}
 use Rattle.chip.specs.Records.{own_part}
 use Rattle.codes.specs.Part.{Part, part_of}
-use Rattle.codes.proofs.Parts.{longest_most}
 use Rattle.codes.proofs.Sound.{sound_of}
 use Rattle.split.specs.Split.{count, split_address}
 use Rattle.split.specs.Pieces.{piece}
@@ -27,61 +26,56 @@ few_parts n a len e = omega (arith, parts_few (part_of n) (sound_of n) a len, pa
 
 pub loop-k-init : goal.loop-k-init
 loop-k-init c =
-    let parts = c.cartvesper_split_parts-parts.ensures
-    ∙ parts_asked (own_part c.args.core).size (own_part c.args.core).page c.args.address (length c.args.bytes.now) in (
-      omega arith,
-      (
-        omega (arith, c.requires.sent_bound, longest_most c.args.core.part),
-        (parts, (refl, ((refl, refl), rest_first (own_part c.args.core) _ _ _ _ _ _ _))),
-      ),
-    )
+    record {
+      few = omega (arith, c.requires);
+      all =
+          c.cartvesper_split_parts-parts.ensures
+          ∙ parts_asked (own_part c.args.core).size (own_part c.args.core).page c.args.address (length c.args.bytes.now);
+      same = refl;
+      rest = rest_first (own_part c.args.core) _ _ _ _ _ _ _;
+    }
 
 pub overflow_add-frames : goal.overflow_add-frames
 overflow_add-frames c =
     let a = c.args in
     let l = c.loop-k in
-    let went = part_left (own_part c.args.core) c.args.interval c.args.limit c.args.address c.args.bytes.now _ _ _ _ _ c.loop-k.invariant.1.1.1.0
+    let went = part_left (own_part c.args.core) c.args.polls.interval c.args.polls.limit c.args.address c.args.bytes.now _ _ _ _ _ l.invariant.same
     c.write_part-page.ensures in
-    let most = few_frames _ _ c.args.limit _ _ _ _ c.write_part-page.result _ _ c.requires.limit_fits.0 went in
-    let few = few_parts a.core.part a.address (length a.bytes.now) l.invariant.1.1.0 in
-    let below = c.loop-k-test.true in
-    omega (arith, l.invariant.1.0, c.requires.limit_fits.1, longest_most a.core.part)
+    let most = few_frames _ _ c.args.polls.limit _ _ _ _ c.write_part-page.result _ _ c.args.polls.some went in
+    let few = few_parts a.core.part a.address (length a.bytes.now) l.invariant.all in
+    omega (arith, l.invariant.few, a.polls.most)
 
 pub overflow_cast-result : goal.overflow_cast-result
 overflow_cast-result c =
-    let l = c.loop-k in
     let a = c.args in
-    let few = few_parts a.core.part a.address (length a.bytes.now) l.invariant.1.1.0 in
-    omega (arith, l.invariant.0)
+    let few = few_parts a.core.part a.address (length a.bytes.now) c.loop-k.invariant.all in
+    omega arith
 
 pub returns-then-wip : goal.returns-then-wip
 returns-then-wip c =
     let l = c.loop-k in
-    let went = part_left (own_part c.args.core) c.args.interval c.args.limit c.args.address c.args.bytes.now _ _ _ _ _ c.loop-k.invariant.1.1.1.0
+    let went = part_left (own_part c.args.core) c.args.polls.interval c.args.polls.limit c.args.address c.args.bytes.now _ _ _ _ _ l.invariant.same
     c.write_part-page.ensures in
-    rest_late l.invariant.1.1.1.1.1 c.loop-k-test.true went (sym c.wip.ensures ∙ c.if-wip.true) l.invariant.1.1.0
+    rest_late l.invariant.rest (omega arith) went (sym c.wip.ensures ∙ c.if-wip.true) l.invariant.all
 
 pub loop-k-preserved : goal.loop-k-preserved
 loop-k-preserved c =
     let l = c.loop-k in
-    let below = c.loop-k-test.true in
-    let went = part_left (own_part c.args.core) c.args.interval c.args.limit c.args.address c.args.bytes.now _ _ _ _ _ c.loop-k.invariant.1.1.1.0
+    let went = part_left (own_part c.args.core) c.args.polls.interval c.args.polls.limit c.args.address c.args.bytes.now _ _ _ _ _ l.invariant.same
     c.write_part-page.ensures in
-    let most = few_frames _ _ c.args.limit _ _ _ _ c.write_part-page.result _ _ c.requires.limit_fits.0 went in
-    let lengths = l.invariant.1.1.1.1.0 in
-    let rest = rest_on l.invariant.1.1.1.1.1 below went (sym c.wip.ensures ∙ c.if-wip.false) in (
-      omega arith,
-      (
-        omega (arith, l.invariant.1.0, c.requires.limit_fits.1, longest_most c.args.core.part),
-        (l.invariant.1.1.0, (went.stays, ((went.whole ∙ lengths.0, went.page ∙ lengths.1), rest))),
-      ),
-    )
+    let most = few_frames _ _ c.args.polls.limit _ _ _ _ c.write_part-page.result _ _ c.args.polls.some went in
+    record {
+      few = omega (arith, l.invariant.few, c.args.polls.most);
+      all = l.invariant.all;
+      same = went.stays;
+      rest = rest_on l.invariant.rest (omega arith) went (sym c.wip.ensures ∙ c.if-wip.false);
+    }
 
 pub overflow_cast-result-2 : goal.overflow_cast-result-2
 overflow_cast-result-2 c =
     let a = c.args in
-    let few = few_parts a.core.part a.address (length a.bytes.now) c.loop-k.invariant.1.1.0 in
-    omega (arith, c.loop-k.invariant.0)
+    let few = few_parts a.core.part a.address (length a.bytes.now) c.loop-k.invariant.all in
+    omega arith
 
 pub returns : goal.returns
-returns c = rest_done c.loop-k.invariant.1.1.1.1.1 c.loop-k-test.false c.loop-k.invariant.1.1.0
+returns c = rest_done c.loop-k.invariant.rest (omega arith) c.loop-k.invariant.all

@@ -1,5 +1,5 @@
 -- While a cycle runs its first poll is like any other; with none it is the only one.
-use Rattle.std.proofs.Common.{◌≡◌, ℕ, ◌-◌, ◌^◌, ◌<◌, List, sym, refl, ap, ◌∙◌, subst, ap₂, arith, ltb-false, le-ltb}
+use Rattle.std.proofs.Common.{◌≡◌, ℕ, ◌+◌, ◌-◌, ◌%◌, ◌^◌, ◌<◌, List, sym, refl, ap, ◌∙◌, subst, arith, ltb-false, le-ltb}
 use Rattle.chip.specs.Records.{own_part, running, with_time}
 use Rattle.chip.specs.declared.Core.{Core}
 use Rattle.frames.specs.Play.{Act, FrameBench, acted_all, frame_bench}
@@ -15,7 +15,7 @@ returns-then-running c =
     let a = c.args in
     let P = own_part a.core in
     let d : FrameBench = frame_bench a.core a.memory.now a.identification.now in
-    let same = page_busy P a.interval a.limit d d c.requires.0 (sym c.running.ensures ∙ c.if-running.true) in
+    let same = page_busy P a.polls.interval a.polls.limit d d a.polls.some (sym c.running.ensures ∙ c.if-running.true) in
     subst (λ (acts : List Act). Told P acts d wait.result wait.new.memory wait.new.identification) (sym same) wait.ensures
 
 pub returns : goal.returns
@@ -27,14 +27,14 @@ returns c =
     let read_low : a.core.last < 2 ^ 32 = omega (arith, c.well_formed) in
     let x : FrameBench = frame_bench c.with_time-next.result a.memory.now a.identification.now in
     let free : running a.core ≡ _ = sym c.running.ensures ∙ c.if-running.false in
-    let none : 0 ≡ a.core.left - a.interval = omega (arith, ltb-false 0 a.core.left free) in
-    let e : x ≡ acted_all P (late_poll a.interval d) d =
+    let none : 0 ≡ a.core.left - a.polls.interval = omega (arith, ltb-false 0 a.core.left free) in
+    let e : x ≡ acted_all P (late_poll a.polls.interval d) d =
     ap (λ (y : Core). frame_bench y a.memory.now a.identification.now) c.with_time-next.ensures
-    ∙ ap₂ (λ (t n : ℕ). frame_bench (with_time t n a.core) a.memory.now a.identification.now) c.wrapping_add_u32-reading.ensures.value none
-    ∙ poll_idle P a.interval (omega arith) d read_low free in
-    let after : running (acted_all P (late_poll a.interval d) d).core ≡ _ =
+    ∙ ap (λ (n : ℕ). frame_bench (with_time ((a.core.last + a.polls.interval) % 2 ^ 32) n a.core) a.memory.now a.identification.now) none
+    ∙ poll_idle P a.polls.interval (omega arith) d read_low free in
+    let after : running (acted_all P (late_poll a.polls.interval d) d).core ≡ _ =
     sym (ap (λ (y : FrameBench). running y.core) e) ∙ ap (λ (y : Core). running y) c.with_time-next.ensures ∙ le-ltb 0 0 (omega arith) in
-    let same = page_idle P a.interval a.limit d d after in
+    let same = page_idle P a.polls.interval a.polls.limit d d after in
     subst (λ (acts : List Act). Told P acts d (record { status = c.status.result; core = x.core; frames = 1 }) a.memory.now a.identification.now)
     (sym same) (
       ap (λ (y : FrameBench). y.core) e,

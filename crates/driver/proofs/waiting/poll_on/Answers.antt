@@ -1,4 +1,4 @@
-use Rattle.std.proofs.Common.{◌≡◌, ℕ, ◌+◌, ◌-◌, ◌<◌, ◌≤◌, true, false, ◌&&◌, ltb, ap, ◌∙◌, ap₂, arith, ltb-false, ltb-true, lt-ltb}
+use Rattle.std.proofs.Common.{◌≡◌, ℕ, ◌+◌, ◌-◌, ◌%◌, ◌^◌, ◌<◌, ◌≤◌, true, false, ◌&&◌, ltb, ap, ◌∙◌, arith, ltb-false, ltb-true, lt-ltb}
 use Rattle.laws.specs.Pick.{and_left, and_right}
 use Rattle.laws.specs.And.{and_other}
 use Rattle.chip.specs.Records.{own_part, with_time}
@@ -32,14 +32,14 @@ loop-polls-preserved c =
     let a = c.args in
     let P = own_part a.start in
     let d : FrameBench = frame_bench (with_time l.last l.rest a.start) a.memory.now a.identification.now in
-    let clock = c.wrapping_add_u32-last.ensures.value in
     let here = on l.polls a.left a.interval l.rest c.loop-polls-test.true in
-    let e = ap (λ (t : ℕ). frame_bench (with_time t (l.rest - a.interval) a.start) a.memory.now a.identification.now) clock
-    ∙ poll_still P a.interval (omega arith) d l.invariant.1.0 here.1 in
-    let runs : 0 < l.rest = omega (arith, here.1) in (
-      omega (arith, here.0),
-      (omega (arith, clock), onward_next P a.interval a.left _ l.polls d _ e here.0 (lt-ltb _ _ runs) l.invariant.1.1),
-    )
+    let e = poll_still P a.interval (omega arith) d l.invariant.reading here.1 in
+    let runs : 0 < l.rest = omega (arith, here.1) in
+    record {
+      few = omega (arith, here.0);
+      reading = omega arith;
+      onward = onward_next P a.interval a.left _ l.polls d _ e here.0 (lt-ltb _ _ runs) l.invariant.onward;
+    }
 
 pub returns-then-polls-left : goal.returns-then-polls-left
 returns-then-polls-left c =
@@ -50,16 +50,15 @@ returns-then-polls-left c =
     let here = ending l.polls a.left a.interval l.rest c.loop-polls-test.false c.if-polls-left.true in
     let core = c.with_time-core in
     let given : FrameBench = frame_bench core.result a.memory.now a.identification.now in
-    let clock = c.wrapping_add_u32-reading in
     let step = c.timed-over in
     let x : FrameBench = frame_bench step.result step.new.memory step.new.identification in
     let e =
-    bench_of_law (acted (own_part core.result) (reading clock.result) given) step.ensures.value step.ensures.memory_after step.ensures.identification_after
-    ∙ ap₂ (λ (y : Core) (n : ℕ). acted (own_part y) (reading n) (frame_bench y a.memory.now a.identification.now)) core.ensures clock.ensures.value
+    bench_of_law (acted (own_part core.result) (reading ((l.last + a.interval) % 2 ^ 32)) given) step.ensures.value step.ensures.memory_after step.ensures.identification_after
+    ∙ ap (λ (y : Core). acted (own_part y) (reading ((l.last + a.interval) % 2 ^ 32)) (frame_bench y a.memory.now a.identification.now)) core.ensures
     ∙ late_poll_leaves P a.interval d in
     let running = lt-ltb _ _ here.1.0 in
-    let free = ap (λ (y : FrameBench). ltb 0 y.core.left) e ∙ poll_free P a.interval (omega arith) d l.invariant.1.0 here.1.0 here.1.1 in
-    let onward = onward_next P a.interval a.left _ l.polls d x e here.0 running l.invariant.1.1 in
+    let free = ap (λ (y : FrameBench). ltb 0 y.core.left) e ∙ poll_free P a.interval (omega arith) d l.invariant.reading here.1.0 here.1.1 in
+    let onward = onward_next P a.interval a.left _ l.polls d x e here.0 running l.invariant.onward in
     let last = onward_last P a.interval a.left _ (l.polls + 1) x (polls_on_free P a.interval x (a.left - (l.polls + 1)) free) onward in
     let memory = ap (λ (y : FrameBench). y.memory) last.0 in
     let page = ap (λ (y : FrameBench). y.identification) last.0 in
@@ -72,7 +71,7 @@ returns c =
     let P = own_part a.start in
     let d : FrameBench = frame_bench (with_time l.last l.rest a.start) a.memory.now a.identification.now in
     let none = is_over P a.interval l.polls a.left d c.if-polls-left.false in
-    let last = onward_last P a.interval a.left _ l.polls d none l.invariant.1.1 in
+    let last = onward_last P a.interval a.left _ l.polls d none l.invariant.onward in
     let core = c.with_time-core.ensures ∙ ap (λ (x : FrameBench). x.core) last.0 in
     let memory = ap (λ (x : FrameBench). x.memory) last.0 in
     let page = ap (λ (x : FrameBench). x.identification) last.0 in

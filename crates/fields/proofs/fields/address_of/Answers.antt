@@ -35,4 +35,4 @@ returns c =
     ∙ ap₂ (λ (h l : ℕ). h * 256 + l) c.byte_at.ensures
     c.byte_at-2.ensures in
     let more : P.address_bytes ≡ 2 → ⊥ = λ q. c.if-address_bytes_of-eq-ADDRESS_BYTES.false (c.address_bytes_of.ensures.value ∙ q) in
-    rw (c.size_of.ensures.value, size_mask (sound_of a.part) _, e, c.byte_at-3.ensures) record { value = address_three a.part s one two more; upper_bound = (mod-lt _ (sound_of a.part).size_some, lt_of_lt_of_le (mod-lt _ (sound_of a.part).size_some) (size_most a.part)) }
+    rw (c.size_of.ensures.value, size_mask (sound_of a.part) _, e, c.from.ensures, c.byte_at-3.ensures) record { value = address_three a.part s one two more; upper_bound = (mod-lt _ (sound_of a.part).size_some, lt_of_lt_of_le (mod-lt _ (sound_of a.part).size_some) (size_most a.part)) }

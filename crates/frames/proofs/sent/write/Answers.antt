@@ -37,8 +37,8 @@ returns-then-not-in_page c =
 pub overflow_cast-address : goal.overflow_cast-address
 overflow_cast-address c = omega (arith, (small c.args.core c.args.address _ (sym c.in_page.ensures ∙ c.if-not-in_page.false)).0)
 
-pub overflow_mul-head_of : goal.overflow_mul-head_of
-overflow_mul-head_of c = omega (arith, (small c.args.core c.args.address _ (sym c.in_page.ensures ∙ c.if-not-in_page.false)).1, c.head_of.ensures.lower_bound)
+pub overflow_mul-from : goal.overflow_mul-from
+overflow_mul-from c = omega (arith, (small c.args.core c.args.address _ (sym c.in_page.ensures ∙ c.if-not-in_page.false)).1, c.from.ensures, c.head_of.ensures.lower_bound)
 
 pub overflow_cast-address-2 : goal.overflow_cast-address-2
 overflow_cast-address-2 c = omega (arith, (small c.args.core c.args.address _ (sym c.in_page.ensures ∙ c.if-not-in_page.false)).0)
@@ -51,7 +51,7 @@ returns-then-is_executed c =
     let a = c.args in
     let P = own_part a.core in
     let found : c.judge-verdict.result ≡ on_write P a.core a.address (8 * (P.address_bytes + 1 + length a.bytes.now)) =
-    rw (c.judge-verdict.ensures, c.head_of.ensures.value, c.running.ensures, c.protects.ensures) refl in
+    rw (c.judge-verdict.ensures, c.from.ensures, c.head_of.ensures.value, c.running.ensures, c.protects.ensures) refl in
     let yes = sym (ap is_executed found) ∙ sym c.is_executed.ensures ∙ c.if-is_executed.true in
     c.begin_page.ensures
     ∙ ap₂ (λ p l. with_cycle (page_waits p l) a.core) c.page_number-page.ensures.value c.latch_part.ensures
@@ -62,6 +62,6 @@ returns c =
     let a = c.args in
     let P = own_part a.core in
     let found : c.judge-verdict.result ≡ on_write P a.core a.address (8 * (P.address_bytes + 1 + length a.bytes.now)) =
-    rw (c.judge-verdict.ensures, c.head_of.ensures.value, c.running.ensures, c.protects.ensures) refl in
+    rw (c.judge-verdict.ensures, c.from.ensures, c.head_of.ensures.value, c.running.ensures, c.protects.ensures) refl in
     let no = sym (ap is_executed found) ∙ sym c.is_executed.ensures ∙ c.if-is_executed.false in
     sym (write_part P a.core (sound_of a.core.part) a.address a.bytes.now (sym c.in_page.ensures ∙ c.if-not-in_page.false) ∙ at_no _ _ no)

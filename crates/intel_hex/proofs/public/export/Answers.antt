@@ -1,48 +1,45 @@
--- The refusals in their order: each place has the tests that lead to it. What is written is then of a memory of an image's size.
-use Rattle.laws.specs.Pick.{arms}
+-- What the tests before it answer, then by the side of the choice that the output's length takes.
+use mathlib.Core.Path.{refl}
+use native.Mathlib.Omega.{arith}
+use borrow.Author.Tests.{eqb-true}
+use Rattle.std.proofs.Common.{Err}
+use Rattle.std.proofs.lemmas.Result.{err_from_is_err_and}
+use Rattle.laws.specs.Pick.{yes_so, eq_so, ne_so}
+use Rattle.intel_hex.specs.declared.HexError.{HexError}
+use Rattle.intel_hex.specs.Numbers.{hex_number}
+use Rattle.intel_hex.proofs.Refusing.{image_ok, image_err}
 use Rattle.intel_hex.proofs.public.export.Goals as goal
 
-pub returns-then-out-eq-TEXT_SIZE-clause-value : goal.returns-then-out-eq-TEXT_SIZE-clause-value
-returns-then-out-eq-TEXT_SIZE-clause-value c = search arms
+pub returns-in_err-check_image : goal.returns-in_err-check_image
+returns-in_err-check_image c =
+    let p = err_from_is_err_and c.from_residual.result c.from_residual.ensures.1 in
+    let e = c.in_err-check_image.ensures in
+    let d = c.args.out.now in
+    rw (p.1, p.2) record {
+      value = image_err (λ (x : HexError). Err x) _ _ _ _ _ e;
+      as_number = image_err (λ (x : HexError). hex_number (Err x)) _ _ _ _ _ e;
+      out_after = image_err (λ (x : HexError). d) _ _ _ _ _ e;
+    }
 
-pub returns-then-out-eq-TEXT_SIZE-clause-as_number : goal.returns-then-out-eq-TEXT_SIZE-clause-as_number
-returns-then-out-eq-TEXT_SIZE-clause-as_number c = search arms
+pub returns-then-out-ne-TEXT_SIZE : goal.returns-then-out-ne-TEXT_SIZE
+returns-then-out-ne-TEXT_SIZE c =
+    let t = image_ok _ _ _ _ c.in_ok-check_image.ensures in
+    record {
+      value = yes_so _ t.0 (yes_so _ t.1 (yes_so _ t.2 (ne_so _ (λ e. omega (arith, e)) refl)));
+      as_number = yes_so _ t.0 (yes_so _ t.1 (yes_so _ t.2 (ne_so _ (λ e. omega (arith, e)) refl)));
+      out_after = yes_so _ t.0 (yes_so _ t.1 (yes_so _ t.2 (ne_so _ (λ e. omega (arith, e)) refl)));
+    }
 
-pub returns-then-out-eq-TEXT_SIZE-clause-out_after : goal.returns-then-out-eq-TEXT_SIZE-clause-out_after
-returns-then-out-eq-TEXT_SIZE-clause-out_after c = search arms
+pub put_image-requires : goal.put_image-requires
+put_image-requires c =
+    let t = image_ok _ _ _ _ c.in_ok-check_image.ensures in
+    (omega (arith, eqb-true _ _ t.0, eqb-true _ _ t.2), omega arith)
 
-pub returns-then-imaged-clause-value : goal.returns-then-imaged-clause-value
-returns-then-imaged-clause-value c = search arms
-
-pub returns-then-imaged-clause-as_number : goal.returns-then-imaged-clause-as_number
-returns-then-imaged-clause-as_number c = search arms
-
-pub returns-then-imaged-clause-out_after : goal.returns-then-imaged-clause-out_after
-returns-then-imaged-clause-out_after c = search arms
-
-pub returns-then-in_ranges-clause-value : goal.returns-then-in_ranges-clause-value
-returns-then-in_ranges-clause-value c = search arms
-
-pub returns-then-in_ranges-clause-as_number : goal.returns-then-in_ranges-clause-as_number
-returns-then-in_ranges-clause-as_number c = search arms
-
-pub returns-then-in_ranges-clause-out_after : goal.returns-then-in_ranges-clause-out_after
-returns-then-in_ranges-clause-out_after c = search arms
-
-pub returns-then-memory_fits-clause-value : goal.returns-then-memory_fits-clause-value
-returns-then-memory_fits-clause-value c = search arms
-
-pub returns-then-memory_fits-clause-as_number : goal.returns-then-memory_fits-clause-as_number
-returns-then-memory_fits-clause-as_number c = search arms
-
-pub returns-then-memory_fits-clause-out_after : goal.returns-then-memory_fits-clause-out_after
-returns-then-memory_fits-clause-out_after c = search arms
-
-pub returns-clause-value : goal.returns-clause-value
-returns-clause-value c = search arms
-
-pub returns-clause-as_number : goal.returns-clause-as_number
-returns-clause-as_number c = search arms
-
-pub returns-clause-out_after : goal.returns-clause-out_after
-returns-clause-out_after c = search arms
+pub returns : goal.returns
+returns c =
+    let t = image_ok _ _ _ _ c.in_ok-check_image.ensures in
+    record {
+      value = yes_so _ t.0 (yes_so _ t.1 (yes_so _ t.2 (eq_so _ (omega arith) refl)));
+      as_number = yes_so _ t.0 (yes_so _ t.1 (yes_so _ t.2 (eq_so _ (omega arith) refl)));
+      out_after = yes_so _ t.0 (yes_so _ t.1 (yes_so _ t.2 (eq_so _ (omega arith) c.put_image.ensures)));
+    }

@@ -1,21 +1,20 @@
--- A text that is too short is not the closing line; else by the test of its first twelve bytes.
-use lib.ListN.{length, take, length-take}
-use borrow.Author.Tests.{ne_eqb}
-use Rattle.intel_hex.specs.Writing.{end_line}
 use mathlib.Core.Path.{◌≡◌, refl, sym, ◌∙◌}
 use native.Mathlib.Omega.{arith}
-use Rattle.laws.specs.Pick.{yes_so, no_so, and_no_left}
+use lib.ListN.{take}
+use Rattle.laws.specs.Pick.{yes_so, no_so}
+use Rattle.intel_hex.specs.Writing.{end_line}
+use Rattle.intel_hex.specs.Reading.{same_bytes}
+use Rattle.intel_hex.proofs.Same.{same_front}
 use Rattle.intel_hex.proofs.public.lines_on.Goals as goal
 
-pub returns-then-rest-lt12 : goal.returns-then-rest-lt12
+pub returns-then-starts_with : goal.returns-then-starts_with
 unfolding end_line
-returns-then-rest-lt12 c =
-    let t = c.args.rest.now in
-    let short : length (take 12 t) ≡ 12 → ⊥ = λ e. omega (arith, length-take 12 t, e) in
-    (no_so _ (and_no_left _ _ (ne_eqb _ _ short)) refl, omega arith)
+returns-then-starts_with c =
+    let test : c.starts_with.result ≡ same_bytes (take 12 c.args.rest.now) end_line = c.starts_with.ensures.value ∙ same_front (take 12 c.args.rest.now) end_line in
+    (yes_so _ (sym test ∙ c.if-starts_with.true) refl, omega arith)
 
-pub returns-then-is_end : goal.returns-then-is_end
-returns-then-is_end c = (yes_so _ (sym c.is_end.ensures ∙ c.if-is_end.true) refl, omega arith)
-
-pub returns : goal.returns
-returns c = (no_so _ (sym c.is_end.ensures ∙ c.if-is_end.false) refl, omega arith)
+pub returns-else-starts_with : goal.returns-else-starts_with
+unfolding end_line
+returns-else-starts_with c =
+    let test : c.starts_with.result ≡ same_bytes (take 12 c.args.rest.now) end_line = c.starts_with.ensures.value ∙ same_front (take 12 c.args.rest.now) end_line in
+    (no_so _ (sym test ∙ c.if-starts_with.false) refl, omega arith)

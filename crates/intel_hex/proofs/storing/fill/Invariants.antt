@@ -1,6 +1,6 @@
 -- The invariant: the cells are filled up to i.
 use mathlib.Core.Path.{◌≡◌}
-use Prim.Native.Nat.{◌+◌, ◌-◌, ◌≤◌}
+use Prim.Native.Nat.{◌+◌}
 use lib.ListN.{length}
 use Rattle.laws.specs.Table.{table}
 use Rattle.laws.specs.Filled.{filled}
@@ -9,8 +9,4 @@ use Rattle.intel_hex.proofs.storing.fill.Given as goal
 
 abbrev pub invariant-loop-i : goal.invariant-loop-i
 invariant-loop-i l =
-    (l.i ≤ length l.initial.cells) × (length l.cells ≡ length l.initial.cells) × (l.cells ≡ filled l.initial.cells (table (length l.initial.cells) (λ j. line_byte l.text (j + 4))) l.i)
-
-abbrev pub decreases-loop-i : goal.decreases-loop-i
-decreases-loop-i l =
-    length l.initial.cells - l.i
+    l.cells ≡ filled l.initial.cells (table (length l.initial.cells) (λ j. line_byte l.text (j + 4))) l.i

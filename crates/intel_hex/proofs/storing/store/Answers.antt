@@ -17,7 +17,7 @@ store_record-at-requires c =
     let a = c.args in
     let pre = c.requires in
     let good = more_left m95512 a.text.now l.at a.end pre.1 pre.2 l.invariant.2 (omega arith) in
-    (l.invariant.1, ap (says_record m95512) (tail_part a.text.now l.at) ∙ good, pre.3)
+    (l.invariant.1, ap (says_record m95512) (tail_part a.text.now l.at) ∙ good)
 
 pub overflow_add-at : goal.overflow_add-at
 overflow_add-at c =

@@ -12,10 +12,10 @@ use Rattle.intel_hex.proofs.Fronts.{front_end}
 use Rattle.intel_hex.proofs.storing.store_record.Goals as goal
 
 pub line_byte-n-requires : goal.line_byte-n-requires
-line_byte-n-requires c = (omega (arith, front_length m95512 _ c.requires.1), c.requires.2)
+line_byte-n-requires c = omega (arith, front_length m95512 _ c.requires.1)
 
 pub address_at-start-requires : goal.address_at-start-requires
-address_at-start-requires c = (omega (arith, front_length m95512 _ c.requires.1), c.requires.2)
+address_at-start-requires c = omega (arith, front_length m95512 _ c.requires.1)
 
 pub fill-requires : goal.fill-requires
 fill-requires c =
@@ -27,7 +27,6 @@ fill-requires c =
     let k = part_cells a.memory.now start.result n.result fits ∙ n.ensures.0 in (
       omega (arith, k, front_length m95512 _ pre.1),
       ap (λ (j : ℕ). each (is_byte a.text.now) (j + 5)) k ∙ front_digits m95512 _ pre.1,
-      pre.2,
     )
 
 pub returns-clause-memory_after : goal.returns-clause-memory_after

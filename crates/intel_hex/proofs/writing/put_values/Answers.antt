@@ -1,4 +1,4 @@
-use mathlib.Core.Path.{◌≡◌, refl, ap, sym, ◌∙◌}
+use mathlib.Core.Path.{◌≡◌, ap, sym, ◌∙◌}
 use Prim.Native.Nat.{ℕ, ◌+◌, ◌*◌}
 use native.Mathlib.Numerals.{add-one}
 use native.Mathlib.Omega.{arith}
@@ -13,7 +13,7 @@ use Rattle.intel_hex.proofs.writing.put_values.Goals as goal
 pub loop-i-init : goal.loop-i-init
 loop-i-init c =
     let a = c.args in
-    (omega arith, refl, sym (ap (put a.out.now a.at) (bytes_text_none a.bytes.now) ∙ put_nil a.out.now a.at))
+    sym (ap (put a.out.now a.at) (bytes_text_none a.bytes.now) ∙ put_nil a.out.now a.at)
 
 pub loop-i-preserved : goal.loop-i-preserved
 loop-i-preserved c =
@@ -25,6 +25,6 @@ loop-i-preserved c =
     let so_far = bytes_text (take l.i bs) in
     let n : length so_far ≡ 2 * l.i = bytes_text_length (take l.i bs) ∙ ap (λ (k : ℕ). 2 * k) (length-take-le l.i bs (omega arith)) in
     let done : x.new.out ≡ put d a.at (bytes_text (take (l.i + 1) bs)) =
-    x.ensures ∙ put_then d l.out a.at (a.at + 2 * l.i) so_far (byte_text (get_or bs l.i 0)) l.invariant.2 (omega (arith, n)) (omega (arith, n))
+    x.ensures ∙ put_then d l.out a.at (a.at + 2 * l.i) so_far (byte_text (get_or bs l.i 0)) l.invariant (omega (arith, n)) (omega (arith, n))
     ∙ ap (put d a.at) (rw add-one (sym (bytes_text_more bs l.i (omega arith)))) in
-    (omega arith, omega arith, done)
+    done

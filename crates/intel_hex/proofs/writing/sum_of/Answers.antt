@@ -1,19 +1,12 @@
-use mathlib.Core.Path.{refl}
-use native.Mathlib.Numerals.{add-one}
-use native.Mathlib.Omega.{arith}
-use Rattle.intel_hex.specs.Writing.{total}
-use Rattle.intel_hex.proofs.Sums.{total_take}
+-- The chain gives std's sum, which is the total.
+use Rattle.std.proofs.Common.{◌≡◌, sym, ◌∙◌, rules, arith}
+use Rattle.std.specs.Prelude.{sum_by}
+use Rattle.intel_hex.proofs.Sums.{total_is, total_most}
 use Rattle.intel_hex.proofs.writing.sum_of.Goals as goal
 
-pub loop-i-init : goal.loop-i-init
-unfolding total
-loop-i-init c = (omega arith, refl, omega arith)
-
-pub loop-i-preserved : goal.loop-i-preserved
-loop-i-preserved c =
-    let l = c.loop-i in
-    let a = c.args in (
-      omega arith,
-      rw (add-one, total_take a.bytes.now l.i (omega arith), c.wide-sum.ensures.0, l.invariant.1) refl,
-      omega arith,
-    )
+pub returns : goal.returns
+returns c =
+    let bytes = c.args.bytes.now in
+    let e : c.sum.result ≡ sum_by (λ b. b) bytes = search rules in
+    let t = total_is bytes in
+    (e ∙ sym t, omega (arith, e, t, total_most bytes (λ i. omega (arith, c.type_inv.bytes i))))

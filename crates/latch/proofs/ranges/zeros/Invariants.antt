@@ -1,13 +1,9 @@
--- The invariant: `zero` is the test of the bytes below i.
-use Prim.Native.Nat.{◌≤◌, ◌-◌}
+-- The invariant: `zero` is the test of the bytes seen.
 use mathlib.Core.Path.{◌≡◌}
-use Rattle.latch.specs.Words.{bytes_zero}
+use lib.Dec.{eqb}
+use lib.ListN.{get_or}
+use Rattle.laws.specs.Each.{each}
 use Rattle.latch.proofs.ranges.zeros.Given as goal
 
-abbrev pub invariant-loop-i : goal.invariant-loop-i
-invariant-loop-i l =
-    (l.i ≤ l.count) × (l.zero ≡ bytes_zero l.bytes l.start l.i)
-
-abbrev pub decreases-loop-i : goal.decreases-loop-i
-decreases-loop-i l =
-    l.count - l.i
+abbrev pub invariant-loop-byte : goal.invariant-loop-byte
+invariant-loop-byte l = l.zero ≡ each (λ i. eqb (get_or l.cells i 0) 0) l.byte-index

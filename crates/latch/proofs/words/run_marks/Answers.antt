@@ -1,19 +1,13 @@
-use mathlib.Core.Path.{refl}
-use Rattle.laws.specs.Table.{table, from}
-use Rattle.latch.specs.Words.{run_marks}
+use Prim.Native.Nat.{◌*◌}
+use Rattle.std.specs.Int.Bits.{bit_or}
+use Rattle.latch.specs.Words.{run_word, run_marks}
+use Rattle.latch.proofs.Made.{made_table}
+use Rattle.std.proofs.Common.{rules}
 use Rattle.latch.proofs.words.run_marks.Goals as goal
 
 pub returns : goal.returns
-unfolding run_marks table from
+unfolding run_marks
 returns c =
-    rw (
-      c.run_word.ensures,
-      c.run_word-2.ensures,
-      c.run_word-3.ensures,
-      c.run_word-4.ensures,
-      c.run_word-5.ensures,
-      c.run_word-6.ensures,
-      c.run_word-7.ensures,
-      c.run_word-8.ensures,
-    )
-    refl
+    let a = c.args in
+    made_table _ _ (λ k. bit_or (run_word (k * 64) a.start a.end) (run_word (k * 64) 0 a.rest)) _
+    (λ i x q k. search rules) 4 c.from_fn.ensures.items

@@ -2,9 +2,9 @@
 use mathlib.Core.Path.{refl, sym, ◌∙◌}
 use Rattle.chip.specs.Records.{own_part}
 use Rattle.codes.specs.Verdicts.{verdict_by}
-use Rattle.codes.specs.declared.Instruction.TheVariants.{Wren, Wrdi, Rdsr, Read, Rdid, Silence}
+use Rattle.codes.specs.declared.Instruction.TheVariants.{Wren, Wrdi}
 use Rattle.lists.specs.Ways.{whole}
-use Rattle.lists.proofs.InPlace.{dropped, enabled}
+use Rattle.lists.proofs.InPlace.{quiet, dropped, enabled}
 use Rattle.lists.proofs.Front.deselecting.Goals as goal
 
 pub returns-in-Wren : goal.returns-in-Wren
@@ -13,7 +13,7 @@ returns-in-Wren c =
     let k = c.args.core in
     let is = sym c.decode-i.ensures ∙ c.in-Wren.is in
     λ m l. enabled (own_part k) (whole c.args.self l k) c.requires Wren 1 _ is refl
-    (c.wel_after-wel.ensures ∙ rw (c.decode-i.ensures, is) refl)
+    (c.wel_after.ensures ∙ rw (c.decode-i.ensures, is) refl)
 
 pub returns-in-Wrdi : goal.returns-in-Wrdi
 unfolding verdict_by
@@ -21,24 +21,13 @@ returns-in-Wrdi c =
     let k = c.args.core in
     let is = sym c.decode-i.ensures ∙ c.in-Wrdi.is in
     λ m l. enabled (own_part k) (whole c.args.self l k) c.requires Wrdi 0 _ is refl
-    (c.wel_after-wel-in-Wrdi.ensures ∙ rw (c.decode-i.ensures, is) refl)
+    (c.wel_after-in-Wrdi.ensures ∙ rw (c.decode-i.ensures, is) refl)
 
-pub returns-in-Rdsr : goal.returns-in-Rdsr
-returns-in-Rdsr c =
+-- the others begin no cycle and leave WEL
+pub returns-in_default : goal.returns-in_default
+returns-in_default c =
     let k = c.args.core in
-    λ m l. dropped (own_part k) (whole c.args.self l k) c.requires Rdsr (sym c.decode-i.ensures ∙ c.in-Rdsr.is) refl
-
-pub returns-in-Read : goal.returns-in-Read
-returns-in-Read c =
-    let k = c.args.core in
-    λ m l. dropped (own_part k) (whole c.args.self l k) c.requires Read (sym c.decode-i.ensures ∙ c.in-Read.is) refl
-
-pub returns-in-Rdid : goal.returns-in-Rdid
-returns-in-Rdid c =
-    let k = c.args.core in
-    λ m l. dropped (own_part k) (whole c.args.self l k) c.requires Rdid (sym c.decode-i.ensures ∙ c.in-Rdid.is) refl
-
-pub returns-in-Silence : goal.returns-in-Silence
-returns-in-Silence c =
-    let k = c.args.core in
-    λ m l. dropped (own_part k) (whole c.args.self l k) c.requires Silence (sym c.decode-i.ensures ∙ c.in-Silence.is) refl
+    let no = c.in_default in
+    λ m l. let x = whole c.args.self l k in
+    dropped (own_part k) x c.requires c.decode-i.result (sym c.decode-i.ensures)
+    (quiet (own_part k) _ _ _ _ k no.not-Wren no.not-Wrdi no.not-Wrsr no.not-Write no.not-Wrid)

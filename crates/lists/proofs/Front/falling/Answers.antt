@@ -38,27 +38,27 @@ returns-then-shown c =
     λ i l. down_counted (own_part k) (m i) (whole s l k) _ _ c.requires c.bit-held.ensures shows.0
     (next_bit (own_part k) (m i) k (whole s l k).frame shows.1 c.if-shown.true)
 
-pub returns-then-reads : goal.returns-then-reads
-returns-then-reads c =
+pub returns-in-Read : goal.returns-in-Read
+returns-in-Read c =
     let s = c.args.self in
     let k = c.args.core in
     let m : List ℕ → Lent = lent c.args.memory.now in
     let shows = counting (own_part k) s c.decode-i.ensures c.outputs-drives.ensures c.if-counted-drives.true in
-    let read = sym c.decode-i.ensures ∙ c.reads.ensures c.if-reads.true in
+    let read = sym c.decode-i.ensures ∙ c.in-Read.is in
     λ i l. down_counted (own_part k) (m i) (whole s l k) _ _ c.requires c.bit-held.ensures shows.0
     (next_cell_law (own_part k) (m i) k (whole s l k).frame shows.1 _ _
-    c.if-shown.false read c.cell-byte.ensures c.one_up-up.ensures)
+    c.if-shown.false read c.cell.ensures c.one_up.ensures)
 
-pub returns-then-polls : goal.returns-then-polls
-returns-then-polls c =
+pub returns-in-Rdsr : goal.returns-in-Rdsr
+returns-in-Rdsr c =
     let s = c.args.self in
     let k = c.args.core in
     let m : List ℕ → Lent = lent c.args.memory.now in
     let shows = counting (own_part k) s c.decode-i.ensures c.outputs-drives.ensures c.if-counted-drives.true in
-    let asks = sym c.decode-i.ensures ∙ c.polls.ensures c.if-polls.true in
+    let asks = sym c.decode-i.ensures ∙ c.in-Rdsr.is in
     let fresh = c.if-shown.false in
     λ i l. down_counted (own_part k) (m i) (whole s l k) _ _ c.requires c.bit-held.ensures shows.0
-    (status_byte_law (own_part k) (m i) k (whole s l k).frame shows.1 _ fresh asks c.status-status.ensures)
+    (status_byte_law (own_part k) (m i) k (whole s l k).frame shows.1 _ fresh asks c.status.ensures)
 
 pub returns : goal.returns
 returns c =

@@ -1,14 +1,6 @@
-use mathlib.Core.Path.{sym, ◌∙◌}
 use Rattle.pins.specs.Devices.{device_part}
-use Rattle.pins.proofs.Answering.{taken, untaken}
+use Rattle.pins.proofs.Answering.{answered}
 use Rattle.pins.proofs.Device.set_w.Goals as goal
 
-pub returns-then-in_ranges : goal.returns-then-in_ranges
-returns-then-in_ranges c =
-    taken (device_part c.args.self) c.args.self
-    (sym c.in_ranges.ensures ∙ c.if-in_ranges.true) c.on_w.ensures c.done.ensures
-
 pub returns : goal.returns
-returns c =
-    untaken (device_part c.args.self) c.args.self _
-    (sym c.in_ranges.ensures ∙ c.if-in_ranges.false) c.refused.ensures
+returns c = answered (device_part c.args.self) c.args.self c.checked.ensures c.on_w.ensures c.answer.ensures

@@ -3,23 +3,23 @@ use native.Mathlib.Omega.{arith}
 use Rattle.laws.specs.Pick.{arms}
 use Rattle.printing.proofs.digits.places_of.Goals as goal
 
-pub returns-then-n-lt10 : goal.returns-then-n-lt10
-returns-then-n-lt10 c = (search arms depth 12, omega arith)
+pub returns-in-0-to-9 : goal.returns-in-0-to-9
+returns-in-0-to-9 c = (search arms depth 12, omega arith)
 
-pub returns-then-n-lt100 : goal.returns-then-n-lt100
-returns-then-n-lt100 c = (search arms depth 12, omega arith)
+pub returns-in-10-to-99 : goal.returns-in-10-to-99
+returns-in-10-to-99 c = (search arms depth 12, omega arith)
 
-pub returns-then-n-lt1000 : goal.returns-then-n-lt1000
-returns-then-n-lt1000 c = (search arms depth 12, omega arith)
+pub returns-in-100-to-999 : goal.returns-in-100-to-999
+returns-in-100-to-999 c = (search arms depth 12, omega arith)
 
-pub returns-then-n-lt10000 : goal.returns-then-n-lt10000
-returns-then-n-lt10000 c = (search arms depth 12, omega arith)
+pub returns-in-1000-to-9999 : goal.returns-in-1000-to-9999
+returns-in-1000-to-9999 c = (search arms depth 12, omega arith)
 
-pub returns-then-n-lt100000 : goal.returns-then-n-lt100000
-returns-then-n-lt100000 c = (search arms depth 12, omega arith)
+pub returns-in-10000-to-99999 : goal.returns-in-10000-to-99999
+returns-in-10000-to-99999 c = (search arms depth 12, omega arith)
 
-pub returns-then-n-lt1000000 : goal.returns-then-n-lt1000000
-returns-then-n-lt1000000 c = (search arms depth 12, omega arith)
+pub returns-in-100000-to-999999 : goal.returns-in-100000-to-999999
+returns-in-100000-to-999999 c = (search arms depth 12, omega arith)
 
-pub returns : goal.returns
-returns c = (search arms depth 12, omega arith)
+pub returns-in_default : goal.returns-in_default
+returns-in_default c = (search arms depth 12, omega arith)

@@ -25,8 +25,9 @@ returns-then-has_bytes-clause-out_after c =
     let number = decimal a.n in
     let word : List ℕ = 9 ∷ 98 ∷ 97 ∷ 100 ∷ 10 ∷ [] in
     let room : a.at + 12 ≤ length d = leb-true _ _ test in
-    let first = p.ensures.out_after ∙ put_room 7 d a.at number (omega arith) in
-    let end : p.result ≡ a.at + length number = p.ensures.value.0 ∙ end_room 7 d a.at number (omega arith) in
+    let e = rw c.from.ensures at p.ensures in
+    let first = e.out_after ∙ put_room 7 d a.at number (omega arith) in
+    let end : p.result ≡ a.at + length number = e.value.0 ∙ end_room 7 d a.at number (omega arith) in
     let last : b.result ≡ p.result + 5 = b.ensures.value ∙ end_room 5 after p.result word (omega arith) in
     yes_so _ test
     (b.ensures.out_after ∙ put_room 5 after p.result word (omega arith) ∙ ap (λ (l : List ℕ). put l p.result word) first
@@ -44,8 +45,9 @@ returns-then-has_bytes-clause-value c =
     let number = decimal a.n in
     let word : List ℕ = 9 ∷ 98 ∷ 97 ∷ 100 ∷ 10 ∷ [] in
     let room : a.at + 12 ≤ length d = leb-true _ _ test in
-    let first = p.ensures.out_after ∙ put_room 7 d a.at number (omega arith) in
-    let end : p.result ≡ a.at + length number = p.ensures.value.0 ∙ end_room 7 d a.at number (omega arith) in
+    let e = rw c.from.ensures at p.ensures in
+    let first = e.out_after ∙ put_room 7 d a.at number (omega arith) in
+    let end : p.result ≡ a.at + length number = e.value.0 ∙ end_room 7 d a.at number (omega arith) in
     let last : b.result ≡ p.result + 5 = b.ensures.value ∙ end_room 5 after p.result word (omega arith) in
     (yes_so _ test (rw length-append (omega arith)), omega arith)
 

@@ -5,4 +5,4 @@ pub returns-then-ran : goal.returns-then-ran
 returns-then-ran c = search arms
 
 pub returns : goal.returns
-returns c = rw (← c.head_of.ensures.value) (search arms)
+returns c = rw (← c.head_of.ensures.value, ← c.from.ensures) (search arms)

@@ -39,7 +39,7 @@ returns-then-lengths_fit c =
     let fits = lengths_out (part_of a.part) _ _ _ _ _ (sym c.lengths_fit.ensures ∙ c.if-lengths_fit.true) in
     yes_so _ (sym c.lengths_fit.ensures ∙ c.if-lengths_fit.true)
     (rw (c.pad.ensures, c.show_bytes.ensures, fits.1.1.1)
-    (rw (c.instruction_of.ensures, c.address_of.ensures.value)
+    (rw (c.instruction_of.ensures, c.address_of-from.ensures.value)
     (padded_last (byte_out (part_of a.part) (instruction (part_of a.part) a.bytes.now) a.ran
     (sights a.status a.lock a.memory.now a.identification.now) (address (part_of a.part) a.bytes.now)) (length a.bytes.now) a.bits)))
 

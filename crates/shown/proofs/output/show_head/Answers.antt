@@ -1,27 +1,17 @@
 -- By the two tests. Where both are passed, the head is filled and the others are as they were.
-use Prim.Native.Nat.{◌<◌, ◌≤◌}
+use Prim.Native.Nat.{◌≤◌}
 use mathlib.Core.Bool.{not}
 use mathlib.Core.Path.{refl, ap}
 use native.Mathlib.Nat.{sub-zero}
-use lib.Dec.{leb}
 use lib.ListN.{length}
 use lib.Seq.{length-take-le}
 use borrow.Author.Tests.{le-leb}
-use Rattle.laws.specs.Pick.{yes_so, no_so, and_both, and_no_right}
+use Rattle.laws.specs.Pick.{yes_so, no_so, and_both}
 use native.Mathlib.Omega.{arith}
 use Rattle.shown.proofs.output.show_head.Goals as goal
 
 pub returns-then-ran-clause-out_after : goal.returns-then-ran-clause-out_after
-returns-then-ran-clause-out_after c =
-    let a = c.args in
-    let told = and_no_right (leb a.head (length a.out.now)) (not a.ran) (ap not c.if-ran.true) in
-    no_so _ refl c.fill.ensures
-
-pub returns-then-n-head-clause-out_after : goal.returns-then-n-head-clause-out_after
-returns-then-n-head-clause-out_after c =
-    let a = c.args in
-    let few : length a.out.now < a.head = omega arith in
-    no_so _ refl c.fill-then-n-head.ensures
+returns-then-ran-clause-out_after c = no_so _ refl c.fill.ensures
 
 pub returns-clause-out_after : goal.returns-clause-out_after
 returns-clause-out_after c =

@@ -1,5 +1,5 @@
 -- The invariant: the first i bytes are those of the table, the others as they were.
-use Prim.Native.Nat.{◌+◌, ◌-◌, ◌%◌, ◌≤◌}
+use Prim.Native.Nat.{◌+◌, ◌%◌}
 use mathlib.Core.Path.{◌≡◌}
 use lib.ListN.{length, get_or}
 use Rattle.laws.specs.Filled.{filled}
@@ -9,8 +9,4 @@ use Rattle.shown.proofs.output.show_page.Given as goal
 
 abbrev pub invariant-loop-i : goal.invariant-loop-i
 invariant-loop-i l =
-    (l.i ≤ length l.initial.out) × (length l.out ≡ length l.initial.out) × (l.out ≡ filled l.initial.out (table (length l.initial.out) (λ n. get_or l.identification ((l.start + n) % (part_of l.part).page) 0)) l.i)
-
-abbrev pub decreases-loop-i : goal.decreases-loop-i
-decreases-loop-i l =
-    length l.initial.out - l.i
+    (length l.out ≡ length l.initial.out) × (l.out ≡ filled l.initial.out (table (length l.initial.out) (λ n. get_or l.identification ((l.start + n) % (part_of l.part).page) 0)) l.i)

@@ -3,6 +3,7 @@ use Prim.Native.Nat.{ℕ, ◌+◌, ◌%◌}
 use mathlib.Core.Bool.{Bool}
 use mathlib.Core.List.{List}
 use mathlib.Core.Path.{◌≡◌, ap₂, ◌∙◌}
+use native.Mathlib.Omega.{arith}
 use lib.ListN.{length, get_or}
 use Rattle.laws.specs.Table.{table}
 use Rattle.codes.specs.Part.{Part, part_of}
@@ -19,16 +20,18 @@ pub returns-then-show_head : goal.returns-then-show_head
 returns-then-show_head c =
     let a = c.args in
     let shown = c.show_head in
-    let head = c.head_of-head in
+    let head = c.from-head in
+    let long : head.result ≡ (part_of a.part).address_bytes + 1 = omega (arith, c.head_of.ensures.value) in
     data_after _ a.ran shown.result (λ d. get_or a.memory.now ((a.from + d) % length a.memory.now) 0) a.out.now shown.new.out
     shown.ensures.value shown.ensures.out_after c.if-show_head.true _ c.show_cells.ensures
-    ∙ as_read (part_of a.part) a.ran a.memory.now a.out.now a.from head.result head.ensures.value c.requires.memory_len
+    ∙ as_read (part_of a.part) a.ran a.memory.now a.out.now a.from head.result long c.requires.memory_len
 
 pub returns-else-show_head : goal.returns-else-show_head
 returns-else-show_head c =
     let a = c.args in
     let shown = c.show_head in
-    let head = c.head_of-head in
+    let head = c.from-head in
+    let long : head.result ≡ (part_of a.part).address_bytes + 1 = omega (arith, c.head_of.ensures.value) in
     data_none _ a.ran shown.result (λ d. get_or a.memory.now ((a.from + d) % length a.memory.now) 0) a.out.now shown.new.out
     shown.ensures.value shown.ensures.out_after c.if-show_head.false
-    ∙ as_read (part_of a.part) a.ran a.memory.now a.out.now a.from head.result head.ensures.value c.requires.memory_len
+    ∙ as_read (part_of a.part) a.ran a.memory.now a.out.now a.from head.result long c.requires.memory_len

@@ -1,3 +1,4 @@
+use Rattle.std.specs.Prelude.{Ok}
 use Prim.Native.Nat.{ℕ, suc, ◌+◌, ◌/◌}
 use mathlib.Core.Bool.{Bool}
 use mathlib.Core.List.{List}
@@ -9,9 +10,7 @@ use Rattle.chip.specs.Records.{own_part, running}
 use Rattle.fields.specs.Bytes.{instruction}
 use Rattle.shown.specs.Shown.{undriven}
 use Rattle.frames.specs.After.{after}
-use Rattle.frames.specs.Answers.{framed, framed_output}
-use Rattle.frames.specs.declared.Framed.{Framed}
-use Rattle.frames.specs.declared.FrameReply.TheVariants.{Shown}
+use Rattle.frames.specs.Answers.{framed, framed_output, Framed}
 use Rattle.frames.specs.Play.{FrameBench, frame_bench}
 use Rattle.timed_frames.specs.Schedules.{due, passed}
 use Rattle.timed_frames.specs.InTime.{last_of}
@@ -25,8 +24,8 @@ returns c =
     let a = c.args in
     let p = c.requires in
     let P = own_part a.core in
-    let ps = a.positions.now in
-    let ts = a.readings.now in
+    let ps = a.schedule.positions.now in
+    let ts = a.schedule.readings.now in
     let s = a.bytes.now in
     let b = frame_bench a.core a.memory.now a.identification.now in
     let to = c.to-last in
@@ -45,12 +44,12 @@ returns c =
     let shown : f.new.out ≡ shows P x = f.ensures.out_after ∙ ap₂ shows part bench in record {
       answer_value = ap (λ (r : Framed). r.answer) told
           ∙ plain_answer P x.core x.memory x.identification s a.bits (length a.out.now) done a.w
-          ∙ ap (λ (r : Bool). Shown (undriven P (instruction P s) r a.bits)) (calm.idle ∙ sym idle);
+          ∙ ap (λ (r : Bool). Ok (undriven P (instruction P s) r a.bits)) (calm.idle ∙ sym idle);
       identification_after = bench_of_law (frame_bench (after P (running x.core) a.w x.core s a.bits) x.memory x.identification)
           (ap (λ (r : Framed). r.core) told ∙ plain_core P x.core x.memory x.identification s a.bits (length a.out.now) done a.w)
           (ap (λ (y : FrameBench). y.memory) bench) (ap (λ (y : FrameBench). y.identification) bench)
-          ∙ left_quiet P ps ts b p.positions_len.1 idle a.w s a.bits;
+          ∙ left_quiet P ps ts b p.none_at_0 idle a.w s a.bits;
       out_after = λ o. shown
           ∙ plain_output P x.core x.memory x.identification s a.bits (length a.out.now) done a.out.now refl
-          ∙ shown_quiet P ps ts b p.positions_len.1 idle o s a.bits;
+          ∙ shown_quiet P ps ts b p.none_at_0 idle o s a.bits;
     }

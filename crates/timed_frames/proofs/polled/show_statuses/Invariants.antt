@@ -1,5 +1,5 @@
 -- The invariant: the bytes below j show their status, and the walk is at most at j.
-use Prim.Native.Nat.{ℕ, ◌-◌, ◌≤◌}
+use Prim.Native.Nat.{ℕ}
 use mathlib.Core.Bool.{◌&&◌}
 use mathlib.Core.Path.{◌≡◌}
 use lib.Dec.{leb, ltb}
@@ -15,18 +15,12 @@ use Rattle.timed_frames.proofs.polled.show_statuses.Given as goal
 
 abbrev pub invariant-loop-j : goal.invariant-loop-j
 invariant-loop-j l =
-    ((1 ≤ l.j) × (l.j ≤ length l.initial.out))
-    × (length l.out ≡ length l.initial.out)
-    × (length l.memory ≡ length l.initial.memory)
-    × (length l.identification ≡ length l.initial.identification)
-    × (own_part l.walk.core ≡ own_part l.initial.walk.core)
-    × ((i : ℕ) → get_or l.out i 0 ≡ pick (leb 1 i && ltb i l.j)
-    (padded_at (length l.initial.out) l.bits i
-    (status (bench_at (own_part l.initial.walk.core) l.positions l.readings (frame_bench l.initial.walk.core l.initial.memory l.initial.identification) (loaded_at l.mode i)).core))
-    (get_or l.initial.out i 0))
-    × Walked (own_part l.initial.walk.core) l.positions l.readings (frame_bench l.initial.walk.core l.initial.memory l.initial.identification) l.j l.walk.next
-    (frame_bench l.walk.core l.memory l.identification)
-
-abbrev pub decreases-loop-j : goal.decreases-loop-j
-decreases-loop-j l =
-    length l.initial.out - l.j
+    let P = own_part l.initial.walk.core in
+    let b = frame_bench l.initial.walk.core l.initial.memory l.initial.identification in
+    record {
+      part : own_part l.walk.core ≡ P;
+      shown : (i : ℕ) → get_or l.out i 0 ≡ pick (leb 1 i && ltb i l.j)
+          (padded_at (length l.initial.out) l.bits i (status (bench_at P l.schedule.positions.now l.schedule.readings.now b (loaded_at l.mode i)).core))
+          (get_or l.initial.out i 0);
+      walked : Walked P l.schedule.positions.now l.schedule.readings.now b l.j l.walk.next (frame_bench l.walk.core l.memory l.identification);
+    }

@@ -3,6 +3,8 @@ use mathlib.Core.Path.{◌≡◌, ap, ◌∙◌}
 use mathlib.Core.List.{List}
 use Prim.Native.Nat.{ℕ, ◌+◌, ◌*◌, ◌≤◌}
 use native.Mathlib.Omega.{arith}
+use Rattle.std.proofs.Common.{rules}
+use Rattle.pins_theorems.proofs.Fits.{Sized}
 use lib.ListN.{length}
 use borrow.Author.Tests.{eq-eqb}
 use Rattle.laws.specs.Pick.{and_both}
@@ -25,18 +27,19 @@ returns c =
     let es = a.events.now in
     let b : PinBench = pin_bench a.device a.memory.now a.identification.now in
     let P = device_part a.device in
-    let w = c.play-stepped in
+    let w = c.play in
     let y = w.ensures in
     let qs = w.new.out in
-    let x = c.print-end in
+    let x = c.print-at in
     let d = a.out.now in
+    let sized : Sized a.device = let good = c.well_formed in search rules in
     let long = and_both _ _ (eq-eqb _ _ pre.0) (eq-eqb _ _ pre.1) in
     let o = play_done P a.device (lent_to b) es (length a.qs.now) long pre.2 pre.3 pre.4 in
     let device : w.result.device ≡ (played P es b).device = done_device (played P es b).device a.device o y.value in
     let shown : qs ≡ played_q P es b = done_memory (played_q P es b) a.qs.now _ o y.out_after in
     let as_many : length qs ≡ length es = ap length shown ∙ played_q_length P es b in
     let room : a.at + 10 * length qs ≤ length d = omega (arith, pre.5) in (
-      (device, ap (λ (z : Device). device_fits (device_part z) z) device ∙ own_fits es b c.marked.ensures pre.2),
+      (device, ap (λ (z : Device). device_fits (device_part z) z) device ∙ own_fits es b sized pre.2),
       (
         done_memory (played P es b).memory a.memory.now _ o y.memory_after,
         (

@@ -12,12 +12,12 @@ pub returns : goal.returns
 returns c =
     let a = c.args in
     let x = a.text.now in
-    let n = c.closing-lines.ensures in
+    let n = c.closing.ensures in
     let below = c.requires in (
       omega arith,
       omega arith,
       omega (arith, n, one_or_none (closes a.hand (get_or x a.i 0))),
-      λ l p. c.next-line.ensures ∙ byte_read l x a.i a.hand below p,
-      λ l p. rw (n, c.event-event.ensures)
+      λ l p. c.next.ensures ∙ byte_read l x a.i a.hand below p,
+      λ l p. rw (n, c.event.ensures)
           (ap (λ (e : List ℕ). found l (take a.i x) ++ e) (said_taken a.hand (get_or x a.i 0)) ∙ byte_found l x a.i a.hand below p),
     )

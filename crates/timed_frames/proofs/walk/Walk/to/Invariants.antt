@@ -7,17 +7,19 @@ use Rattle.frames.specs.Play.{frame_bench}
 use Rattle.timed_frames.specs.Schedules.{due, passed}
 use Rattle.timed_frames.proofs.walk.Walk.to.Given as goal
 
-abbrev pub invariant-loop-memory : goal.invariant-loop-memory
-invariant-loop-memory l =
-    (l.initial.next ≤ l.next)
-    × (l.next ≤ length l.positions)
-    × (due l.k (drop l.initial.next l.positions) ≡ l.next - l.initial.next + due l.k (drop l.next l.positions))
-    × (length l.memory ≡ length l.initial.memory)
-    × (length l.identification ≡ length l.initial.identification)
-    × (own_part l.core ≡ own_part l.initial.core)
-    × (frame_bench l.core l.memory l.identification
-    ≡ passed (own_part l.initial.core) (take (l.next - l.initial.next) (drop l.initial.next l.readings)) (frame_bench l.initial.core l.initial.memory l.initial.identification))
+abbrev pub invariant-loop-next : goal.invariant-loop-next
+invariant-loop-next l =
+    let P = own_part l.initial.core in
+    let first = l.initial.next in
+    record {
+      low : first ≤ l.next;
+      high : l.next ≤ length l.schedule.positions.now;
+      still : due l.k (drop first l.schedule.positions.now) ≡ l.next - first + due l.k (drop l.next l.schedule.positions.now);
+      part : own_part l.core ≡ P;
+      bench : frame_bench l.core l.memory l.identification
+          ≡ passed P (take (l.next - first) (drop first l.schedule.readings.now))
+          (frame_bench l.initial.core l.initial.memory l.initial.identification);
+    }
 
-abbrev pub decreases-loop-memory : goal.decreases-loop-memory
-decreases-loop-memory l =
-    length l.positions - l.next
+abbrev pub decreases-loop-next : goal.decreases-loop-next
+decreases-loop-next l = length l.schedule.positions.now - l.next
