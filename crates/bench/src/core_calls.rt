@@ -9,7 +9,7 @@ ghost use Rattle.bench.specs.Calls.{bad_flag, protected_call, touched_call};
 
 use crate::{CoreAnswer, Value};
 use chip::Core;
-use codes::{Refusal, size_of};
+use codes::{Refusal, size_of, wide};
 
 // What a lock or a flag of 2 gets at power-up, with a memory of this length: 1 for another length than the part's, else
 // 2.
@@ -87,7 +87,7 @@ pub fn cartvesper_core_status(core: Core) -> Value
     ensures { result ≡ status_call (own_part core) core }
 {
     if core.in_ranges() {
-        return Value::from(Ok(u32::from(core.status())));
+        return Value::from(Ok(wide(core.status())));
     }
     Value::from(Err(Refusal::RecordRange))
 }

@@ -50,6 +50,18 @@ pub fn cartvesper_timed_frame(
         bytes.now bits positions.now readings.now out.old }
 {
     if (w <= 1) & ((mode == 0) | (mode == 3)) {
+        // timed_frame makes this test too, but through it the record is copied more often.
+        if positions.is_empty() & readings.is_empty() {
+            return FrameAnswer::from(frames::frame(
+                core,
+                memory,
+                identification,
+                w == 1,
+                bytes,
+                bits,
+                out,
+            ));
+        }
         return FrameAnswer::from(timed_frames::timed_frame(
             core,
             memory,

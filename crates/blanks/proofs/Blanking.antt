@@ -1,7 +1,7 @@
 -- The number of blank cells as a scan gives it: how a change of the memory moves it, that a page write moves it by the cells of its page, and that the
 -- right number moves to the right one.
 use mathlib.Core.Path.{◌≡◌, refl, ap, ap₂, sym, ◌∙◌}
-use mathlib.Core.List.{List}
+use mathlib.Core.List.{List, ◌++◌}
 use Prim.Native.Nat.{ℕ, zero, suc, min, ◌+◌, ◌-◌, ◌*◌, ◌<◌, ◌≤◌}
 use native.Mathlib.Decide.{dec_le}
 use native.Mathlib.Omega.{arith}
@@ -12,7 +12,7 @@ use borrow.Author.Tests.{le-leb, lt-leb, leb-true, eq-eqb}
 use Rattle.laws.specs.Pick.{pick_case, at_yes, at_no}
 use mir.Val.{bool_byte}
 use Rattle.std.proofs.Common.{take_all}
-use Rattle.std.proofs.lemmas.List.Sums.{sum_by_more}
+use Rattle.std.proofs.lemmas.List.Sums.{sum_by_more, sum_by-append}
 use Rattle.std.specs.List.{sum_by}
 use Rattle.laws.specs.Flags.{byte_bit}
 use Rattle.laws.specs.Count.{count, count_add, count_cong, count_le, count_all, count_exchange}
@@ -53,6 +53,11 @@ first_ones (suc n) m h =
 
 pub blanks_sum : (m : List ℕ) → sum_by as_one m ≡ blanks m
 blanks_sum m = sym (ap (sum_by as_one) (take_all (length m) m (omega arith))) ∙ first_ones (length m) m (omega arith)
+
+-- two rows of cells, one after the other
+pub blanks_both : (m n : List ℕ) → blanks (m ++ n) ≡ blanks m + blanks n
+blanks_both m n =
+    sym (blanks_sum (m ++ n)) ∙ sum_by-append as_one m n ∙ ap₂ ◌+◌ (blanks_sum m) (blanks_sum n)
 
 -- ---- held within the size
 

@@ -11,12 +11,28 @@ ghost use Rattle.blanks.specs.Blanks.{blanks, blanks_in, blanks_of, held_within,
 use codes::{LARGE_SIZE, page_of, size_of};
 use latch::Latch;
 
-// The blank cells among all that are lent.
+// So many cells are counted in a byte.
+const FEW: usize = 128;
+
+// The blank cells among a few. A byte counts them, so that the processor looks at many at once.
+fn few(cells: &[u8]) -> u8
+    requires { length cells.now ≤ 128 }
+    ensures { result ≡ blanks cells.now }
+{
+    cells.iter().map(|cell| u8::from(*cell == 255)).sum()
+}
+
+// The blank cells among all that are lent. In a byte for each few: a sum of one number of 32 bits for each cell takes 3
+// times as long.
 fn scan(cells: &[u8]) -> u32
     requires { length cells.now ≤ room_cells }
     ensures { result ≡ blanks cells.now }
 {
-    cells.iter().map(|cell| u32::from(*cell == 255)).sum()
+    let mut n = 0;
+    for row in cells.chunks(FEW) {
+        n += u32::from(few(row));
+    }
+    n
 }
 
 // The blank cells of a memory; none of one that is larger than any part's.

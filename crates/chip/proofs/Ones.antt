@@ -56,6 +56,12 @@ use Rattle.chip.proofs.time.elapsed.Kinds as elapsed
 use Rattle.chip.proofs.time.elapsed.Reads as elapsed-reads
 use Rattle.chip.proofs.Waiting.nothing.Kinds as waiting-nothing
 use Rattle.chip.proofs.Waiting.nothing.Reads as waiting-nothing-reads
+use Rattle.chip.proofs.Waiting.has.Kinds as waiting-has
+use Rattle.chip.proofs.Waiting.has.Reads as waiting-has-reads
+use Rattle.chip.proofs.Core.checked.Kinds as core-checked
+use Rattle.chip.proofs.Core.checked.Reads as core-checked-reads
+use Rattle.chip.proofs.Core.admitted.Kinds as core-admitted
+use Rattle.chip.proofs.Core.admitted.Reads as core-admitted-reads
 use Rattle.chip.proofs.Core.timed.Kinds as core-timed
 use Rattle.chip.proofs.Core.timed.Reads as core-timed-reads
 
@@ -159,3 +165,12 @@ core_timed_memory κs a z z' e e' p q = same p.1.0 q.1.0
 
 pub core_timed_identification : OneExit core-timed.ps core-timed.r core-timed-reads.Post (λ κs e. e.1.1.1.0.now)
 core_timed_identification κs a z z' e e' p q = same p.1.1 q.1.1
+
+pub waiting_has_one : OneResult waiting-has.ps waiting-has.r waiting-has-reads.Post
+waiting_has_one κs a z z' e e' p q = same p q
+
+pub core_checked_one : OneResult core-checked.ps core-checked.r core-checked-reads.Post
+core_checked_one κs a z z' e e' p q = same p q
+
+pub core_admitted_one : OneResult core-admitted.ps core-admitted.r core-admitted-reads.Post
+core_admitted_one κs a z z' e e' p q = same p q

@@ -15,9 +15,10 @@ impl Core {
         ensures value { result ≡ ended_blank (own_part self) self memory.old }
         ensures memory_after { memory.new ≡ ended_cells waits_page (own_part self) self memory.old }
     {
-        let waits = self.waits;
-        if waits.has(Kind::Page) {
-            return store_counting(self.part, self.blank, waits.page, waits.latch, memory);
+        let page = self.waits.page;
+        let latch = self.waits.latch;
+        if self.waits.kind == Kind::Page as u8 {
+            return store_counting(self.part, self.blank, page, latch, memory);
         }
         self.blank
     }

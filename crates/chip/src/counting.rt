@@ -26,7 +26,9 @@ impl Core {
         ensures as_value { value_of result
             ≡ touched_choice (in_ranges (own_part self) self) 0 (cells_marked (own_part self) self) }
     {
-        self.checked()?;
-        Ok(self.touched())
+        if self.in_ranges() {
+            return Ok(self.touched());
+        }
+        Err(Refusal::RecordRange)
     }
 }

@@ -42,8 +42,11 @@ impl Core {
         ensures as_number { number result ≡ lowest_number (own_part self) self }
         ensures as_value { value_of result ≡ lowest_value (own_part self) self }
     {
-        self.checked()?;
-        Ok(self.lowest())
+        // Not by `checked`: it takes a copy of the record.
+        if self.in_ranges() {
+            return Ok(self.lowest());
+        }
+        Err(Refusal::RecordRange)
     }
 
     // Whether one address is protected: 2 for a record outside its ranges, 7 for an address that the memory lacks.
@@ -52,7 +55,9 @@ impl Core {
         ensures as_number { number result ≡ question_number (own_part self) self address }
         ensures as_value { (value_by bit) result ≡ question_value (own_part self) self address }
     {
-        self.checked()?;
+        if !self.in_ranges() {
+            return Err(Refusal::RecordRange);
+        }
         if size_of(self.part) <= address as usize {
             return Err(Refusal::AddressRange);
         }

@@ -75,11 +75,11 @@ impl Core {
     fn ended(self) -> Core
         ensures { result ≡ ended self }
     {
-        let waits = self.waits;
-        if waits.has(Kind::Status) {
-            return self.with_status(waits.status).without_cycle();
+        let kind = self.waits.kind;
+        if kind == Kind::Status as u8 {
+            return self.with_status(self.waits.status).without_cycle();
         }
-        if waits.has(Kind::Lock) {
+        if kind == Kind::Lock as u8 {
             return self.with_lock().without_cycle();
         }
         self.without_cycle()
@@ -90,9 +90,10 @@ impl Core {
         ensures { identification.new
             ≡ ended_cells waits_identification (own_part self) self identification.old }
     {
-        let waits = self.waits;
-        if waits.has(Kind::Identification) {
-            waits.latch.store(self.part, waits.page, identification);
+        let page = self.waits.page;
+        let latch = self.waits.latch;
+        if self.waits.kind == Kind::Identification as u8 {
+            latch.store(self.part, page, identification);
         }
     }
 

@@ -55,6 +55,8 @@ use Rattle.codes.proofs.verdicts.judge.Kinds as judge
 use Rattle.codes.proofs.verdicts.judge.Reads as judge-reads
 use Rattle.codes.proofs.Verdict.is_executed.Kinds as verdict-is-executed
 use Rattle.codes.proofs.Verdict.is_executed.Reads as verdict-is-executed-reads
+use Rattle.codes.proofs.status.wide.Kinds as wide
+use Rattle.codes.proofs.status.wide.Reads as wide-reads
 
 pub refusal_number_one : OneResult refusal-number.ps refusal-number.r refusal-number-reads.Post
 refusal_number_one κs a z z' e e' p q = same p q
@@ -118,6 +120,9 @@ srwd_of_one κs a z z' e e' p q = same p q
 
 pub bp1_of_one : OneResult bp1-of.ps bp1-of.r bp1-of-reads.Post
 bp1_of_one κs a z z' e e' p q = same p q
+
+pub wide_one : OneResult wide.ps wide.r wide-reads.Post
+wide_one κs a z z' e e' p q = same p q
 
 pub bp0_of_one : OneResult bp0-of.ps bp0-of.r bp0-of-reads.Post
 bp0_of_one κs a z z' e e' p q = same p q

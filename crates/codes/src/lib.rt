@@ -21,7 +21,7 @@ pub use sizes::{
     address_bytes_of, head_of, identified, is_part, longest_of, most_of, page_number, page_of,
     pages_of, size_of, wrdi_in_cycle,
 };
-pub use status::{bp0_of, bp1_of, srwd_of, status_byte, writable};
+pub use status::{bp0_of, bp1_of, srwd_of, status_byte, wide, writable};
 pub use verdicts::judge;
 
 // The refusals in their order, with their numbers, 1 to 8.

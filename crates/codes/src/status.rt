@@ -37,3 +37,10 @@ pub fn bp0_of(value: u8) -> u8
 {
     value >> 2 & 1
 }
+
+// A byte as a number of an answer.
+pub fn wide(byte: u8) -> u32
+    ensures { result ≡ byte }
+{
+    u32::from(byte)
+}

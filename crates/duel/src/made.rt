@@ -145,7 +145,9 @@ pub fn bits_in_hold(part: u8, length: usize, chance: &mut Chance) -> usize
 
 // An address of the largest part, of which a smaller one takes the low 16 bits. Often around the edge of a page, a
 // quarter or the memory, or in one of a few pages, so that reads meet writes.
-fn address(chance: &mut Chance) -> u32 {
+fn address(chance: &mut Chance) -> u32
+    ensures { result ≤ 131071 }
+{
     let r = chance.below(10);
     let near = 131068 + chance.below(8);
     let any = chance.below(131072);

@@ -5,10 +5,12 @@ use mathlib.Core.Bool.{Bool, true, false, ◌&&◌, ◌||◌, and-true, and_asso
 use mathlib.Core.List.{List, [], ◌∷◌, ◌++◌}
 use Prim.Native.Nat.{ℕ, zero, suc, ◌+◌, ◌*◌, ◌/◌, ◌%◌, ◌^◌, ◌<◌, ◌≤◌}
 use native.Mathlib.Numerals.{add-one}
+use native.Mathlib.Nat.{mul-le-mul_right, le_of_lt}
 use native.Mathlib.Omega.{arith}
 use lib.ListN.{length, take, get_or}
 use lib.Seq.{take-suc}
 use lib.Dec.{eqb, leb, ltb}
+use lib.Bits.{bit_or, or_zero_l, or_add_and, and_le_r}
 use borrow.Author.Tests.{le-leb, leb-true, lt-ltb, ltb-true, ltb-false, le-ltb, eq-eqb, ne_eqb}
 use Rattle.laws.specs.Pick.{pick, and_both}
 use Rattle.laws.specs.And.{or_left, or_right}
@@ -37,6 +39,40 @@ more_are ns i h =
     ∙ both_are (take i ns) (get_or ns i 0 ∷ []) ∙ ap (λ (t : Bool). are_events (take i ns) && t) (one_is (get_or ns i 0))
 
 -- ---- a kind and a value: a pin at 0 or 1, or a reading
+
+-- a number that is 0 where a value is a level
+of_level : (w v : ℕ) → (w ≡ 0 → v ≤ 1) → (v ≤ 1 → w ≡ 0) → eqb w 0 ≡ (leb v 1 || false)
+of_level w v to from = by_test_law (leb v 1) refl
+  where
+    by_test_law : (t : Bool) → leb v 1 ≡ t → eqb w 0 ≡ (leb v 1 || false)
+    by_test_law true e = eq-eqb w 0 (from (leb-true v 1 e)) ∙ sym (or_left (leb v 1) false e)
+    by_test_law false e = ne_eqb w 0 (λ z. true≢false (sym (le-leb v 1 (to z)) ∙ e)) ∙ sym (or-false (leb v 1) ∙ e)
+
+-- the sum of the code is 0 for an event alone
+pub no_fault : (k v : ℕ) → eqb ((k + 2) / 8 + (k + 3) % 8 * (v / 2)) 0 ≡ (ltb k 5 && leb v 1 || eqb k 5)
+no_fault zero v = of_level (0 + 3 * (v / 2)) v (λ e. omega arith) (λ h. omega arith)
+no_fault (suc zero) v = of_level (0 + 4 * (v / 2)) v (λ e. omega arith) (λ h. omega arith)
+no_fault (suc (suc zero)) v = of_level (0 + 5 * (v / 2)) v (λ e. omega arith) (λ h. omega arith)
+no_fault (suc (suc (suc zero))) v = of_level (0 + 6 * (v / 2)) v (λ e. omega arith) (λ h. omega arith)
+no_fault (suc (suc (suc (suc zero)))) v = of_level (0 + 7 * (v / 2)) v (λ e. omega arith) (λ h. omega arith)
+no_fault (suc (suc (suc (suc (suc zero))))) v = eq-eqb (0 + 0 * (v / 2)) 0 (omega arith)
+no_fault (suc (suc (suc (suc (suc (suc k)))))) v =
+    let six = suc (suc (suc (suc (suc (suc k))))) in
+    rw (le-ltb six 5 (omega arith), ne_eqb six 5 (λ e. omega arith)) (ne_eqb ((six + 2) / 8 + (six + 3) % 8 * (v / 2)) 0 (λ e. omega arith))
+
+-- .. and fits a word
+pub product_below : (x y : ℕ) → x < 8 → y < 2 ^ 32 → x * y < 2 ^ 64
+product_below x y h k = omega (arith, mul-le-mul_right y (le_of_lt h))
+
+pub sum_below : (w x y : ℕ) → w < 2 ^ 32 → x < 8 → y < 2 ^ 32 → w + x * y < 2 ^ 64
+sum_below w x y i h k = omega (arith, mul-le-mul_right y (le_of_lt h))
+
+-- two sums in one word
+pub none_of : (a b : ℕ) → eqb (bit_or a b) 0 ≡ (eqb a 0 && eqb b 0)
+none_of zero b = ap (λ (n : ℕ). eqb n 0) (or_zero_l b)
+none_of (suc a) b =
+    ne_eqb (bit_or (suc a) b) 0 (λ e. omega (arith, e, or_add_and (suc a) b, and_le_r (suc a) b))
+    ∙ sym (ap (λ (t : Bool). t && eqb b 0) (ne_eqb (suc a) 0 (λ e. omega arith)))
 
 kind_of_law : (k v : ℕ) → v < 2 ^ 32 → (k * 2 ^ 32 + v) / 2 ^ 32 ≡ k
 kind_of_law k v h = omega arith

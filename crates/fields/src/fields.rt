@@ -70,12 +70,20 @@ fn latch_all(part: u8, address: usize, values: &[u8]) -> Latch
     }
 }
 
-// Bytes latched from an address up to the end of its page; those past it are not.
+// Bytes latched from an address up to the end of its page, in one run; those past it are not. Not by `latch_all`, for
+// the driver's speed: it makes two runs.
 pub fn latch_part(part: u8, address: usize, values: &[u8]) -> Latch
     ensures { result ≡ latched_up (part_of part) address values.now }
 {
-    let n = values.len().min(page_of(part) - cell_of(part, address));
-    latch_all(part, address, &values[..n])
+    let mut cells = [0u8; ROOM];
+    let start = cell_of(part, address);
+    let n = values.len().min(page_of(part) - start);
+    let end = start + n;
+    latch_run(&mut cells, start, &values[..n]);
+    Latch {
+        bytes: cells,
+        marks: run_marks(start, end, 0),
+    }
 }
 
 // The page write of a WRITE or 82h frame: each data byte into its cell, from the start address up and round within the

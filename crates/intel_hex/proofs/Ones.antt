@@ -6,6 +6,8 @@ use Rattle.intel_hex.proofs.public.import.Kinds as import
 use Rattle.intel_hex.proofs.public.import.Reads as import-reads
 use Rattle.intel_hex.proofs.public.bad_line.Kinds as bad-line
 use Rattle.intel_hex.proofs.public.bad_line.Reads as bad-line-reads
+use Rattle.intel_hex.proofs.HexErrorNumbered.number.Kinds as hex-error-number
+use Rattle.intel_hex.proofs.HexErrorNumbered.number.Reads as hex-error-number-reads
 
 pub export_one : OneResult export.ps export.r export-reads.Post
 export_one κs a z z' e e' p q = same p.0 q.0
@@ -21,3 +23,8 @@ import_memory_law κs a z z' e e' p q = same p.1.1 q.1.1
 
 pub bad_line_one : OneResult bad-line.ps bad-line.r bad-line-reads.Post
 bad_line_one κs a z z' e e' p q = same p q
+
+-- ---- inner calls
+
+pub hex_error_number_one : OneResult hex-error-number.ps hex-error-number.r hex-error-number-reads.Post
+hex_error_number_one κs a z z' e e' p q = same p q

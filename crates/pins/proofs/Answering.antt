@@ -1,5 +1,5 @@
 -- An event that is taken, and one that is refused: the answer, and its number in document 01.
-use Rattle.std.specs.Prelude.{Err, Ok}
+use Rattle.std.specs.Prelude.{Err}
 use mathlib.Core.Path.{◌≡◌, refl, ap, ap₂, sym, ◌∙◌}
 use mathlib.Core.List.{List}
 use mathlib.Core.Bool.{true, false}
@@ -63,6 +63,15 @@ module _ (P : Part) (x : Device) (m : Lent) where
       ap number (sym e)
       ∙ pick_ap number (lent_fits P (length m.memory) (length m.identification)) (record_outcome P x) (Err MemoryLength)
       ∙ pick_cong (lent_fits P (length m.memory) (length m.identification)) 1 (λ q. record_number_law P x refl)
+
+  pub memory_done : lent_fits P (length m.memory) (length m.identification) ≡ true → device_fits P x ≡ true → memory_outcome P x m ≡ no_refusal
+  memory_done l h = sym (yes_so _ l (yes_so _ h refl))
+
+  pub memory_record : lent_fits P (length m.memory) (length m.identification) ≡ true → device_fits P x ≡ false → memory_outcome P x m ≡ Err RecordRange
+  memory_record l h = sym (yes_so _ l (no_so _ h refl))
+
+  pub memory_length : lent_fits P (length m.memory) (length m.identification) ≡ false → memory_outcome P x m ≡ Err MemoryLength
+  memory_length l = at_no _ _ l
 
   pub lent_taken : {r : Stepped} {y y' : Device} → memory_outcome P x m ≡ no_refusal → y' ≡ y → r ≡ stepped_to no_refusal y'
       → record { value : r ≡ answer (memory_outcome P x m) y x; as_number : number r.outcome ≡ memory_number P x m }

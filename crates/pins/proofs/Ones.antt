@@ -28,6 +28,8 @@ use Rattle.pins.proofs.Device.stepped.Kinds as device-stepped
 use Rattle.pins.proofs.Device.stepped.Reads as device-stepped-reads
 use Rattle.pins.proofs.Device.resting.Kinds as device-resting
 use Rattle.pins.proofs.Device.resting.Reads as device-resting-reads
+use Rattle.pins.proofs.Device.admitted.Kinds as device-admitted
+use Rattle.pins.proofs.Device.admitted.Reads as device-admitted-reads
 
 pub power_up_one : OneResult power-up.ps power-up.r power-up-reads.Post
 power_up_one κs a z z' e e' p q = same p.0 q.0
@@ -90,3 +92,6 @@ device_stepped_identification κs a z z' e e' p q = same p.1.1 q.1.1
 
 pub device_resting_one : OneResult device-resting.ps device-resting.r device-resting-reads.Post
 device_resting_one κs a z z' e e' p q = same p q
+
+pub device_admitted_one : OneResult device-admitted.ps device-admitted.r device-admitted-reads.Post
+device_admitted_one κs a z z' e e' p q = same p q

@@ -1,6 +1,6 @@
 -- The public calls, for every input: the refusals in their order, the device that follows and the memory.
 use Rattle.codes.specs.declared.Refusal.{Refusal}
-use Rattle.codes.specs.Refusals.{number, value_of, value_by, no_refusal}
+use Rattle.codes.specs.Refusals.{no_refusal}
 use Rattle.std.specs.Prelude.{ℕ, Bool, List, [], ◌∷◌, length, Err, Ok, Result}
 use Rattle.laws.specs.Pick.{pick}
 use Rattle.codes.specs.Part.{Part}

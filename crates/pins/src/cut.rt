@@ -7,6 +7,8 @@ ghost use Rattle.pins.specs.Devices.{device_part};
 ghost use Rattle.pins.specs.Answers.{memory_outcome, memory_number, answer, answer_memory, cut_device};
 
 use crate::{Device, Stepped};
+use chip::lent_fits;
+use codes::Refusal;
 use cuts::{Choice, cut_core};
 
 impl Device {
@@ -28,12 +30,15 @@ impl Device {
             (cut_identification (device_part self) choice self.core identification.old)
             identification.old }
     {
-        match self.admitted(memory.len(), identification.len()) {
-            Ok(()) => {
-                let next = cut_core(self.core, choice, memory, identification);
-                Device::resting(next).done()
+        // Not by `admitted`, as in `read_clock`.
+        let core = self.core;
+        if lent_fits(core.part, memory.len(), identification.len()) {
+            if self.in_ranges() {
+                let next = cut_core(core, choice, memory, identification);
+                return Device::resting(next).done();
             }
-            Err(refusal) => self.refused(refusal),
+            return self.refused(Refusal::RecordRange);
         }
+        self.refused(Refusal::MemoryLength)
     }
 }

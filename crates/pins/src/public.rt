@@ -159,10 +159,14 @@ impl Device {
             (timed_identification (device_part self) reading self.core identification.old)
             identification.old }
     {
-        match self.admitted(memory.len(), identification.len()) {
-            Ok(()) => self.on_time(reading, memory, identification).done(),
-            Err(refusal) => self.refused(refusal),
+        // Not by `admitted`: through it the record is copied more often.
+        if lent_fits(self.core.part, memory.len(), identification.len()) {
+            if self.in_ranges() {
+                return self.on_time(reading, memory, identification).done();
+            }
+            return self.refused(Refusal::RecordRange);
         }
+        self.refused(Refusal::MemoryLength)
     }
 
     // Q: 0, 1 or Z. 2 for a device outside its ranges.
@@ -171,8 +175,10 @@ impl Device {
         ensures as_number { number result ≡ record_number (device_part self) self }
         ensures as_value { (value_by level_number) result ≡ q_asked (device_part self) self }
     {
-        self.checked()?;
-        Ok(self.shows())
+        if self.in_ranges() {
+            return Ok(self.shows());
+        }
+        Err(Refusal::RecordRange)
     }
 
     // The status byte. 2 for a device outside its ranges.
@@ -181,9 +187,11 @@ impl Device {
         ensures as_number { number result ≡ record_number (device_part self) self }
         ensures as_value { value_of result ≡ status_asked (device_part self) self }
     {
-        self.checked()?;
         let core = self.core;
-        Ok(core.status())
+        if self.in_ranges() {
+            return Ok(core.status());
+        }
+        Err(Refusal::RecordRange)
     }
 
     // How many cells the running cycle will touch, 0 where no latched bytes wait. 2 for a device outside its ranges.
@@ -193,8 +201,10 @@ impl Device {
         ensures as_value { value_of result
             ≡ touched_choice (device_fits (device_part self) self) 0 (cells_marked (device_part self) self.core) }
     {
-        self.checked()?;
         let core = self.core;
-        Ok(core.touched())
+        if self.in_ranges() {
+            return Ok(core.touched());
+        }
+        Err(Refusal::RecordRange)
     }
 }

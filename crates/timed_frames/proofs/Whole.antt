@@ -1,17 +1,17 @@
--- The whole call: a refused one leaves everything, one that is done is the frame after the readings at 0.
+-- The whole call: a refused one is the plain call's refusal, one that is done is the frame after the readings at 0.
 use Rattle.std.specs.Prelude.{Err, Ok}
-use Prim.Native.Nat.{ℕ, ◌+◌}
-use mathlib.Core.Bool.{Bool, true, ◌&&◌, and-true}
+use Prim.Native.Nat.{ℕ, ◌+◌, ◌*◌, ◌-◌, ◌≤◌}
+use mathlib.Core.Bool.{Bool, true, false, ◌&&◌, and-true, true≢false}
 use mathlib.Core.List.{List}
 use mathlib.Core.Path.{◌≡◌, refl, ap, ap₂, sym, ◌∙◌}
 use native.Mathlib.Omega.{arith}
 use lib.Dec.{eqb, leb}
 use lib.ListN.{length, take, drop}
-use Rattle.laws.specs.Pick.{pick, pick_ap, pick_cong, at_yes, and_right}
-use Rattle.codes.specs.Part.{Part}
+use borrow.Author.Tests.{lt-leb, leb-true}
+use Rattle.laws.specs.Pick.{pick, pick_case, pick_ap, pick_cong, at_yes, at_no, and_no_right}
+use Rattle.codes.specs.Part.{Part, room_cells}
 use Rattle.codes.specs.Refusals.{number, is_done, no_refusal, Outcome}
 use Rattle.codes.specs.declared.Refusal.TheVariants.{MemoryLength, RecordRange, FrameLength, BitCount, OutputLength}
-use Rattle.codes.specs.declared.Refusal.{Refusal}
 use Rattle.chip.specs.Lents.{Lent}
 use Rattle.chip.specs.Ranges.{in_ranges}
 use Rattle.chip.specs.Records.{own_part, running}
@@ -20,9 +20,8 @@ use Rattle.chip.specs.declared.Core.{Core}
 use Rattle.fields.specs.Bytes.{instruction}
 use Rattle.fields.specs.Counts.{bits_fit, longest_frame}
 use Rattle.shown.specs.Shown.{output, undriven}
-use Rattle.frames.specs.Answers.{frame_outcome, frame_reply, Framed}
+use Rattle.frames.specs.Answers.{frame_outcome, frame_reply, framed, framed_output, Framed}
 use Rattle.frames.specs.Play.{FrameBench, frame_bench}
-use Rattle.frames.proofs.Outcomes.{not_refused}
 use Rattle.timed_frames.specs.Schedules.{due, places_fit, bench_at}
 use Rattle.timed_frames.specs.InTime.{ran_in, sights_in, left_by}
 use Rattle.timed_frames.specs.Answers.{in_time_outcome, in_time_number, in_time_left, given, framed_in_time, output_in_time, AnsweredInTime}
@@ -36,7 +35,28 @@ reply_number : (o : Outcome) (u : ℕ) → number (frame_reply o u) ≡ number o
 reply_number (Ok _) u = refl
 reply_number (Err r) u = refl
 
--- ---- refusals 1 to 5
+-- a refusal shows no count
+refused_reply : (o : Outcome) (u v : ℕ) → is_done o ≡ false → frame_reply o u ≡ frame_reply o v
+refused_reply (Ok _) u v e = absurd (true≢false e)
+refused_reply (Err r) u v e = refl
+
+-- ---- refusals 1 to 5, by the test of the bit count
+
+-- no bit count of all ones fits a frame
+no_count : (P : Part) (len : ℕ) → P.size ≤ room_cells → leb len (longest_frame P) ≡ true → bits_fit len 18446744073709551615 ≡ false
+no_count P len most short =
+    pick_case (λ (t : Bool). t ≡ false) (eqb len 0) (λ e. refl)
+    (λ e. and_no_right (leb (8 * len - 7) 18446744073709551615) (leb 18446744073709551615 (8 * len))
+    (lt-leb 18446744073709551615 (8 * len) (omega (arith, leb-true len (longest_frame P) short, most))))
+
+never : (a b d : Bool) (o : Outcome)
+    → is_done (pick a (pick b (pick d (pick false o (Err BitCount)) (Err FrameLength)) (Err RecordRange))
+    (Err MemoryLength)) ≡ false
+unfolding pick
+never true true true o = refl
+never true true false o = refl
+never true false d o = refl
+never false b d o = refl
 
 module _ (P : Part) (c : Core) (m : Lent) (s : List ℕ) (n : ℕ) (ps ts : List ℕ) (room : ℕ) where
   abbrev plain : ℕ → Outcome
@@ -64,17 +84,23 @@ module _ (P : Part) (c : Core) (m : Lent) (s : List ℕ) (n : ℕ) (ps ts : List
   pub placed : places_fit n ps ts ≡ true → in_time_outcome P c m s n ps ts room ≡ plain n
   placed e = ap by_test (ap (λ (t : Bool). bits_fit (length s) n && t) e ∙ and-true (bits_fit (length s) n))
 
-  -- a call that is not refused is given lists that fit, and a frame that the plain call would not refuse
-  pub taken_in : {o : Outcome} → o ≡ in_time_outcome P c m s n ps ts room → o ≡ no_refusal
-      → (places_fit n ps ts ≡ true) × (plain n ≡ no_refusal)
-  taken_in found done =
-      let e = sym found ∙ done in
-      let memory = not_refused _ _ MemoryLength e in
-      let ranges = not_refused _ _ RecordRange memory.1 in
-      let bytes = not_refused _ _ FrameLength ranges.1 in
-      let bits = not_refused _ _ BitCount bytes.1 in
-      let lists = and_right (bits_fit (length s) n) (places_fit n ps ts) bits.0 in
-      (lists, sym (placed lists) ∙ e)
+  -- those that do not are as a bit count that does not
+  module _ (e : places_fit n ps ts ≡ false) where
+    none : (bits_fit (length s) n && places_fit n ps ts) ≡ false
+    none = and_no_right (bits_fit (length s) n) (places_fit n ps ts) e
+
+    pub misplaced : P.size ≤ room_cells → plain 18446744073709551615 ≡ in_time_outcome P c m s n ps ts room
+    misplaced most =
+        pick_cong (lent_fits P (length m.memory) (length m.identification)) _
+        (λ a. pick_cong (in_ranges P c) _
+        (λ b. pick_cong (leb (length s) (longest_frame P)) _
+        (λ d. ap (λ (t : Bool). pick t (pick (eqb room (length s)) no_refusal (Err OutputLength)) (Err BitCount))
+        (no_count P (length s) most d ∙ sym none))))
+
+    pub misplaced_not : is_done (in_time_outcome P c m s n ps ts room) ≡ false
+    misplaced_not =
+        ap (λ (t : Bool). is_done (by_test t)) none
+        ∙ never (lent_fits P (length m.memory) (length m.identification)) (in_ranges P c) (leb (length s) (longest_frame P)) _
 
 -- ---- what the call hands back and leaves
 
@@ -88,14 +114,31 @@ module _ (P : Part) (c : Core) (m : Lent) (w : Bool) (o : Mode) (s : List ℕ) (
   numbered e =
       ap (λ (r : Framed). number r.answer) e ∙ reply_number told _ ∙ outcome_number P c m s n ps ts (length out)
 
-  -- refused: everything stays
-  pub turned_away : (f : Refusal) {a : Outcome} → a ≡ told → a ≡ Err f
-      → AnsweredInTime P c m w o s n ps ts out (record { answer = Err f; core = c }) m.memory m.identification out
-  unfolding framed_in_time in_time_left output_in_time pick
-  turned_away f found refused =
-      let e = sym found ∙ refused in
-      let all : ◌≡◌ {A = Framed} (record { answer = Err f; core = c }) (framed_in_time P c m w s n ps ts (length out)) = rw e refl in
-      (all, (numbered all, (rw e refl, (rw e refl, rw e refl))))
+  -- refused: by the plain call, with this bit count or another
+  pub turned_away : (k : ℕ) {r : Framed} {shown : List ℕ}
+      → frame_outcome P c (length m.memory) (length m.identification) (length s) k (length out) ≡ told → is_done told ≡ false
+      → r ≡ framed P c m.memory m.identification w s k (length out)
+      → shown ≡ framed_output P c m.memory m.identification s k out
+      → AnsweredInTime P c m w o s n ps ts out r m.memory m.identification shown
+  unfolding framed framed_output framed_in_time in_time_left output_in_time
+  turned_away k {r = r} same away e h =
+      let left : pick (is_done told) (left_by P ps ts (given c m) w s n) (given c m) ≡ given c m = at_no _ _ away in
+      let away' = ap is_done same ∙ away in
+      let answer : r.answer ≡ (framed_in_time P c m w s n ps ts (length out)).answer =
+      ap (λ (x : Framed). x.answer) e ∙ ap (λ (q : Outcome). frame_reply q (undriven P (instruction P s) (running c) k)) same
+      ∙ refused_reply told _ _ away in
+      let core : r.core ≡ (framed_in_time P c m w s n ps ts (length out)).core =
+      ap (λ (x : Framed). x.core) e ∙ at_no _ _ away' ∙ sym (ap (λ (b : FrameBench). b.core) left) in
+      let all : r ≡ framed_in_time P c m w s n ps ts (length out) = λ i. record { answer = answer i; core = core i } in (
+        all,
+        (
+          numbered all,
+          (
+            sym (ap (λ (b : FrameBench). b.memory) left),
+            (sym (ap (λ (b : FrameBench). b.identification) left), h ∙ at_no _ _ away' ∙ sym (at_no _ _ away)),
+          ),
+        ),
+      )
 
   -- done: after the readings at 0 it is a frame at which none is left
   carried_out : {Q : Part} {qs us cells page shown : List ℕ} {y : FrameBench} {r : Framed}

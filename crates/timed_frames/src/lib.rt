@@ -3,8 +3,8 @@
 // Public call, for every input: timed_frame.
 #![tactic(auto)]
 
-ghost use Rattle.codes.specs.Refusals.{number, no_refusal};
-ghost use Rattle.std.specs.Prelude.{◌≡◌, length, true};
+ghost use Rattle.codes.specs.Refusals.{number, no_refusal, is_done};
+ghost use Rattle.std.specs.Prelude.{◌≡◌, length, true, false};
 ghost use Rattle.chip.specs.Lents.{lent};
 ghost use Rattle.chip.specs.Records.{own_part};
 ghost use Rattle.frames.specs.Answers.{frame_outcome};
@@ -12,16 +12,15 @@ ghost use Rattle.timed_frames.specs.Schedules.{places_fit};
 ghost use Rattle.timed_frames.specs.Answers.{in_time_number, in_time_left, framed_in_time, output_in_time};
 ghost use Rattle.timed_frames.specs.Answers.{AnsweredInTime};
 
-use chip::{Answered, Core};
+use chip::{Answered, Core, lent_fits};
 use codes::Refusal;
+use fields::{bits_fit, length_fits};
 
 mod polled;
-mod refused;
 mod walk;
 
 use polled::{quiet_frame, ran_frame};
-use refused::outcome;
-use walk::{Schedule, Walk};
+use walk::{Schedule, Walk, places_fit};
 
 // The SPI mode: where the falling edge stands beside the readings of its position.
 #[derive(Clone, Copy)]
@@ -29,6 +28,9 @@ pub enum Mode {
     Zero,
     Three,
 }
+
+// A bit count that no frame has.
+const NO_COUNT: usize = usize::MAX;
 
 // A frame with clock readings inside it, for every input. The lists say at which byte position each reading comes.
 // Refusals 1, 2, 3, 4 and 5 in that order leave everything as it was; 4 is also for lists of unequal lengths and for
@@ -65,20 +67,49 @@ pub fn timed_frame(
     if positions.is_empty() & readings.is_empty() {
         return frames::frame(core, memory, identification, w, bytes, bits, out);
     }
-    if let Err(refusal) = outcome(
+    scheduled(
         core,
         memory,
         identification,
+        w,
+        mode,
         bytes,
         bits,
         positions,
         readings,
+        out,
+    )
+}
+
+// A frame by its lists: refused as they or the frame are, or carried out. The one chain of refusals is frame's.
+fn scheduled(
+    core: Core,
+    memory: &mut [u8],
+    identification: &mut [u8],
+    w: bool,
+    mode: Mode,
+    bytes: &[u8],
+    bits: usize,
+    positions: &[usize],
+    readings: &[u32],
+    out: &mut [u8],
+) -> Answered<usize, Refusal>
+    ensures { AnsweredInTime (own_part core) core (lent memory.old identification.old)
+        w mode bytes.now bits positions.now readings.now out.old
+        result memory.new identification.new out.new }
+{
+    if !places_fit(bits, positions, readings) {
+        return frames::frame(core, memory, identification, w, bytes, NO_COUNT, out);
+    }
+    if !frame_fits(
+        core,
+        memory.len(),
+        identification.len(),
+        bytes.len(),
+        bits,
         out.len(),
     ) {
-        return Answered {
-            answer: Err(refusal),
-            core,
-        };
+        return frames::frame(core, memory, identification, w, bytes, bits, out);
     }
     let schedule = Schedule {
         positions,
@@ -134,4 +165,16 @@ fn carried_out(
         );
     }
     quiet_frame(opened, memory, identification, w, bytes, bits, rest, out)
+}
+
+// Lengths, record and bit count are those of a frame.
+fn frame_fits(core: Core, size: usize, cells: usize, len: usize, bits: usize, room: usize) -> bool
+    ensures { (result ≡ true → frame_outcome (own_part core) core size cells len bits room ≡ no_refusal)
+        × (result ≡ false → is_done (frame_outcome (own_part core) core size cells len bits room) ≡ false) }
+{
+    lent_fits(core.part, size, cells)
+        & core.in_ranges()
+        & length_fits(core.part, len)
+        & bits_fit(len, bits)
+        & (room == len)
 }

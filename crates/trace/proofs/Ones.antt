@@ -4,6 +4,8 @@ use Rattle.trace.proofs.public.feed.Kinds as feed
 use Rattle.trace.proofs.public.feed.Reads as feed-reads
 use Rattle.trace.proofs.public.finish.Kinds as finish
 use Rattle.trace.proofs.public.finish.Reads as finish-reads
+use Rattle.trace.proofs.FeedErrorNumbered.number.Kinds as feed-error-number
+use Rattle.trace.proofs.FeedErrorNumbered.number.Reads as feed-error-number-reads
 
 pub feed_one : OneResult feed.ps feed.r feed-reads.Post
 feed_one κs a z z' e e' p q = same p.0 q.0
@@ -24,3 +26,6 @@ pub finish_output : OneExit finish.ps finish.r finish-reads.Post (λ κs e. e.1.
 finish_output κs a z z' e e' p q = same p.1.1.0 q.1.1.0
 
 -- ---- inner calls
+
+pub feed_error_number_one : OneResult feed-error-number.ps feed-error-number.r feed-error-number-reads.Post
+feed_error_number_one κs a z z' e e' p q = same p q

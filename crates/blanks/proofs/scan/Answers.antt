@@ -1,25 +1,36 @@
--- Each cell adds 1 or 0, and there are few enough of them.
-use Prim.Native.Nat.{◌<◌, ◌^◌}
-use mathlib.Core.Path.{◌∙◌}
+-- A row's blank cells come off those of the rest.
+use mathlib.Core.Path.{ap, ◌∙◌}
+use native.Mathlib.Nat.{zero-add}
 use native.Mathlib.Omega.{arith}
-use Rattle.std.proofs.Common.{rules, tests}
-use Rattle.std.proofs.lemmas.Iterator.{YieldsList-from_slice, YieldsList-from_map}
-use Rattle.std.proofs.lemmas.Iterator.Consumers.{sum_by_from_yields_List, fits_by_from_yields_list}
-use Rattle.std.specs.List.{sum_by}
-use Rattle.blanks.proofs.Blanking.{as_one, blanks_sum, blanks_most}
+use Rattle.std.specs.Slice.Iter.{chunks_size, chunks_rest}
+use Rattle.blanks.specs.Blanks.{blanks}
+use Rattle.blanks.proofs.Blanking.{blanks_both, blanks_most}
 use Rattle.blanks.proofs.scan.Goals as goal
 
-pub sum-requires-clause-fits : goal.sum-requires-clause-fits
-sum-requires-clause-fits c =
-    let m = c.args.cells.now in
-    let few : sum_by as_one m < 2 ^ 32 = omega (arith, blanks_sum m, blanks_most m, c.requires) in
-    fits_by_from_yields_list as_one m c.map.result _
-    (YieldsList-from_map _ as_one (YieldsList-from_slice m cc) c.map.ensures.closure (λ x r q k. search (rules, tests)))
-    few
+pub loop-row-init : goal.loop-row-init
+loop-row-init c =
+    let same = c.into_iter-row-iterator.ensures.into_iter_gives in (
+      ap chunks_size same ∙ c.chunks-row-items.ensures.size,
+      zero-add _ ∙ ap (λ z. blanks (chunks_rest z)) same ∙ ap blanks c.chunks-row-items.ensures.rest,
+    )
+
+pub overflow_add-n : goal.overflow_add-n
+overflow_add-n c =
+    let l = c.loop-row in
+    let y = c.in-Some.row.now in
+    let steps = c.in-Some.ensures.steps in
+    let split = ap blanks steps.1.0 ∙ blanks_both y (chunks_rest c.next.new.self) in
+    omega (arith, l.invariant.1, split, c.few.ensures, blanks_most c.args.cells.now, c.requires)
+
+pub loop-row-preserved : goal.loop-row-preserved
+loop-row-preserved c =
+    let l = c.loop-row in
+    let y = c.in-Some.row.now in
+    let steps = c.in-Some.ensures.steps in
+    let split = ap blanks steps.1.0 ∙ blanks_both y (chunks_rest c.next.new.self) in
+    (steps.0 ∙ l.invariant.0, omega (arith, l.invariant.1, split, c.few.ensures))
 
 pub returns : goal.returns
 returns c =
-    let m = c.args.cells.now in
-    sum_by_from_yields_List as_one m c.map.result _ c.sum.ensures.ran
-    (YieldsList-from_map _ as_one (YieldsList-from_slice m cc) c.map.ensures.closure (λ x r q k. search (rules, tests)))
-    ∙ blanks_sum m
+    let l = c.loop-row in
+    omega (arith, l.invariant.1, blanks_most (chunks_rest l.row-iterator), c.in-None.ensures.steps.1.0)

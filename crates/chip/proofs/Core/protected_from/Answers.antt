@@ -1,17 +1,12 @@
-use Rattle.std.proofs.Common.{refl}
-use Rattle.std.proofs.lemmas.Result.{err_from_is_err_and}
-use Rattle.laws.specs.Pick.{yes_so, no_so}
-use Rattle.codes.proofs.Tested.{passed, stopped}
+use Rattle.laws.specs.Pick.{call_yes, arms}
 use Rattle.chip.specs.Records.{own_part}
 use Rattle.chip.proofs.Numbers.{started}
 use Rattle.chip.proofs.Core.protected_from.Goals as goal
 
-pub returns-in_err-checked : goal.returns-in_err-checked
-returns-in_err-checked c =
-    let p = err_from_is_err_and c.from_residual.result c.from_residual.ensures.1 in
-    let no = stopped _ _ c.checked.ensures c.in_err-checked.was in
-    rw (p.1, p.2, no.1) (started (own_part c.args.self) c.args.self (no_so _ no.0 refl))
+pub returns-then-in_ranges : goal.returns-then-in_ranges
+returns-then-in_ranges c =
+    started (own_part c.args.self) c.args.self
+    (call_yes _ c.in_ranges.ensures c.if-in_ranges.true (rw c.lowest.ensures))
 
 pub returns : goal.returns
-returns c =
-    started (own_part c.args.self) c.args.self (yes_so _ (passed _ _ c.checked.ensures c.in_ok-checked.was) (rw c.lowest.ensures))
+returns c = started (own_part c.args.self) c.args.self (search arms)

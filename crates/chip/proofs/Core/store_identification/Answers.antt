@@ -1,9 +1,9 @@
 use Rattle.std.proofs.Common.{refl}
-use Rattle.laws.specs.Pick.{call_yes, call_no}
+use Rattle.laws.specs.Pick.{eq_so, ne_so}
 use Rattle.chip.proofs.Core.store_identification.Goals as goal
 
-pub returns-then-has : goal.returns-then-has
-returns-then-has c = call_yes _ c.has.ensures c.if-has.true c.store.ensures
+pub returns-then-self : goal.returns-then-self
+returns-then-self c = eq_so _ c.if-self.true c.store.ensures
 
-pub returns-else-has : goal.returns-else-has
-returns-else-has c = call_no _ c.has.ensures c.if-has.false refl
+pub returns-else-self : goal.returns-else-self
+returns-else-self c = ne_so _ c.if-self.false refl
