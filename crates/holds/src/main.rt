@@ -3,6 +3,7 @@
 // passed. First the M95512, then the M95M01. The gate compares them with the file stdout.
 #![tactic(auto)]
 
+use chip::Core;
 use codes::{
     LARGE_SIZE, M95M01, M95512, READ, WRDI, WREN, WRITE, WRSR, longest_of, page_of, size_of,
 };
@@ -43,11 +44,10 @@ fn read_clock(
 }
 
 impl Board {
-    // Powered up over blank cells.
-    fn powered(part: u8, bp0: bool) -> Board {
-        let memory = [255; LARGE_SIZE];
-        let cells = &memory[..size_of(part)];
-        let device = pins::power_up(
+    // Power-up over its cells.
+    fn power_up(&mut self, part: u8, bp0: bool) {
+        let cells = &self.memory[..size_of(part)];
+        self.device = pins::power_up(
             part,
             false,
             longest_of(part),
@@ -57,11 +57,6 @@ impl Board {
             0,
             cells,
         ).device;
-        Board {
-            device,
-            memory,
-            identification: [255; ROOM],
-        }
     }
 
     fn set_c(&mut self, level: bool) {
@@ -174,7 +169,13 @@ impl<'a> Case<'a> {
 
 // One frame in Hold: what the device shows then, and a cell once the cycle is over.
 fn held(to: &mut impl Write, part: u8, case: &Case) -> io::Result<()> {
-    let mut board = Board::powered(part, case.bp0);
+    // Blank cells. Made here: a board that a function hands back is copied whole.
+    let mut board = Board {
+        device: Device::resting(Core::unpowered()),
+        memory: [255; LARGE_SIZE],
+        identification: [255; ROOM],
+    };
+    board.power_up(part, case.bp0);
     if case.wel {
         board.send(&[WREN]);
     }
